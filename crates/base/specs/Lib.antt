@@ -1,0 +1,3 @@
+pub mod Pick
+pub mod Over
+pub mod Put

@@ -1,0 +1,136 @@
+-- The laws of beAt, idAt and order.
+use mathlib.Core.Path.{_≡_, refl, sym, ap, ap₂, _∙_}
+use Prim.Native.Nat.{ℕ, zero, suc, _+_, _-_, _*_, _/_, _%_, _^_, _≤_, _<_}
+use native.Mathlib.Nat.{lt-of-lt-of-le, pow-le-pow-right, pow-suc, zero-lt-suc, add-zero, add-suc, add-assoc, add-mul, mul-assoc, div-add-mod', div-lt-iff-lt-mul}
+use native.Mathlib.Numerals.{add-one}
+use native.Mathlib.Omega.{arith}
+use mathlib.Core.List.{List, [], _∷_, _++_, append-assoc}
+use lib.ListN.{length, getD, set, length-append}
+use lib.Seq.{sets, getD-append-add, getD-at, append-snoc}
+use Rattle.base.specs.Over.{sets-snoc, sets-append}
+use Rattle.base.specs.Pick.{pick}
+use lib.Arith.{digits-lt}
+use lib.Dec.{lit<, ltb}
+use borrow.Author.Tests.{lt-ltb, le-ltb}
+use Rattle.codes.specs.declared.ids.Order.{Order}
+use Rattle.codes.specs.declared.ids.Id.{Id}
+use Rattle.codes.specs.Ids.{beAt, idAt, order, halvesAt, numberOf, beBytes, idBytes}
+
+pub beAt-zero : (s : List ℕ) (i : ℕ) → beAt s i 0 ≡ 0
+unfolding beAt
+beAt-zero s i = refl
+
+pub beAt-suc : (s : List ℕ) (i n : ℕ) → beAt s i (suc n) ≡ beAt s i n * 256 + getD s (i + n) 0
+unfolding beAt
+beAt-suc s i n = refl
+
+pub beAt-lt : (s : List ℕ) → ((j : ℕ) → getD s j 0 < 256) → (i n : ℕ) → beAt s i n < 256 ^ n
+unfolding beAt
+beAt-lt s b i zero = lit< tt
+beAt-lt s b i (suc n) = rw pow-suc (digits-lt (beAt-lt s b i n) (b (i + n)))
+
+pub beAt-lt-le : (s : List ℕ) → ((j : ℕ) → getD s j 0 < 256) → (i n m : ℕ) → n ≤ m → beAt s i n < 256 ^ m
+beAt-lt-le s b i n m h = lt-of-lt-of-le (beAt-lt s b i n) (pow-le-pow-right (zero-lt-suc 255) h)
+
+-- the first n bytes are worth 256 ^ m times as much as the m after them
+pub beAt-add : (s : List ℕ) (i n m : ℕ) → beAt s i (n + m) ≡ beAt s i n * 256 ^ m + beAt s (i + n) m
+unfolding beAt
+beAt-add s i n zero = rw add-zero (let e : 256 ^ 0 ≡ 1 = refl in omega arith)
+beAt-add s i n (suc m) =
+    rw (add-suc, beAt-add s i n m, pow-suc)
+    (let e : i + n + m ≡ i + (n + m) = omega arith in
+    let d : (beAt s i n * 256 ^ m + beAt s (i + n) m) * 256 ≡ beAt s i n * 256 ^ m * 256 + beAt s (i + n) m * 256 = add-mul _ _ _ in
+    rw (e, ← mul-assoc) (omega arith))
+
+pub id-halves : (s : List ℕ) (i : ℕ) → idAt s i ≡ beAt s i 8 * 2 ^ 64 + beAt s (i + 8) 8
+unfolding idAt
+id-halves s i = beAt-add s i 8 8
+
+-- the order by its cases, and back
+pub less : {m n : ℕ} → m < n → order m n ≡ Order.Less
+unfolding order
+less {m} {n} h = simp (lt-ltb m n h)
+
+pub greater : {m n : ℕ} → n < m → order m n ≡ Order.Greater
+unfolding order
+greater {m} {n} h = simp (le-ltb m n (omega arith), lt-ltb n m h)
+
+pub equal : {m n : ℕ} → m ≡ n → order m n ≡ Order.Equal
+unfolding order
+equal {m} {n} h = simp (le-ltb m n (omega arith), le-ltb n m (omega arith))
+
+-- one byte more below
+pub beAt-below : (s : List ℕ) (i n x b : ℕ) → x ≡ beAt s i n → b ≡ getD s (i + n) 0 → x * 256 + b ≡ beAt s i (n + 1)
+unfolding beAt
+beAt-below s i n x b p q = rw (add-one, p, q)
+
+-- the upper halves decide
+pub upper : {p q : ℕ} (v w : ℕ) → p < q → v < 2 ^ 64 → p * 2 ^ 64 + v < q * 2 ^ 64 + w
+upper v w h b = omega arith
+
+-- ---- halves
+
+pub halves-is : (s : List ℕ) (i : ℕ) → halvesAt s i ≡ record { hi = beAt s i 8; lo = beAt s (i + 8) 8 }
+unfolding halvesAt
+halves-is s i = refl
+
+pub number-halves : (s : List ℕ) (i : ℕ) → numberOf (halvesAt s i) ≡ idAt s i
+unfolding halvesAt
+number-halves s i = sym (id-halves s i)
+
+-- ---- writing
+
+pub length-beBytes : (n x : ℕ) → length (beBytes n x) ≡ n
+unfolding beBytes
+length-beBytes zero x = refl
+length-beBytes (suc n) x = rw length-append (omega (arith, length-beBytes n (x / 256)))
+
+pub beBytes-zero : (x : ℕ) → beBytes 0 x ≡ []
+unfolding beBytes
+beBytes-zero x = refl
+
+-- the step of a loop that writes from the last byte down
+pub put-down : (l : List ℕ) (i k y : ℕ) → 0 < k → sets l i (beBytes k y) ≡ sets (set l (i + (k - 1)) (y % 256)) i (beBytes (k - 1) (y / 256))
+unfolding beBytes
+put-down l i k y h =
+    let e : k ≡ suc (k - 1) = omega arith in
+    let f : i + length (beBytes (k - 1) (y / 256)) ≡ i + (k - 1) = ap (λ (t : ℕ). i + t) (length-beBytes (k - 1) (y / 256)) in
+    ap (λ (t : ℕ). sets l i (beBytes t y)) e
+    ∙ sym (sets-snoc (beBytes (k - 1) (y / 256)) l i (y % 256))
+    ∙ ap (λ (t : ℕ). sets (set l t (y % 256)) i (beBytes (k - 1) (y / 256))) f
+
+pub length-idBytes : (d : Id) → length (idBytes d) ≡ 16
+unfolding idBytes
+length-idBytes d = rw length-append (omega (arith, length-beBytes 8 (d .hi), length-beBytes 8 (d .lo)))
+
+pub put-halves : (l : List ℕ) (i : ℕ) (d : Id) → sets (sets l i (beBytes 8 (d .hi))) (i + 8) (beBytes 8 (d .lo)) ≡ sets l i (idBytes d)
+unfolding idBytes
+put-halves l i d =
+    let e : i + length (beBytes 8 (d .hi)) ≡ i + 8 = ap (λ (t : ℕ). i + t) (length-beBytes 8 (d .hi)) in
+    sym (sets-append (beBytes 8 (d .hi)) (beBytes 8 (d .lo)) l i ∙ ap (λ (t : ℕ). sets (sets l i (beBytes 8 (d .hi))) t (beBytes 8 (d .lo))) e)
+
+-- ---- reading what stands between q and r
+
+pub beAt-back : (n : ℕ) (q r : List ℕ) (x : ℕ) → x < 256 ^ n → beAt (q ++ (beBytes n x ++ r)) (length q) n ≡ x
+unfolding beAt beBytes
+beAt-back zero q r x b = omega arith
+beAt-back (suc n) q r x b =
+    let hi : x / 256 < 256 ^ n = div-lt-iff-lt-mul (zero-lt-suc 255) .1 (rw pow-suc at b) in
+    let bs : List ℕ = beBytes n (x / 256) in
+    let t : List ℕ = x % 256 ∷ r in
+    let ih = beAt-back n q t (x / 256) hi in
+    let last : getD (q ++ (bs ++ t)) (length q + n) 0 ≡ x % 256 =
+    getD-append-add q (bs ++ t) n 0 ∙ getD-at bs (x % 256) r 0 n (length-beBytes n (x / 256)) in
+    rw (append-snoc bs (x % 256) r) (ap₂ (λ (a c : ℕ). a * 256 + c) ih last ∙ div-add-mod' x 256)
+
+pub halves-back : (q r : List ℕ) (d : Id) → d .hi < 2 ^ 64 → d .lo < 2 ^ 64 → halvesAt (q ++ (idBytes d ++ r)) (length q) ≡ d
+unfolding halvesAt idBytes
+halves-back q r d a b =
+    let u : List ℕ = beBytes 8 (d .hi) in
+    let v : List ℕ = beBytes 8 (d .lo) in
+    let one : q ++ ((u ++ v) ++ r) ≡ q ++ (u ++ (v ++ r)) = ap (λ (t : List ℕ). q ++ t) (append-assoc u v r) in
+    let two : q ++ ((u ++ v) ++ r) ≡ (q ++ u) ++ (v ++ r) = one ∙ sym (append-assoc q u (v ++ r)) in
+    let len : length (q ++ u) ≡ length q + 8 = length-append q u ∙ ap (λ (t : ℕ). length q + t) (length-beBytes 8 (d .hi)) in
+    let hi : beAt (q ++ ((u ++ v) ++ r)) (length q) 8 ≡ d .hi = rw one (beAt-back 8 q (v ++ r) (d .hi) a) in
+    let lo : beAt (q ++ ((u ++ v) ++ r)) (length q + 8) 8 ≡ d .lo = rw (two, ← len) (beAt-back 8 (q ++ u) r (d .lo) b) in
+    (λ j. record { hi = hi j; lo = lo j })

@@ -1,0 +1,94 @@
+// Varints: numbers below 2^64 in their shortest form, seven bits to a byte, the lowest first; the top bit says that
+// another byte follows.
+ghost use mathlib.Core.Path.{_≡_};
+ghost use Prim.Native.Nat.{_+_, _≤_};
+ghost use lib.ListN.{length};
+ghost use Rattle.base.specs.Put.{Put};
+ghost use Rattle.codes.specs.Varint.{varintAt, varBytes};
+
+pub enum Varint {
+    Value { value: u64, next: usize },
+    // no byte is left
+    Cut,
+    // a last byte of 0 after others: not the shortest form
+    Long,
+    // 2^64 or more
+    Large,
+}
+
+// The number at `at`, and the place after it.
+pub fn varint_at(s: &[u8], at: usize) -> Varint
+    ensures { λ r. ⌜ r ≡ varintAt (now (s .entry)) at ⌝ }
+{
+    let mut i = at;
+    let mut x: u64 = 0;
+    let mut m: u64 = 1;
+    let mut k: usize = 0;
+    while k < 10 {
+        if s.len() <= i {
+            return Varint::Cut;
+        }
+        let b = s[i] as u64;
+        if b < 128 {
+            if b == 0 {
+                if 1 < m {
+                    return Varint::Long;
+                }
+                return Varint::Value {
+                    value: x,
+                    next: i + 1,
+                };
+            }
+            if k == 9 {
+                if 1 < b {
+                    return Varint::Large;
+                }
+                return Varint::Value {
+                    value: x + m,
+                    next: i + 1,
+                };
+            }
+            return Varint::Value {
+                value: x + b * m,
+                next: i + 1,
+            };
+        }
+        if k == 9 {
+            return Varint::Large;
+        }
+        x = x + b % 128 * m;
+        m = m * 128;
+        i = i + 1;
+        k = k + 1;
+    }
+    Varint::Large
+}
+
+// How many bytes the number takes.
+pub fn varint_len(x: u64) -> usize
+    ensures { λ r. ⌜ r ≡ length (varBytes x) ⌝ }
+{
+    let mut y = x;
+    let mut n: usize = 1;
+    while 128 <= y {
+        y = y / 128;
+        n = n + 1;
+    }
+    n
+}
+
+// Writes the number at `at`, and answers the place after it.
+pub fn put_varint(out: &mut [u8], at: usize, x: u64) -> usize
+    requires { ⌜ at + length (varBytes x) ≤ length (now out) ⌝ }
+    ensures { λ r. ⌜ Put (now (out .entry)) (now (out .exit)) at r (varBytes x) ⌝ }
+{
+    let mut y = x;
+    let mut i = at;
+    while 128 <= y {
+        out[i] = (y % 128 + 128) as u8;
+        y = y / 128;
+        i = i + 1;
+    }
+    out[i] = y as u8;
+    i + 1
+}

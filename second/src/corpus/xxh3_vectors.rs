@@ -1,0 +1,19 @@
+//! Checksums of beginnings of the byte family: every length through all short
+//! forms and past the first block, then around each end of a block.
+
+use crate::family;
+use crate::xxh3::xxh3_64;
+
+const LONGEST: usize = 65536;
+
+fn lengths() -> impl Iterator<Item = usize> {
+    let around_blocks = (2..=64).flat_map(|k| [1024 * k - 1, 1024 * k, 1024 * k + 1]);
+    (0..=1100).chain(around_blocks.filter(|&n| n <= LONGEST))
+}
+
+pub fn lines() -> String {
+    let family = family::bytes(LONGEST);
+    lengths()
+        .map(|n| format!("{n} {:016x}\n", xxh3_64(&family[..n])))
+        .collect()
+}

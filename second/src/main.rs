@@ -1,0 +1,85 @@
+//! The second program: an independent opinion on checksums and number codes.
+//! See README.md.
+
+mod check;
+mod corpus;
+mod family;
+mod numbers;
+mod random;
+mod varint;
+mod xxh3;
+
+use std::fs;
+use std::io::{self, Write};
+use std::path::Path;
+use std::process::ExitCode;
+
+const USAGE: &str = "usage: second check | make DIR | compare DIR | family N";
+
+fn main() -> ExitCode {
+    let arguments: Vec<String> = std::env::args().skip(1).collect();
+    let words: Vec<&str> = arguments.iter().map(String::as_str).collect();
+    let done = match words[..] {
+        ["check"] => check(),
+        ["make", dir] => make(Path::new(dir)),
+        ["compare", dir] => compare(Path::new(dir)),
+        ["family", count] => family(count),
+        _ => Err(USAGE.to_string()),
+    };
+    match done {
+        Ok(()) => ExitCode::SUCCESS,
+        Err(message) => {
+            eprintln!("{message}");
+            ExitCode::FAILURE
+        }
+    }
+}
+
+fn check() -> Result<(), String> {
+    let tally = check::all();
+    if !tally.failures.is_empty() {
+        return Err(format!(
+            "{}\nsecond: {} checks failed",
+            tally.failures.join("\n"),
+            tally.failures.len()
+        ));
+    }
+    println!("second: {} checks passed", tally.passed);
+    Ok(())
+}
+
+fn make(dir: &Path) -> Result<(), String> {
+    for file in corpus::files() {
+        let path = dir.join(file.path);
+        let parent = path.parent().unwrap_or(dir);
+        fs::create_dir_all(parent)
+            .and_then(|()| fs::write(&path, &file.bytes))
+            .map_err(|error| format!("{}: {error}", path.display()))?;
+    }
+    Ok(())
+}
+
+/// Names every file that differs, not only the first.
+fn compare(dir: &Path) -> Result<(), String> {
+    let mut differing = Vec::new();
+    for file in corpus::files() {
+        let path = dir.join(file.path);
+        match fs::read(&path) {
+            Ok(bytes) if bytes == file.bytes => {}
+            Ok(_) => differing.push(format!("{}: differs", path.display())),
+            Err(error) => differing.push(format!("{}: {error}", path.display())),
+        }
+    }
+    if differing.is_empty() {
+        Ok(())
+    } else {
+        Err(differing.join("\n"))
+    }
+}
+
+fn family(count: &str) -> Result<(), String> {
+    let count = count.parse().map_err(|_| USAGE.to_string())?;
+    io::stdout()
+        .write_all(&family::bytes(count))
+        .map_err(|error| format!("standard output: {error}"))
+}
