@@ -1,12 +1,11 @@
 // XXH3-64 with seed 0 and the default secret.
-pub mod large;
-pub mod medium;
-pub mod mix;
-pub mod product;
-pub mod small;
 
 ghost use mathlib.Core.Path.{_≡_};
-ghost use Rattle.xxh3.specs.Xxh3.{xxh3};
+ghost use Rattle.xxh3_spec.specs.Xxh3.{xxh3};
+use xxh3_above240::large::by_default;
+use xxh3_upto240::medium::of17to128;
+use xxh3_upto240::medium::of129to240;
+use xxh3_upto240::small::small;
 
 // The checksum of all of s.
 pub fn xxh3(s: &[u8]) -> u64
@@ -14,15 +13,15 @@ pub fn xxh3(s: &[u8]) -> u64
 {
     let n = s.len();
     if n <= 16 {
-        return small::small(s);
+        return small(s);
     }
     if n <= 128 {
-        return medium::of17to128(s);
+        return of17to128(s);
     }
     if n <= 240 {
-        return medium::of129to240(s);
+        return of129to240(s);
     }
-    large::by_default(s)
+    by_default(s)
 }
 
 #[no_mangle]

@@ -1,0 +1,2 @@
+pub mod Xxh3
+pub mod Vectors
