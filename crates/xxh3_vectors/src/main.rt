@@ -1,0 +1,53 @@
+// Prints the XXH3-64 of the byte family's first n bytes, for n from 0 to 1,100 and around each multiple of a block of
+// 1,024 bytes up to 65,536. The expected output is made by second/.
+const OUT: i32 = 1;
+
+// The byte family: a fixed run of bytes, the same on every machine.
+fn fill(out: &mut [u8]) {
+    let mut x: u64 = 1;
+    let mut i: usize = 0;
+    while i < out.len() {
+        x = (x * 1103515245 + 12345) % 0x8000_0000;
+        out[i] = (x / 65536 % 256) as u8;
+        i += 1;
+    }
+}
+
+fn line(s: &[u8]) {
+    io::print_decimal(OUT, s.len() as u64);
+    io::write_all(OUT, b" ");
+    io::print_hex(OUT, xxh3::xxh3(s), 16);
+    io::write_all(OUT, b"\n");
+}
+
+// The line of the first n bytes, or none where there are fewer.
+fn line_of(s: &[u8], n: usize) {
+    if n <= s.len() {
+        line(&s[0..n]);
+    }
+}
+
+fn short_lines(s: &[u8]) {
+    let mut n: usize = 0;
+    while n <= 1100 {
+        line_of(s, n);
+        n += 1;
+    }
+}
+
+fn block_lines(s: &[u8]) {
+    let mut n: usize = 2048;
+    while n <= 65536 {
+        line_of(s, n - 1);
+        line_of(s, n);
+        line_of(s, n + 1);
+        n += 1024;
+    }
+}
+
+fn main() {
+    let mut space = io::large_buffer();
+    fill(&mut space);
+    short_lines(&space);
+    block_lines(&space);
+}
