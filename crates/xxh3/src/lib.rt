@@ -1,5 +1,5 @@
-// XXH3-64 with seed 0 and the default secret.
-
+// XXH3-64 with seed 0 and the default secret: the checksum of every section and of the footer. It stands alone, without
+// the file reader, for tools that take only the sum.
 ghost use mathlib.Core.Path.{_≡_};
 ghost use Rattle.xxh3_spec.specs.Xxh3.{xxh3};
 use xxh3_above240::large::by_default;
@@ -7,7 +7,7 @@ use xxh3_upto240::medium::of17to128;
 use xxh3_upto240::medium::of129to240;
 use xxh3_upto240::small::small;
 
-// The checksum of all of s.
+// The sum of all of s.
 pub fn xxh3(s: &[u8]) -> u64
     ensures { λ r. ⌜ r ≡ xxh3 (now (s .entry)) ⌝ }
 {
@@ -24,9 +24,10 @@ pub fn xxh3(s: &[u8]) -> u64
     by_default(s)
 }
 
+// The same for C: see include/saffron_xxh3.h.
 #[no_mangle]
-pub extern "C" fn saffron_xxh3_64(s: &[u8]) -> u64
-    ensures { λ r. ⌜ r ≡ xxh3 (now (s .entry)) ⌝ }
+pub extern "C" fn saffron_xxh3_64(bytes: &[u8]) -> u64
+    ensures { λ r. ⌜ r ≡ xxh3 (now (bytes .entry)) ⌝ }
 {
-    xxh3(s)
+    xxh3(bytes)
 }
