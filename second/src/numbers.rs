@@ -28,6 +28,11 @@ pub fn write_be(x: u64, width: usize) -> Vec<u8> {
     (0..width).rev().map(|i| (x >> (8 * i)) as u8).collect()
 }
 
+/// The id with these halves.
+pub fn id_of(upper: u64, lower: u64) -> Id {
+    (u128::from(upper) << 64 | u128::from(lower)).to_be_bytes()
+}
+
 /// An id as the one big-endian number by which ids are ordered.
 pub fn id_number(id: &Id) -> u128 {
     id.iter().fold(0, |n, &b| n * 256 + u128::from(b))

@@ -2,7 +2,7 @@
 //! then pseudo-random ones.
 
 use super::record::Record;
-use crate::numbers::Id;
+use crate::numbers::{id_of, Id};
 use crate::random::Random;
 use crate::varint;
 
@@ -156,17 +156,15 @@ fn compare_ids(random: &mut Random) -> Vec<Record> {
             both_ways(counting, with(counting, &[(first, up), (second, down)]));
         }
     }
-    let halves =
-        |upper: u64, lower: u64| (u128::from(upper) << 64 | u128::from(lower)).to_be_bytes();
-    both_ways(halves(1, u64::MAX), halves(2, 0));
-    both_ways(halves(0, u64::MAX), halves(u64::MAX, 0));
-    both_ways(halves(5, 1 << 63), halves(5, (1 << 63) - 1));
-    both_ways(halves(1 << 63, 5), halves((1 << 63) - 1, 6));
-    both_ways(halves(7, 0), halves(7, u64::MAX));
+    both_ways(id_of(1, u64::MAX), id_of(2, 0));
+    both_ways(id_of(0, u64::MAX), id_of(u64::MAX, 0));
+    both_ways(id_of(5, 1 << 63), id_of(5, (1 << 63) - 1));
+    both_ways(id_of(1 << 63, 5), id_of((1 << 63) - 1, 6));
+    both_ways(id_of(7, 0), id_of(7, u64::MAX));
     for _ in 0..40 {
         let (upper, lower) = (random.number(), random.number());
-        both_ways(halves(upper, lower), random.bytes());
-        both_ways(halves(upper, lower), halves(upper, random.number()));
+        both_ways(id_of(upper, lower), random.bytes());
+        both_ways(id_of(upper, lower), id_of(upper, random.number()));
     }
     pairs
         .into_iter()

@@ -1,0 +1,97 @@
+-- The laws of the section table and of rules 9 to 12.
+use mathlib.Core.Path.{_≡_, refl, sym, ap, _∙_}
+use Prim.Native.Nat.{ℕ, zero, suc, _+_, _-_, _*_, _≤_, _<_}
+use native.Mathlib.Omega.{arith}
+use mathlib.Core.List.{List, [], _∷_}
+use mathlib.Core.Bool.{Bool, true, false, not, _&&_, _||_}
+use lib.ListN.{length}
+use lib.Dec.{leb, eqb}
+use borrow.Author.Tests.{eqb-true, leb-true, eq-eqb, le-leb}
+use Rattle.base.specs.Pick.{pick}
+use Rattle.codes.specs.Little.{leBytes}
+use Rattle.refusal.specs.declared.Refusal.{Refusal}
+use Rattle.refusal.specs.declared.Check.{Check}
+use Rattle.refusal.specs.Check.Laws.{pick-fine, and-parts, and-both}
+use Rattle.frame.specs.declared.Row.{Row}
+use Rattle.frame.specs.declared.Range.{Range}
+use Rattle.frame.specs.Kind as kind
+use Rattle.frame.specs.Frame.{rowAt, nextAt, rowsFrom, endFrom, countOf, rowsOf, endOf, sectionOf, rangeOf, nowhere, rangeGood, ranges, all, nameGood, kindsGood, fills, tableGood}
+
+-- the magic's number is that of its bytes
+pub magic-is : leBytes 8 kind.magic ≡ kind.magicBytes
+unfolding leBytes
+magic-is = refl
+
+-- ---- tables
+
+pub length-rows : (d : ℕ) (b : List ℕ) (i : ℕ) → length (rowsFrom d b i) ≡ d
+unfolding rowsFrom
+length-rows zero b i = refl
+length-rows (suc d) b i = ap suc (length-rows d b (nextAt b i))
+
+-- an entry has 28 bytes at least
+pub end-room : (d : ℕ) (b : List ℕ) (i : ℕ) → i + 28 * d ≤ endFrom d b i
+unfolding endFrom
+end-room zero b i = omega arith
+end-room (suc d) b i = omega (arith, end-room d b (nextAt b i))
+
+-- rule 9, taken apart and put together
+pub record Table (b : List ℕ) : Type 0 where
+  pub some : 1 ≤ countOf b
+  pub most : countOf b ≤ 64
+  pub filled : endOf b + 17 ≡ length b
+  pub names : all nameGood (rowsOf b) ≡ true
+  pub kinds : kindsGood (rowsOf b) ≡ true
+
+pub table-parts : (b : List ℕ) → tableGood b ≡ true → Table b
+unfolding tableGood
+table-parts b e =
+    let p = and-parts (leb 1 (countOf b)) _ e in
+    let q = and-parts (leb (countOf b) 64) _ (p .1) in
+    let r = and-parts (fills b) _ (q .1) in
+    let t = and-parts (all nameGood (rowsOf b)) _ (r .1) in
+    record { some = leb-true _ _ (p .0); most = leb-true _ _ (q .0); filled = eqb-true _ _ (r .0); names = t .0; kinds = t .1 }
+
+pub table-made : (b : List ℕ) → Table b → tableGood b ≡ true
+unfolding tableGood
+table-made b t =
+    and-both (le-leb 1 (countOf b) (t .some)) (and-both (le-leb (countOf b) 64 (t .most))
+    (and-both (eq-eqb (endOf b + 17) (length b) (t .filled)) (and-both (t .names) (t .kinds))))
+
+-- ---- walking the table: k entries are passed, the next is at i
+
+module _ (b : List ℕ) (count i k : ℕ) (lt : k < count) where
+  pub rows-on : (r : Row) → r ≡ rowAt b i → rowsFrom (count - k) b i ≡ r ∷ rowsFrom (count - (k + 1)) b (i + 28 + r .namelen)
+  unfolding rowsFrom rowAt
+  rows-on r e = let d : count - k ≡ suc (count - (k + 1)) = omega arith in rw (d, e)
+
+  pub end-on : (r : Row) → r ≡ rowAt b i → endFrom (count - k) b i ≡ endFrom (count - (k + 1)) b (i + 28 + r .namelen)
+  unfolding endFrom rowAt
+  end-on r e = let d : count - k ≡ suc (count - (k + 1)) = omega arith in rw (d, e)
+
+  pub row-room : i + 28 ≤ endFrom (count - k) b i
+  row-room = omega (arith, end-room (count - k) b i)
+
+pub rows-none : (b : List ℕ) (count i k : ℕ) → count ≤ k → rowsFrom (count - k) b i ≡ []
+unfolding rowsFrom
+rows-none b count i k h = let d : count - k ≡ 0 = omega arith in rw d
+
+pub end-none : (b : List ℕ) (count i k : ℕ) → count ≤ k → endFrom (count - k) b i ≡ i
+unfolding endFrom
+end-none b count i k h = let d : count - k ≡ 0 = omega arith in rw d
+
+-- ---- ranges
+
+-- where the ranges are good, each section ends at the limit or before
+pub section-within : (limit q : ℕ) (rs : List Row) (floor k : ℕ) → ranges limit rs floor k ≡ Check.Fine → sectionOf q rs .start + sectionOf q rs .len ≤ limit
+unfolding ranges sectionOf
+section-within limit q [] floor k e = omega arith
+section-within limit q (r ∷ rs) floor k e =
+    let p = pick-fine (rangeGood limit floor r) (ranges limit rs (r .start + r .len) (k + 1)) (Refusal.Range k) e in
+    let w = and-parts (leb floor (r .start)) (leb (r .start + r .len) limit) (p .0) in
+    go (eqb (r .kind) q) (leb-true (r .start + r .len) limit (w .1)) (section-within limit q rs (r .start + r .len) (k + 1) (p .1))
+  where
+    go : (b : Bool) → r .start + r .len ≤ limit → sectionOf q rs .start + sectionOf q rs .len ≤ limit
+        → pick b (rangeOf r) (sectionOf q rs) .start + pick b (rangeOf r) (sectionOf q rs) .len ≤ limit
+    go true a ih = a
+    go false a ih = ih

@@ -1,0 +1,149 @@
+-- Opening: what the frame gives, rules 13 to 15 over the contents of the sections, and the answer.
+use Prim.Native.Nat.{ℕ, zero, suc, _+_, _-_, _*_, _/_}
+use mathlib.Core.List.{List}
+use mathlib.Core.Bool.{Bool, true, not, _&&_, _||_}
+use lib.ListN.{length}
+use lib.Dec.{ltb, leb, eqb}
+use Rattle.base.specs.Pick.{pick}
+use Rattle.base.specs.Over.{part}
+use Rattle.codes.specs.Little.{leAt}
+use Rattle.codes.specs.Ids.{idAt}
+use Rattle.refusal.specs.declared.Refusal.{Refusal}
+use Rattle.refusal.specs.declared.Check.{Check}
+use Rattle.refusal.specs.Check.{_⊳_, refuse}
+use Rattle.frame.specs.declared.Row.{Row}
+use Rattle.frame.specs.declared.Range.{Range}
+use Rattle.frame.specs.declared.Opened.{Opened}
+use Rattle.frame.specs.declared.Framed.{Framed}
+use Rattle.frame.specs.declared.Framing.{Framing}
+use Rattle.frame.specs.declared.Opening.{Opening}
+use Rattle.frame.specs.Kind as kind
+use Rattle.frame.specs.Frame.{rowsOf, keyCount, edgeCount, bitsOf, has, sectionOf, bodyOf, frameCheck}
+pub mod Laws
+
+-- ---- what the frame gives: a body b with the rows rs
+
+unfoldable pub recordFrom : List ℕ → List Row → Opened
+recordFrom b rs = record {
+  keys = sectionOf kind.keys rs;
+  offsets = sectionOf kind.offsets rs;
+  partners = sectionOf kind.partners rs;
+  logs = sectionOf kind.logs rs;
+  marked = has kind.tombstones rs;
+  dead = sectionOf kind.tombstones rs;
+  keycount = keyCount b;
+  edgecount = edgeCount b;
+  bits = bitsOf b;
+}
+
+unfoldable pub framedFrom : List ℕ → List Row → Framed
+framedFrom b rs = record { opened = recordFrom b rs; fenced = has kind.fences rs; fences = sectionOf kind.fences rs }
+
+-- of a file
+unfoldable pub recordOf : List ℕ → Opened
+recordOf f = recordFrom (bodyOf f) (rowsOf (bodyOf f))
+
+unfoldable pub framedOf : List ℕ → Framed
+framedOf f = framedFrom (bodyOf f) (rowsOf (bodyOf f))
+
+-- ---- what a lookup sees of a file: the bytes of the known sections, the counts, the offset bits
+
+pub record Known : Type 0 where
+  pub keys : List ℕ
+  pub offsets : List ℕ
+  pub partners : List ℕ
+  pub logs : List ℕ
+  pub dead : List ℕ
+  pub keycount : ℕ
+  pub edgecount : ℕ
+  pub bits : ℕ
+
+abbrev pub bytesAt : List ℕ → Range → List ℕ
+bytesAt f p = part f (p .start) (p .start + p .len)
+
+unfoldable pub knownOf : List ℕ → Opened → Known
+knownOf f o = record {
+  keys = bytesAt f (o .keys);
+  offsets = bytesAt f (o .offsets);
+  partners = bytesAt f (o .partners);
+  logs = bytesAt f (o .logs);
+  dead = bytesAt f (o .dead);
+  keycount = o .keycount;
+  edgecount = o .edgecount;
+  bits = o .bits;
+}
+
+-- ---- rule 13: d keys from k on, each above the one before
+
+abbrev pub keyAt : List ℕ → ℕ → ℕ
+keyAt s k = idAt s (k * kind.keySize)
+
+unfoldable pub keysFrom : ℕ → List ℕ → ℕ → Check
+keysFrom zero s k = Check.Fine
+keysFrom (suc d) s k = pick (ltb (keyAt s (k - 1)) (keyAt s k)) (keysFrom d s (k + 1)) (Check.Bad (Refusal.Key k))
+
+-- ---- rule 14: of n + 1 offsets of w bytes "the first is 0, each is above the one before, the last is the partner
+-- section's length"
+
+abbrev pub offsetAt : List ℕ → ℕ → ℕ → ℕ
+offsetAt o w i = leAt o (i * w) w
+
+unfoldable pub offsetGood : List ℕ → ℕ → ℕ → ℕ → ℕ → Bool
+offsetGood o w n len i =
+    pick (eqb i 0) (eqb (offsetAt o w i) 0) (ltb (offsetAt o w (i - 1)) (offsetAt o w i))
+    && (not (eqb i n) || eqb (offsetAt o w i) len)
+
+-- d of them from i on
+unfoldable pub offsetsFrom : ℕ → List ℕ → ℕ → ℕ → ℕ → ℕ → Check
+offsetsFrom zero o w n len i = Check.Fine
+offsetsFrom (suc d) o w n len i = pick (offsetGood o w n len i) (offsetsFrom d o w n len (i + 1)) (Check.Bad (Refusal.Offset i))
+
+-- ---- rule 15: "Stride u32 (at least 1); entry count u32 = key count divided by stride, rounded up; entries of key and
+-- u64 offset, entry i being key i·stride and 16·i·stride"
+
+unfoldable pub fenceGood : List ℕ → List ℕ → ℕ → ℕ → Bool
+fenceGood x keys stride i =
+    eqb (idAt x (kind.fencesHead + kind.fenceSize * i)) (keyAt keys (i * stride))
+    && eqb (leAt x (kind.fencesHead + kind.fenceSize * i + kind.keySize) 8) (kind.keySize * (i * stride))
+
+-- d entries from i on
+unfoldable pub fencesFrom : ℕ → List ℕ → List ℕ → ℕ → ℕ → Bool
+fencesFrom zero x keys stride i = true
+fencesFrom (suc d) x keys stride i = fenceGood x keys stride i && fencesFrom d x keys stride (i + 1)
+
+abbrev pub strideOf : List ℕ → ℕ
+strideOf x = leAt x 0 4
+
+abbrev pub fenceCount : List ℕ → ℕ
+fenceCount x = leAt x 4 4
+
+unfoldable pub fencesGood : List ℕ → List ℕ → ℕ → Bool
+fencesGood x keys n =
+    leb kind.fencesHead (length x) && (leb 1 (strideOf x) && (eqb (fenceCount x) ((n + (strideOf x - 1)) / strideOf x)
+    && (eqb (length x) (kind.fencesHead + kind.fenceSize * fenceCount x) && fencesFrom (fenceCount x) x keys (strideOf x) 0)))
+
+-- ---- opening
+
+-- rules 13 to 15
+unfoldable pub contentCheck : Known → Bool → List ℕ → Check
+contentCheck k fenced fences =
+    keysFrom (k .keycount - 1) (k .keys) 1
+    ⊳ offsetsFrom (k .keycount + 1) (k .offsets) (k .bits / 8) (k .keycount) (length (k .partners)) 0
+    ⊳ refuse Refusal.Fences (fenced && not (fencesGood fences (k .keys) (k .keycount)))
+
+-- rules 1 to 15
+unfoldable pub fileCheck : List ℕ → Check
+fileCheck f =
+    frameCheck (length f) f f ⊳ contentCheck (knownOf f (recordOf f)) (framedOf f .fenced) (bytesAt f (framedOf f .fences))
+
+-- the answers: what there is where no rule is broken, or the first refusal
+unfoldable pub framing : Check → Framed → Framing
+framing Check.Fine x = Framing.Good x
+framing (Check.Bad r) x = Framing.Refused r
+
+unfoldable pub opening : Check → Opened → Opening
+opening Check.Fine o = Opening.Good o
+opening (Check.Bad r) o = Opening.Refused r
+
+unfoldable pub openOf : List ℕ → Opening
+openOf f = opening (fileCheck f) (recordOf f)

@@ -1,0 +1,100 @@
+// The frame of a file: header, section table, footer. Definitions of opening (specs/), and the types that they speak of.
+// The code of the rules stands in the crates above.
+ghost use mathlib.Core.Path.{_≡_};
+use refusal::Refusal;
+
+// Where a section lies.
+pub struct Range {
+    pub start: u64,
+    pub len: u64,
+}
+
+// An entry of the section table. The name's place counts from the footer body's first byte.
+pub struct Row {
+    pub kind: u16,
+    pub codec: u8,
+    pub namelen: u8,
+    pub nameat: u64,
+    pub start: u64,
+    pub len: u64,
+    pub sum: u64,
+}
+
+impl Row {
+    // The kinds that are read.
+    pub const KEYS: u16 = 1;
+
+    pub const OFFSETS: u16 = 2;
+
+    pub const PARTNERS: u16 = 3;
+
+    pub const LOGS: u16 = 4;
+
+    pub const TOMBSTONES: u16 = 5;
+
+    pub const FENCES: u16 = 6;
+
+    // Property streams: any number of them, not read.
+    pub const PROPERTIES: u16 = 256;
+
+    pub const RAW: u8 = 0;
+
+    // Bytes of a key, a log number and a fence, and of what stands before the fences.
+    pub const KEY: u64 = 16;
+
+    pub const LOG: u64 = 8;
+
+    pub const FENCE: u64 = 24;
+
+    pub const FENCES_HEAD: u64 = 8;
+
+    // Bytes of an entry without its name.
+    pub const ENTRY: usize = 28;
+
+    // An entry without a name, as kinds 1 to 6 have it.
+    pub fn raw(kind: u16, start: u64, len: u64, sum: u64) -> Row
+        ensures { λ r. ⌜ (r .kind ≡ kind) × (r .codec ≡ 0) × (r .namelen ≡ 0) × (r .start ≡ start) × (r .len ≡ len) × (r .sum ≡ sum) ⌝ }
+    {
+        Row {
+            kind,
+            codec: Row::RAW,
+            namelen: 0,
+            nameat: 0,
+            start,
+            len,
+            sum,
+        }
+    }
+}
+
+// What a lookup reads of a file: where the sections lie, the counts, the offset bits. Anyone may fill one.
+// A section that is not there is an empty range, and `marked` says whether there are tombstones.
+pub struct Opened {
+    pub keys: Range,
+    pub offsets: Range,
+    pub partners: Range,
+    pub logs: Range,
+    pub marked: bool,
+    pub dead: Range,
+    pub keycount: u64,
+    pub edgecount: u64,
+    pub bits: u8,
+}
+
+// What the frame alone gives: the record, and the fences, which only opening looks at.
+pub struct Framed {
+    pub opened: Opened,
+    pub fenced: bool,
+    pub fences: Range,
+}
+
+// The frame's answer, and that of opening.
+pub enum Framing {
+    Good { framed: Framed },
+    Refused { refusal: Refusal },
+}
+
+pub enum Opening {
+    Good { opened: Opened },
+    Refused { refusal: Refusal },
+}

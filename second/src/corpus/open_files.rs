@@ -1,0 +1,157 @@
+//! The corpus of opening: whole files, sound and damaged, as one input, and
+//! what opening says of each.
+
+mod changed;
+mod checksums;
+mod counts;
+mod fences;
+mod heads;
+mod keys_and_offsets;
+mod kinds;
+mod large;
+mod pairs;
+mod ranges;
+mod samples;
+mod sound;
+mod table;
+mod unread;
+
+use crate::layout::Layout;
+use crate::open::{open, Opened, Range, Refusal};
+
+/// One file of the corpus.
+pub struct OpenFile {
+    /// Words of small letters and digits, joined by `-`.
+    pub name: String,
+    pub bytes: Vec<u8>,
+    /// What opening has to say in the author's view; files made by chance have
+    /// no such view.
+    pub intended: Option<Verdict>,
+}
+
+#[derive(Clone, Copy, Debug, PartialEq, Eq)]
+pub enum Verdict {
+    Opens,
+    Refused(Refusal),
+}
+
+fn expect(number: u8, place: u64) -> Verdict {
+    Verdict::Refused(Refusal { number, place })
+}
+
+/// The files kept beside the library.
+pub fn small() -> Vec<OpenFile> {
+    let mut files = Files::default();
+    sound::add(&mut files);
+    kinds::add(&mut files);
+    unread::add(&mut files);
+    heads::add(&mut files);
+    checksums::add(&mut files);
+    table::add(&mut files);
+    ranges::add(&mut files);
+    counts::add(&mut files);
+    keys_and_offsets::add(&mut files);
+    fences::add(&mut files);
+    pairs::add(&mut files);
+    changed::add(&mut files);
+    files.0
+}
+
+/// Files about the key count above which fences are required.
+pub fn large() -> Vec<OpenFile> {
+    let mut files = Files::default();
+    large::add(&mut files);
+    files.0
+}
+
+#[derive(Default)]
+struct Files(Vec<OpenFile>);
+
+impl Files {
+    fn opens(&mut self, name: impl Into<String>, layout: Layout) {
+        self.bytes(name, layout.bytes(), Some(Verdict::Opens));
+    }
+
+    fn refused(&mut self, name: impl Into<String>, layout: Layout, intended: Verdict) {
+        self.bytes(name, layout.bytes(), Some(intended));
+    }
+
+    fn bytes(&mut self, name: impl Into<String>, bytes: Vec<u8>, intended: Option<Verdict>) {
+        self.0.push(OpenFile {
+            name: name.into(),
+            bytes,
+            intended,
+        });
+    }
+}
+
+impl OpenFile {
+    pub fn verdict(&self) -> Verdict {
+        match open(&self.bytes) {
+            Ok(_) => Verdict::Opens,
+            Err(refusal) => Verdict::Refused(refusal),
+        }
+    }
+
+    /// The length of the name in one byte, the name, the length of the file in
+    /// four bytes, the file.
+    fn input(&self) -> Vec<u8> {
+        let mut input = vec![self.name.len() as u8];
+        input.extend(self.name.bytes());
+        input.extend((self.bytes.len() as u32).to_le_bytes());
+        input.extend(&self.bytes);
+        input
+    }
+
+    /// One line for a refused file; for an opened one the line of its record
+    /// and a line for each section.
+    fn lines(&self) -> String {
+        let name = &self.name;
+        match open(&self.bytes) {
+            Err(Refusal { number, place }) => format!("{name}: refused {number} at {place}\n"),
+            Ok(opened) => format!("{name}: opens {}\n", opened_text(&opened)),
+        }
+    }
+}
+
+fn range_text(range: Range) -> String {
+    format!("{} {}", range.offset, range.length)
+}
+
+fn opened_text(opened: &Opened) -> String {
+    let record = &opened.record;
+    let dead = record.tombstones.map_or("none".to_string(), range_text);
+    let mut text = format!(
+        "keys {} offsets {} partners {} logs {} dead {dead} n {} e {} bits {}",
+        range_text(record.keys),
+        range_text(record.offsets),
+        range_text(record.partners),
+        range_text(record.logs),
+        record.key_count,
+        record.edge_count,
+        record.offset_bits,
+    );
+    for row in &opened.rows {
+        text += &format!(
+            "\n  section {} {} {} {} {} {:016x}",
+            row.kind,
+            row.codec,
+            row.name_place,
+            row.name_length,
+            range_text(row.range),
+            row.checksum,
+        );
+    }
+    text
+}
+
+pub fn stdin(files: &[OpenFile]) -> Vec<u8> {
+    files.iter().flat_map(OpenFile::input).collect()
+}
+
+pub fn stdout(files: &[OpenFile]) -> Vec<u8> {
+    files
+        .iter()
+        .flat_map(|file| file.lines().into_bytes())
+        .collect()
+}

@@ -1,0 +1,50 @@
+//! Files with faults that opening does not look for: they open, though a full
+//! check or a lookup would refuse them.
+
+use super::samples::{full, heading_only, one_edge};
+use super::Files;
+use crate::format::{flag, kind};
+use crate::layout::Section;
+
+pub fn add(files: &mut Files) {
+    for index in 0..8 {
+        let layout = full().with(|l| l.sections[index].stated.checksum = Some(1 << index));
+        files.opens(format!("unread-checksum-of-section-{index}"), layout);
+    }
+    let layout = heading_only().with(|l| {
+        for section in &mut l.sections {
+            section.stated.checksum = Some(0);
+        }
+    });
+    files.opens("unread-checksums-of-empty-sections", layout);
+
+    let partners = |bytes: [u8; 11]| one_edge().with(|l| l.section(kind::PARTNERS).bytes = bytes.into());
+    files.opens("unread-group-of-degree-0", partners([0; 11]));
+    files.opens("unread-group-of-other-tag", partners([1, 2, 0, 0, 0, 0, 0, 0, 0, 0, 0]));
+    files.opens("unread-group-of-no-end", partners([0xFF; 11]));
+
+    // The edge count has its log numbers, but the groups have other degrees.
+    for (word, edge_count) in [("one", 2), ("two", 3)] {
+        let layout = one_edge().with(|l| {
+            l.edge_count = edge_count;
+            l.section(kind::LOGS).bytes = vec![9; 8 * edge_count as usize];
+        });
+        files.opens(format!("unread-edges-{word}-too-many"), layout);
+    }
+    let layout = full().with(|l| {
+        l.edge_count = 3;
+        l.section(kind::LOGS).bytes.truncate(24);
+    });
+    files.opens("unread-edges-as-few-as-keys", layout);
+
+    let layout = one_edge().with(|l| l.header.flags = flag::DENSE);
+    files.opens("unread-bit-2-without-dense-group", layout);
+    let layout = full().with(|l| l.header.flags &= !flag::DENSE);
+    files.opens("unread-dense-group-without-bit-2", layout);
+    let layout = full().with(|l| l.header.flags &= !flag::TOMBSTONES);
+    files.opens("unread-dead-edge-without-bit-1", layout);
+    for byte in [0x02, 0x80, 0xFF] {
+        let layout = one_edge().with(|l| l.sections.push(Section::new(kind::TOMBSTONES, [byte])));
+        files.opens(format!("unread-unused-tombstone-bits-{byte:02x}"), layout);
+    }
+}

@@ -1,0 +1,50 @@
+//! The fixed numbers of the format.
+
+/// The first eight bytes of a file, and its last eight.
+pub const MAGIC: [u8; 8] = *b"TGEDGE\0\0";
+pub const MAJOR: u8 = 1;
+
+pub const HEADER: usize = 64;
+/// Checksum of the footer body, footer length, magic.
+pub const TRAILER: usize = 20;
+/// A row of the section table without its name.
+pub const ENTRY: usize = 28;
+/// Key count, edge count and offset bits, the end of the footer body.
+pub const COUNTS: usize = 17;
+
+/// Stride and entry count, the beginning of the fence section.
+pub const FENCE_HEAD: usize = 8;
+/// A fence's key and offset.
+pub const FENCE: usize = 24;
+
+pub const OFFSET_BITS: [u8; 4] = [24, 32, 40, 48];
+
+pub mod kind {
+    pub const KEYS: u16 = 1;
+    pub const OFFSETS: u16 = 2;
+    pub const PARTNERS: u16 = 3;
+    pub const LOGS: u16 = 4;
+    pub const TOMBSTONES: u16 = 5;
+    pub const FENCES: u16 = 6;
+    pub const PROPERTIES: u16 = 0x0100;
+
+    /// The kinds that are read: always raw and without a name.
+    pub const READ: std::ops::RangeInclusive<u16> = KEYS..=FENCES;
+}
+
+pub mod flag {
+    pub const PROPERTIES: u32 = 1 << 0;
+    pub const TOMBSTONES: u32 = 1 << 1;
+    pub const DENSE: u32 = 1 << 2;
+    pub const INVERSE: u32 = 1 << 3;
+}
+
+pub mod bound {
+    pub const FILE: u64 = 1 << 30;
+    pub const KEYS: u64 = 1 << 24;
+    pub const EDGES: u64 = 1 << 26;
+    pub const SECTIONS: u64 = 64;
+    pub const NAME: u8 = 63;
+    /// Above this many keys a file must have fences.
+    pub const KEYS_WITHOUT_FENCES: u64 = 65_536;
+}
