@@ -1,6 +1,8 @@
 //! The program's checks of itself: against outside values where there are
 //! any, against a second way to the same result where there are none.
 
+mod opening;
+
 use crate::corpus::{self, Record};
 use crate::family;
 use crate::numbers::{compare_ids, read_be, read_le, write_be, write_le};
@@ -17,6 +19,8 @@ const XXHSUM_H3: &str = include_str!("../vectors/xxhsum-h3.txt");
 pub struct Tally {
     pub passed: usize,
     pub failures: Vec<String>,
+    /// What is worth knowing of checks that passed.
+    pub notes: Vec<String>,
 }
 
 impl Tally {
@@ -39,6 +43,7 @@ pub fn all() -> Tally {
     check_varint_cases(&mut tally);
     check_varint_round_trips(&mut tally);
     check_corpus(&mut tally);
+    opening::check(&mut tally);
     tally
 }
 

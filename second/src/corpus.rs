@@ -1,6 +1,7 @@
 //! The vector files: inputs and expected outputs for the programs under test.
 
 mod codes_vectors;
+pub mod open_files;
 mod record;
 mod xxh3_vectors;
 
@@ -15,6 +16,7 @@ pub struct VectorFile {
 
 pub fn files() -> Vec<VectorFile> {
     let records = code_records();
+    let opened = open_files::small();
     vec![
         VectorFile {
             path: "xxh3_vectors/stdout",
@@ -30,6 +32,29 @@ pub fn files() -> Vec<VectorFile> {
                 .iter()
                 .flat_map(|record| format!("{}\n", record.line()).into_bytes())
                 .collect(),
+        },
+        VectorFile {
+            path: "open_corpus/stdin",
+            bytes: open_files::stdin(&opened),
+        },
+        VectorFile {
+            path: "open_corpus/stdout",
+            bytes: open_files::stdout(&opened),
+        },
+    ]
+}
+
+/// The vector files too large to be kept beside the library.
+pub fn large_files() -> Vec<VectorFile> {
+    let opened = open_files::large();
+    vec![
+        VectorFile {
+            path: "open_large/stdin",
+            bytes: open_files::stdin(&opened),
+        },
+        VectorFile {
+            path: "open_large/stdout",
+            bytes: open_files::stdout(&opened),
         },
     ]
 }

@@ -1,28 +1,37 @@
-//! The second program: an independent opinion on checksums and number codes.
+//! The second program: an independent opinion on checksums, number codes and
+//! the opening of files.
 //! See README.md.
 
 mod check;
 mod corpus;
 mod family;
+mod format;
+mod groups;
+mod layout;
 mod numbers;
+mod open;
 mod random;
 mod varint;
 mod xxh3;
 
+use corpus::VectorFile;
 use std::fs;
 use std::io::{self, Write};
 use std::path::Path;
 use std::process::ExitCode;
 
-const USAGE: &str = "usage: second check | make DIR | compare DIR | family N";
+const USAGE: &str =
+    "usage: second check | make DIR | make-large DIR | compare DIR | bytes NAME | family N";
 
 fn main() -> ExitCode {
     let arguments: Vec<String> = std::env::args().skip(1).collect();
     let words: Vec<&str> = arguments.iter().map(String::as_str).collect();
     let done = match words[..] {
         ["check"] => check(),
-        ["make", dir] => make(Path::new(dir)),
+        ["make", dir] => make(Path::new(dir), corpus::files()),
+        ["make-large", dir] => make(Path::new(dir), corpus::large_files()),
         ["compare", dir] => compare(Path::new(dir)),
+        ["bytes", name] => bytes(name),
         ["family", count] => family(count),
         _ => Err(USAGE.to_string()),
     };
@@ -44,12 +53,15 @@ fn check() -> Result<(), String> {
             tally.failures.len()
         ));
     }
+    for note in &tally.notes {
+        println!("{note}");
+    }
     println!("second: {} checks passed", tally.passed);
     Ok(())
 }
 
-fn make(dir: &Path) -> Result<(), String> {
-    for file in corpus::files() {
+fn make(dir: &Path, files: Vec<VectorFile>) -> Result<(), String> {
+    for file in files {
         let path = dir.join(file.path);
         let parent = path.parent().unwrap_or(dir);
         fs::create_dir_all(parent)
@@ -77,9 +89,23 @@ fn compare(dir: &Path) -> Result<(), String> {
     }
 }
 
+/// One file of the corpus of opening, as it is.
+fn bytes(name: &str) -> Result<(), String> {
+    let file = corpus::open_files::small()
+        .into_iter()
+        .chain(corpus::open_files::large())
+        .find(|file| file.name == name)
+        .ok_or_else(|| format!("{name}: no such file in the corpus"))?;
+    write_out(&file.bytes)
+}
+
 fn family(count: &str) -> Result<(), String> {
     let count = count.parse().map_err(|_| USAGE.to_string())?;
+    write_out(&family::bytes(count))
+}
+
+fn write_out(bytes: &[u8]) -> Result<(), String> {
     io::stdout()
-        .write_all(&family::bytes(count))
+        .write_all(bytes)
         .map_err(|error| format!("standard output: {error}"))
 }

@@ -53,7 +53,7 @@ pub struct Opened {
 
 pub fn open(file: &[u8]) -> Result<Opened, Refusal> {
     let size = file.len() as u64;
-    refuse_if(1, size < 84 || size > bound::FILE)?;
+    refuse_if(1, !(84..=bound::FILE).contains(&size))?;
 
     refuse_if(2, file[..8] != MAGIC)?;
     refuse_if(3, file[8] != MAJOR)?;
@@ -65,7 +65,7 @@ pub fn open(file: &[u8]) -> Result<Opened, Refusal> {
     refuse_if(6, trailer[12..] != MAGIC)?;
     let footer_length = read_le(&trailer[8..12]);
     let longest = size - HEADER as u64;
-    refuse_if(7, footer_length < 39 || footer_length > longest)?;
+    refuse_if(7, !(39..=longest).contains(&footer_length))?;
     let footer_place = size - footer_length;
     let body = &file[footer_place as usize..file.len() - TRAILER];
     refuse_if(8, xxh3_64(body) != read_le(&trailer[..8]))?;
@@ -147,7 +147,7 @@ impl Footer {
 /// that is not so.
 fn read_body(body: &[u8], body_place: u64) -> Option<Footer> {
     let section_count = read_le(body.get(..2)?);
-    if section_count < 1 || section_count > bound::SECTIONS {
+    if !(1..=bound::SECTIONS).contains(&section_count) {
         return None;
     }
     let mut rows = Vec::new();

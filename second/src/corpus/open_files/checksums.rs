@@ -30,7 +30,10 @@ pub fn add(files: &mut Files) {
     });
     with_sum("of-all-before", xxh3_64(&file[..body_end]));
     with_sum("of-sections", xxh3_64(&file[64..footer_place]));
-    with_sum("of-body-but-last-byte", xxh3_64(&file[footer_place..body_end - 1]));
+    with_sum(
+        "of-body-but-last-byte",
+        xxh3_64(&file[footer_place..body_end - 1]),
+    );
 
     // Bodies longer than those of one edge take other ways through the sum.
     let layout = full().with(|l| l.footer_checksum = Some(right));

@@ -1,10 +1,11 @@
 //! Refusal 12: the counts, the lengths they give, and the flag bits 0 and 1.
 
-use super::samples::{full, heading_only, one_edge, single_groups, three_groups};
+use super::samples::{dead, full, heading_only, live, one_edge, single_groups, split};
 use super::{expect, Files};
 use crate::format::{bound, flag, kind, OFFSET_BITS};
-use crate::groups;
+use crate::groups::{self, Group};
 use crate::layout::{Layout, Section};
+use crate::numbers::id_of;
 
 pub fn add(files: &mut Files) {
     key_counts(files);
@@ -16,23 +17,43 @@ pub fn add(files: &mut Files) {
     flag_bits(files);
 }
 
+fn two_groups() -> Vec<Group> {
+    vec![
+        split(id_of(1, 2), &[live(5, 1, 7), dead(5, 2, 8)]),
+        split(id_of(2, 0), &[live(0, 9, 1)]),
+    ]
+}
+
+/// Sections 1 to 5; 2 keys, 3 edges, offsets of 24 bits.
+fn base() -> Layout {
+    groups::layout(&two_groups(), 24)
+}
+
+/// The description with this many edges, as far as edge count and log numbers
+/// go.
+fn with_edges(layout: Layout, count: u64) -> Layout {
+    layout.with(|l| {
+        l.edge_count = count;
+        l.section(kind::LOGS).bytes = vec![3; 8 * count as usize];
+    })
+}
+
 fn key_counts(files: &mut Files) {
     for (word, count) in [
         ("0", 0),
-        ("one-less", 2),
-        ("one-more", 4),
-        ("as-edges", 5),
-        ("2-to-8-more", 3 + (1 << 8)),
+        ("one-less", 1),
+        ("one-more", 3),
+        ("2-to-8-more", 2 + (1 << 8)),
         ("fences-required", bound::KEYS_WITHOUT_FENCES + 1),
         ("bound", bound::KEYS),
         ("bound-passed", bound::KEYS + 1),
-        ("2-to-32-more", 3 + (1 << 32)),
-        ("2-to-60-more", 3 + (1 << 60)),
-        ("2-to-63-more", 3 + (1 << 63)),
-        ("big-endian", 3 << 56),
+        ("2-to-32-more", 2 + (1 << 32)),
+        ("2-to-60-more", 2 + (1 << 60)),
+        ("2-to-63-more", 2 + (1 << 63)),
+        ("big-endian", 2 << 56),
         ("largest", u64::MAX),
     ] {
-        let layout = full().with(|l| l.key_count = count);
+        let layout = base().with(|l| l.key_count = count);
         files.refused(format!("key-count-{word}"), layout, expect(12, 0));
     }
 }
@@ -40,22 +61,21 @@ fn key_counts(files: &mut Files) {
 fn edge_counts(files: &mut Files) {
     for (word, count) in [
         ("0", 0),
-        ("one-less", 4),
-        ("one-more", 6),
-        ("as-keys", 3),
-        ("2-to-8-more", 5 + (1 << 8)),
+        ("one-less", 2),
+        ("one-more", 4),
+        ("2-to-8-more", 3 + (1 << 8)),
         ("bound", bound::EDGES),
         ("bound-passed", bound::EDGES + 1),
-        ("2-to-32-more", 5 + (1 << 32)),
-        ("2-to-61-more", 5 + (1 << 61)),
-        ("2-to-63-more", 5 + (1 << 63)),
-        ("big-endian", 5 << 56),
+        ("2-to-32-more", 3 + (1 << 32)),
+        ("2-to-61-more", 3 + (1 << 61)),
+        ("2-to-63-more", 3 + (1 << 63)),
+        ("big-endian", 3 << 56),
         ("largest", u64::MAX),
     ] {
-        let layout = full().with(|l| l.edge_count = count);
+        let layout = base().with(|l| l.edge_count = count);
         files.refused(format!("edge-count-{word}"), layout, expect(12, 0));
     }
-    let swapped = full().with(|l| (l.key_count, l.edge_count) = (5, 3));
+    let swapped = base().with(|l| (l.key_count, l.edge_count) = (3, 2));
     files.refused("counts-swapped", swapped, expect(12, 0));
 }
 
@@ -74,7 +94,11 @@ fn wrapping_lengths(files: &mut Files) {
     }
     let edges = |count: u64| one_edge().with(|l| l.edge_count = count);
     files.refused("edge-count-logs-wrap", edges(1 + (1 << 61)), expect(12, 0));
-    files.refused("edge-count-logs-wrap-in-32", edges(1 + (1 << 29)), expect(12, 0));
+    files.refused(
+        "edge-count-logs-wrap-in-32",
+        edges(1 + (1 << 29)),
+        expect(12, 0),
+    );
     // The offset count is the key count and one more: none at all, if that sum
     // wraps.
     let layout = heading_only().with(|l| {
@@ -93,12 +117,6 @@ fn wrapping_lengths(files: &mut Files) {
 
 /// Lengths are right for all of these.
 fn edges_and_keys(files: &mut Files) {
-    let with_edges = |layout: Layout, count: u64| {
-        layout.with(|l| {
-            l.edge_count = count;
-            l.section(kind::LOGS).bytes = vec![3; 8 * count as usize];
-        })
-    };
     for count in [1, 2, 8] {
         let layout = with_edges(heading_only(), count);
         files.refused(format!("edges-without-keys-{count}"), layout, expect(12, 0));
@@ -116,16 +134,12 @@ fn offset_bits(files: &mut Files) {
     for bits in [
         0, 1, 3, 4, 5, 6, 8, 16, 23, 25, 28, 31, 33, 36, 44, 47, 49, 56, 64, 128, 152, 255,
     ] {
-        let layout = full().with(|l| l.offset_bits = bits);
+        let layout = base().with(|l| l.offset_bits = bits);
         files.refused(format!("offset-bits-{bits}"), layout, expect(12, 0));
     }
     // The section has the length that these bits give.
-    for bits in [8, 16, 56, 64] {
-        let layout = full().with(|l| {
-            *l.section(kind::OFFSETS) =
-                groups::offsets(&groups::group_offsets(&three_groups()), bits);
-            l.offset_bits = bits;
-        });
+    for bits in [16, 56, 64] {
+        let layout = groups::layout(&two_groups(), bits);
         let name = format!("offset-bits-{bits}-in-earnest");
         files.refused(name, layout, expect(12, 0));
     }
@@ -134,11 +148,15 @@ fn offset_bits(files: &mut Files) {
         l.offset_bits = 0;
     });
     files.refused("offset-bits-0-in-earnest", layout, expect(12, 0));
-    let layout = full().with(|l| {
-        l.section(kind::OFFSETS).bytes = vec![0; 4 * 28 / 8];
-        l.offset_bits = 28;
-    });
-    files.refused("offset-bits-28-in-earnest", layout, expect(12, 0));
+    // Three numbers of so many bits: the bytes come out even, or rounded down.
+    for (bits, length) in [(8, 3), (25, 9), (28, 10), (36, 13), (44, 16)] {
+        let layout = base().with(|l| {
+            l.section(kind::OFFSETS).bytes = vec![0; length];
+            l.offset_bits = bits;
+        });
+        let name = format!("offset-bits-{bits}-in-{length}-bytes");
+        files.refused(name, layout, expect(12, 0));
+    }
     // Each width said to be each other.
     for said in OFFSET_BITS {
         for bits in OFFSET_BITS {
@@ -154,13 +172,13 @@ fn offset_bits(files: &mut Files) {
 /// The bytes of the section go on or end early; the row says so.
 fn lengths(files: &mut Files) {
     for (word, kind, changes) in [
-        ("keys", kind::KEYS, &[-48, -16, -8, -1, 1, 8, 16][..]),
-        ("offsets", kind::OFFSETS, &[-12, -3, -1, 1, 2, 3]),
-        ("logs", kind::LOGS, &[-40, -8, -1, 1, 4, 8]),
+        ("keys", kind::KEYS, &[-32, -16, -8, -1, 1, 8, 16][..]),
+        ("offsets", kind::OFFSETS, &[-9, -3, -1, 1, 2, 3]),
+        ("logs", kind::LOGS, &[-24, -8, -1, 1, 4, 8]),
         ("tombstones", kind::TOMBSTONES, &[-1, 1, 2, 7]),
     ] {
         for &change in changes {
-            let layout = full().with(|l| {
+            let layout = base().with(|l| {
                 let bytes = &mut l.section(kind).bytes;
                 let length = bytes.len().checked_add_signed(change);
                 bytes.resize(length.expect("a length"), 0);
@@ -182,9 +200,25 @@ fn lengths(files: &mut Files) {
     let layout = heading_only().with(|l| l.sections[1].bytes.clear());
     files.refused("length-of-offsets-0-on-heading-only", layout, expect(12, 0));
     // One byte for eight edges.
-    for (edges, length) in [(0, 1), (1, 0), (8, 2), (8, 0), (9, 1), (9, 3), (9, 9), (16, 3)] {
-        let layout = groups::layout(&single_groups(edges), 24)
-            .with(|l| l.sections.push(Section::new(kind::TOMBSTONES, vec![0; length])));
+    for (edges, length) in [
+        (0, 1),
+        (1, 0),
+        (8, 2),
+        (8, 0),
+        (9, 1),
+        (9, 3),
+        (9, 9),
+        (16, 3),
+    ] {
+        let layout = if edges == 0 {
+            heading_only()
+        } else {
+            one_edge()
+        };
+        let layout = with_edges(layout, edges).with(|l| {
+            let tombstones = Section::new(kind::TOMBSTONES, vec![0; length]);
+            l.sections.push(tombstones);
+        });
         let name = format!("tombstone-bytes-{length}-for-{edges}-edges");
         files.refused(name, layout, expect(12, 0));
     }

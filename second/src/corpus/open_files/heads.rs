@@ -62,7 +62,11 @@ fn sizes(files: &mut Files) {
     files.refused("size-103-no-section", bare(&[0; 19]), expect(9, 0));
     let mut one_section = [0; 19];
     one_section[0] = 1;
-    files.refused("size-103-no-room-for-section", bare(&one_section), expect(9, 0));
+    files.refused(
+        "size-103-no-room-for-section",
+        bare(&one_section),
+        expect(9, 0),
+    );
 
     // The first byte of another file, or one more at the end.
     let behind = [&[0], &whole[..]].concat();
@@ -109,7 +113,11 @@ fn flags(files: &mut Files) {
     flagged("all-32", one_edge(), u32::MAX);
     flagged("all-but-the-known", one_edge(), !0b1111);
     flagged("known-and-bit-4", full(), 0b1_0111);
-    flagged("bit-31-at-minor-200", one_edge().with(|l| l.header.minor = 200), 1 << 31);
+    flagged(
+        "bit-31-at-minor-200",
+        one_edge().with(|l| l.header.minor = 200),
+        1 << 31,
+    );
     flagged("on-heading-only", heading_only(), 1 << 8);
 }
 

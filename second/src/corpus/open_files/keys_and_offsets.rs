@@ -58,15 +58,31 @@ fn key_sequences(files: &mut Files) {
     sequence("all-zero", &[(0, 0), (0, 0), (0, 0), (0, 0)], 1);
     sequence("falling", &[(0, 4), (0, 3), (0, 2), (0, 1)], 1);
     sequence("two-falls", &[(0, 1), (0, 5), (0, 3), (0, 4), (0, 2)], 2);
-    sequence("below-greatest-but-rising", &[(0, 1), (0, 9), (0, 3), (0, 5)], 2);
+    sequence(
+        "below-greatest-but-rising",
+        &[(0, 1), (0, 9), (0, 3), (0, 5)],
+        2,
+    );
     sequence("last-two-equal", &[(0, 1), (0, 2), (0, 3), (0, 3)], 3);
-    sequence("rising-as-little-endian", &[(0, 0x01FF), (0, 0x02FF), (0, 0x0200)], 2);
-    sequence("rising-as-bytes-backwards", &[(2 << 56, 1), (1 << 56, 2)], 1);
+    sequence(
+        "rising-as-little-endian",
+        &[(0, 0x0001), (0, 0x0201), (0, 0x0102)],
+        2,
+    );
+    sequence(
+        "rising-as-bytes-backwards",
+        &[(2 << 56, 1), (1 << 56, 2)],
+        1,
+    );
     sequence("rising-in-lower-half", &[(2, 0), (1, u64::MAX)], 1);
-    sequence("rising-in-upper-half-only", &[(1, 5), (1, 5)], 1);
+    sequence("equal-in-both-halves", &[(1, 5), (1, 5)], 1);
     sequence("rising-as-signed", &[(1 << 63, 0), (0, 0), (1, 0)], 1);
     sequence("differ-below-in-last-byte", &[(7, 0xFF), (7, 0xFE)], 1);
-    sequence("differ-below-in-first-byte", &[(2 << 56, 5), (1 << 56, 6)], 1);
+    sequence(
+        "differ-below-in-first-byte",
+        &[(2 << 56, 5), (1 << 56, 6)],
+        1,
+    );
 }
 
 fn offsets(files: &mut Files) {
@@ -90,9 +106,7 @@ fn offsets(files: &mut Files) {
         changed("one-less", 4, 43, 4);
         changed("one-more", 4, 45, 4);
         changed("high-byte", 4, 44 + (1 << (bits - 8)), 4);
-        changed("largest", 4, (1 << bits) - 1, 4);
         changed("largest", 1, (1 << bits) - 1, 2);
-        changed("zero", 4, 0, 4);
     }
     let one = |index: usize, number: u64| one_edge().with(|l| set_offset(l, index, number));
     files.refused("offset-of-one-edge-0-is-11", one(0, 11), expect(14, 0));
@@ -119,13 +133,17 @@ fn offset_sequences(files: &mut Files) {
     sequence("passing-in-the-middle-to-the-end", [0, 50, 60, 70, 44], 4);
     sequence("passing-and-rising-on", [0, 50, 60, 70, 80], 4);
     sequence("equal-at-the-end", [0, 11, 22, 44, 44], 4);
-    sequence("rising-as-little-endian", [0, 0x0201, 0x0102, 0x0203, 44], 2);
+    sequence(
+        "rising-as-little-endian",
+        [0, 0x0201, 0x0102, 0x0203, 44],
+        2,
+    );
     sequence("big-endian", [0, 11, 22, 33, 44].map(|n: u64| n << 24), 4);
     sequence("rising-as-signed", [0, (1 << 31) + 1, 3, 4, 44], 2);
     // The offsets are right, and the partner section is longer or shorter.
     let longer = base().with(|l| l.section(kind::PARTNERS).bytes.push(0));
     files.refused("offsets-of-longer-partners", longer, expect(14, 4));
-    let shorter = base().with(|l| drop(l.section(kind::PARTNERS).bytes.pop()));
+    let shorter = base().with(|l| l.section(kind::PARTNERS).bytes.truncate(43));
     files.refused("offsets-of-shorter-partners", shorter, expect(14, 4));
     let none = base().with(|l| l.section(kind::PARTNERS).bytes.clear());
     files.refused("offsets-of-no-partners", none, expect(14, 4));
@@ -144,7 +162,10 @@ fn offsets_without_keys(files: &mut Files) {
         };
         let one = |layout: Layout| layout.with(|l| set_offset(l, 0, 1));
         refused("one", one(base()));
-        refused("high-byte", base().with(|l| set_offset(l, 0, 1 << (bits - 8))));
+        refused(
+            "high-byte",
+            base().with(|l| set_offset(l, 0, 1 << (bits - 8))),
+        );
         refused("zero-of-one-partner-byte", partners(base(), 1));
         refused("one-of-one-partner-byte", one(partners(base(), 1)));
     }

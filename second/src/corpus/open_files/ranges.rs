@@ -78,7 +78,11 @@ fn ends(files: &mut Files) {
         l.last_gap.clear();
     });
     let layout = length(last, 8, 5);
-    files.refused("range-of-skipped-kind-ends-in-footer", layout, expect(11, 8));
+    files.refused(
+        "range-of-skipped-kind-ends-in-footer",
+        layout,
+        expect(11, 8),
+    );
 }
 
 /// Offset and length whose sum is 2^64 or more, and would be small or right if
@@ -88,7 +92,11 @@ fn sums(files: &mut Files) {
         let offset = one_edge().offsets()[index];
         let right = one_edge().sections[index].bytes.len() as u64;
         let mut both = |name: &str, stated_offset: u64, stated_length: u64| {
-            let layout = length(begin(one_edge(), index, stated_offset), index, stated_length);
+            let layout = length(
+                begin(one_edge(), index, stated_offset),
+                index,
+                stated_length,
+            );
             let name = format!("range-at-entry-{index}-{name}");
             files.refused(name, layout, expect(11, index as u64));
         };
@@ -152,16 +160,33 @@ fn empty_ones(files: &mut Files) {
     let past = with_empty(4, footer + 1);
     files.refused("empty-range-past-footer-begin", past, expect(11, 4));
     let first_past = with_empty(0, footer + 1);
-    files.refused("empty-range-first-past-footer-begin", first_past, expect(11, 0));
-    let at_size = with_empty(4, one_edge().with(|l| l.sections.push(Section::new(7, []))).size());
+    files.refused(
+        "empty-range-first-past-footer-begin",
+        first_past,
+        expect(11, 0),
+    );
+    let at_size = with_empty(
+        4,
+        one_edge()
+            .with(|l| l.sections.push(Section::new(7, [])))
+            .size(),
+    );
     files.refused("empty-range-at-file-end", at_size, expect(11, 4));
     let inside = with_empty(1, offsets[1] - 1);
     files.refused("empty-range-inside-the-last", inside, expect(11, 1));
     let begins_with_last = with_empty(1, offsets[0]);
-    files.refused("empty-range-where-the-last-begins", begins_with_last, expect(11, 1));
+    files.refused(
+        "empty-range-where-the-last-begins",
+        begins_with_last,
+        expect(11, 1),
+    );
     // It may lie there itself, but the next row has to begin no earlier.
     let at_footer = with_empty(0, footer);
-    files.refused("empty-range-first-at-footer-begin", at_footer, expect(11, 1));
+    files.refused(
+        "empty-range-first-at-footer-begin",
+        at_footer,
+        expect(11, 1),
+    );
     let ahead = with_empty(1, offsets[1] + 1);
     files.refused("empty-range-inside-the-next", ahead, expect(11, 2));
     let no_keys = begin(heading_only(), 0, heading_only().footer_place());

@@ -30,16 +30,16 @@ fn section_counts(files: &mut Files) {
     }
     let none = Layout::new(heading_only().header, Vec::new());
     files.refused("section-count-0-and-no-row", none, expect(9, 0));
-    let fill = |count: u64| {
-        one_edge().with(|l| l.sections.resize(count as usize, Section::new(7, [])))
-    };
+    let fill =
+        |count: u64| one_edge().with(|l| l.sections.resize(count as usize, Section::new(7, [])));
     let over = bound::SECTIONS + 1;
-    files.refused("section-count-65-and-as-many-rows", fill(over), expect(9, 0));
+    files.refused(
+        "section-count-65-and-as-many-rows",
+        fill(over),
+        expect(9, 0),
+    );
     let said_64 = fill(over).with(|l| l.section_count = Some(64));
     files.refused("section-count-said-64-of-65-rows", said_64, expect(9, 0));
-    let said_1 = fill(over).with(|l| l.section_count = Some(1));
-    files.refused("section-count-said-1-of-65-rows", said_1, expect(9, 0));
-    files.refused("section-count-260-and-as-many-rows", fill(260), expect(9, 0));
     // The rows that the count leaves away would not be missed.
     let unneeded = full().with(|l| {
         l.sections.truncate(5);
@@ -47,7 +47,11 @@ fn section_counts(files: &mut Files) {
         l.sections.push(Section::new(7, []));
         l.section_count = Some(5);
     });
-    files.refused("section-count-without-the-skipped-row", unneeded, expect(9, 0));
+    files.refused(
+        "section-count-without-the-skipped-row",
+        unneeded,
+        expect(9, 0),
+    );
 }
 
 fn bodies_not_filled(files: &mut Files) {
@@ -84,17 +88,17 @@ fn bodies_not_filled(files: &mut Files) {
 
 fn names(files: &mut Files) {
     for kind in kind::READ {
-        for length in [1, 63] {
-            let layout = full().with(|l| l.section(kind).name = vec![b'k'; length]);
-            let name = format!("name-of-{length}-on-kind-{kind}");
-            files.refused(name, layout, expect(9, 0));
-        }
+        let layout = full().with(|l| l.section(kind).name = vec![b'k']);
+        files.refused(format!("name-of-1-on-kind-{kind}"), layout, expect(9, 0));
     }
-    let layout = full().with(|l| l.section(kind::FENCES).name = vec![b'k'; 64]);
-    files.refused("name-of-64-on-kind-6", layout, expect(9, 0));
+    for length in [63, 64] {
+        let layout = one_edge().with(|l| l.sections[3].name = vec![b'k'; length]);
+        let name = format!("name-of-{length}-on-kind-4");
+        files.refused(name, layout, expect(9, 0));
+    }
 
     // The name is there, and too long.
-    for length in [64, 65, 127, 128, 255] {
+    for length in [64, 128, 255] {
         for (word, kind, flags) in [
             ("skipped-kind", 7, 0),
             ("properties", kind::PROPERTIES, flag::PROPERTIES),
@@ -160,8 +164,6 @@ fn doubled_kinds(files: &mut Files) {
         let again = || full().section(kind).clone().gap([]);
         let layout = full().with(|l| l.sections.push(again()));
         files.refused(format!("doubled-kind-{kind}"), layout, expect(9, 0));
-        let layout = full().with(|l| l.sections.push(Section::new(kind, [])));
-        files.refused(format!("doubled-kind-{kind}-empty"), layout, expect(9, 0));
         let layout = full().with(|l| l.sections.insert(0, Section::new(kind, [])));
         let name = format!("doubled-kind-{kind}-empty-at-first");
         files.refused(name, layout, expect(9, 0));
@@ -171,12 +173,11 @@ fn doubled_kinds(files: &mut Files) {
 }
 
 fn codecs(files: &mut Files) {
-    let coded = |layout: Layout, index: usize, codec: u8| {
-        layout.with(|l| l.sections[index].codec = codec)
-    };
+    let coded =
+        |layout: Layout, index: usize, codec: u8| layout.with(|l| l.sections[index].codec = codec);
     for (index, section) in full().sections.iter().enumerate() {
         if kind::READ.contains(&section.kind) {
-            for codec in [1, 2, 255] {
+            for codec in [1, 255] {
                 let name = format!("codec-{codec}-at-entry-{index}");
                 let layout = coded(full(), index, codec);
                 files.refused(name, layout, expect(10, index as u64));
@@ -206,7 +207,11 @@ fn codecs(files: &mut Files) {
         l.section(kind::KEYS).codec = 0;
         l.section(kind::OFFSETS).codec = 0;
     });
-    files.refused("codecs-but-not-of-keys-and-offsets", all_but_keys, expect(10, 2));
+    files.refused(
+        "codecs-but-not-of-keys-and-offsets",
+        all_but_keys,
+        expect(10, 2),
+    );
     let last = one_edge().with(|l| {
         let skipped = Section::new(7, []);
         l.sections.splice(0..0, vec![skipped; 60]);

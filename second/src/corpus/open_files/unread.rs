@@ -18,9 +18,13 @@ pub fn add(files: &mut Files) {
     });
     files.opens("unread-checksums-of-empty-sections", layout);
 
-    let partners = |bytes: [u8; 11]| one_edge().with(|l| l.section(kind::PARTNERS).bytes = bytes.into());
+    let partners =
+        |bytes: [u8; 11]| one_edge().with(|l| l.section(kind::PARTNERS).bytes = bytes.into());
     files.opens("unread-group-of-degree-0", partners([0; 11]));
-    files.opens("unread-group-of-other-tag", partners([1, 2, 0, 0, 0, 0, 0, 0, 0, 0, 0]));
+    files.opens(
+        "unread-group-of-other-tag",
+        partners([1, 2, 0, 0, 0, 0, 0, 0, 0, 0, 0]),
+    );
     files.opens("unread-group-of-no-end", partners([0xFF; 11]));
 
     // The edge count has its log numbers, but the groups have other degrees.
