@@ -202,7 +202,7 @@ fn is_not_raw(row: &SectionRow) -> bool {
 /// Check 11: each section, of whatever kind, lies between header and footer
 /// and begins no earlier than the one before it ends.
 fn first_bad_range(rows: &[SectionRow], footer_place: u64) -> Option<usize> {
-    let mut last_end = HEADER as u128;
+    let mut last_end = 0;
     rows.iter().position(|row| {
         let begin = u128::from(row.range.offset);
         let end = row.range.end();

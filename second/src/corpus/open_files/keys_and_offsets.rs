@@ -41,8 +41,10 @@ fn keys(files: &mut Files) {
     files.refused("key-2-largest", layout, expect(13, 3));
     let layout = full().with(|l| set_key(l, 2, id_of(1, 3)));
     files.refused("key-2-equal-in-full", layout, expect(13, 2));
-    let width = groups::layout(&single_groups(3), 48).with(|l| set_key(l, 1, id_of(0, 5)));
-    files.refused("key-1-at-48-bits", width, expect(13, 1));
+    for bits in OFFSET_BITS {
+        let layout = groups::layout(&single_groups(3), bits).with(|l| set_key(l, 2, id_of(0, 5)));
+        files.refused(format!("key-2-lower-{bits}-bits"), layout, expect(13, 2));
+    }
 }
 
 /// Whole runs of keys. The first index that does not rise is told.

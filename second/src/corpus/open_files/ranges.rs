@@ -57,8 +57,8 @@ fn ends(files: &mut Files) {
     files.refused("range-begins-at-footer", footer, expect(11, 3));
     let past = begin(one_edge(), 3, one_edge().size());
     files.refused("range-begins-past-file", past, expect(11, 3));
-    // What is lawful at the end of one row is too much for rows before it, but
-    // they are the ones to be told.
+    // Each row in turn goes on one byte into the footer. It is told itself,
+    // though the row after it then begins too early as well.
     for index in 0..8 {
         let to_end = full().footer_place() - full().offsets()[index];
         let layout = length(full(), index, to_end + 1);
@@ -112,7 +112,7 @@ fn sums(files: &mut Files) {
         both("length-2-to-32-more", offset, right + (1 << 32));
         both("length-2-to-31", offset, 1 << 31);
     }
-    // A sum that comes to the very end of the section before it.
+    // In 64 bits the sum would be the end of the section before it.
     let one_more = one_edge().with(|l| l.sections.push(Section::new(7, *b"skipped")));
     let offset = one_more.offsets()[4];
     let layout = length(begin(one_more, 4, u64::MAX), 4, offset + 1);
