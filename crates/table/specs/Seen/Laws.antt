@@ -23,7 +23,7 @@ use Rattle.table.specs.declared.Seen.{Seen}
 use Rattle.table.specs.declared.Scan.{Scan}
 use Rattle.table.specs.Seen.{unmet, noted, unseen, seenWith, seenFrom, walked, scanOf}
 
-and-assoc : (a b c : Bool) → ((a && b) && c) ≡ (a && (b && c))
+pub and-assoc : (a b c : Bool) → ((a && b) && c) ≡ (a && (b && c))
 and-assoc true b c = refl
 and-assoc false b c = refl
 

@@ -1,0 +1,116 @@
+-- `index::offsets::offsets_check` meets its contract. Invariant: `last` is offset i, it rises, and what is left to check from i on gives the whole.
+use mathlib.Core.Path.{_≡_, _∙_, sym}
+use Prim.Native.Nat.{_+_, _-_, _*_, _≤_}
+use native.Mathlib.Nat.{sub-zero, mul-le-mul-right}
+use native.Mathlib.Omega.{arith}
+use mathlib.Core.Bool.{true, false}
+use borrow.Author.Tests.{eq-eqb, ne-eqb}
+use Rattle.frame.specs.Open.{offsetAt, offsetsFrom}
+use Rattle.index.specs.Cases.{rises, first-rises, next-rises, offsets-first, offsets-on, offsets-bad, offsets-end}
+use borrow.Author.Needs.{needs}
+use Rattle.index.proofs.offsets.offsets_check.Statement.{statement}
+use Rattle.index.proofs.offsets.offsets_check.Tie as tie
+
+abbrev Inv-loop : tie.InvT-loop
+Inv-loop offs w n len last₀ i₀ last i = (i ≤ n) × (last ≡ offsetAt offs w i) × (rises offs w i ≡ true) × (offsetsFrom (n + 1 - i) offs w n len i ≡ offsetsFrom (n + 1) offs w n len 0)
+
+abbrev μ-loop : tie.MeasureT-loop
+μ-loop offs w n len last₀ i₀ last i = n - i
+
+offset-at-requires : tie.Need-offset-at-requires Inv-loop μ-loop
+offset-at-requires c κs = search needs
+
+refused-requires : tie.Need-refused-requires Inv-loop μ-loop
+refused-requires c κs = search needs
+
+returns : tie.Need-returns Inv-loop μ-loop
+returns c =
+    let a = c .before .before .before .before .args in
+    let first = c .before .before .offset-at .ensures .0 in
+    c .refused .ensures ∙ sym (offsets-first (a .offs .now) (a .w) (a .n) (a .len) (λ q. c .before .if1 .taken (first ∙ q)))
+
+loop-holds : tie.Need-loop-holds Inv-loop μ-loop
+loop-holds c =
+    let a = c .before .before .before .args in
+    let first = c .before .offset-at .ensures .0 in
+    (omega arith, first, first-rises (a .offs .now) (a .w) (sym first ∙ c .if1 .left), rw sub-zero)
+
+add-offset-at : tie.Need-add-offset-at Inv-loop μ-loop
+add-offset-at c = search needs
+
+offset-at-requires-2 : tie.Need-offset-at-requires-2 Inv-loop μ-loop
+offset-at-requires-2 c κs =
+    let a = c .before .before .before .before .before .args in
+    let l = c .before .loop in
+    let m : (l .i + 2) * a .w ≤ (a .n + 1) * a .w = mul-le-mul-right (a .w) (omega arith) in
+    (omega arith, omega arith, omega arith, omega arith)
+
+add-refused : tie.Need-add-refused Inv-loop μ-loop
+add-refused c = search needs
+
+refused-requires-2 : tie.Need-refused-requires-2 Inv-loop μ-loop
+refused-requires-2 c κs = search needs
+
+returns-2 : tie.Need-returns-2 Inv-loop μ-loop
+returns-2 c =
+    let a = c .before .before .before .before .before .before .before .before .args in
+    let l = c .before .before .before .before .loop in
+    c .refused2 .ensures
+    ∙ sym (offsets-bad (a .offs .now) (a .w) (a .n) (a .len) (l .i) (omega arith) (l .inv .2) (omega arith))
+    ∙ l .inv .3
+
+add-i : tie.Need-add-i Inv-loop μ-loop
+add-i c = omega arith
+
+loop-less : tie.Need-loop-less Inv-loop μ-loop
+loop-less c = omega arith
+
+loop-again : tie.Need-loop-again Inv-loop μ-loop
+loop-again c =
+    let a = c .before .before .before .before .before .before .before .args in
+    let l = c .before .before .before .loop in
+    let next = c .before .offset-at2 .ensures .0 in (
+      omega arith,
+      next,
+      next-rises (a .offs .now) (a .w) (l .i) (omega arith),
+      sym (offsets-on (a .offs .now) (a .w) (a .n) (a .len) (l .i) (omega arith) (l .inv .2)) ∙ l .inv .3,
+    )
+
+refused-requires-3 : tie.Need-refused-requires-3 Inv-loop μ-loop
+refused-requires-3 c κs = search needs
+
+returns-3 : tie.Need-returns-3 Inv-loop μ-loop
+returns-3 c =
+    let a = c .before .before .before .before .before .before .before .args in
+    let l = c .before .before .before .loop in
+    let ne = ne-eqb _ _ (λ q. c .before .if3 .taken (l .inv .1 ∙ q)) in
+    c .refused3 .ensures ∙ sym (offsets-end (a .offs .now) (a .w) (a .n) (a .len) (l .i) (omega arith) (l .inv .2) false ne) ∙ l .inv .3
+
+returns-4 : tie.Need-returns-4 Inv-loop μ-loop
+returns-4 c =
+    let a = c .before .before .before .before .before .before .args in
+    let l = c .before .before .loop in
+    let eq = eq-eqb _ _ (sym (l .inv .1) ∙ c .if3 .left) in
+    sym (offsets-end (a .offs .now) (a .w) (a .n) (a .len) (l .i) (omega arith) (l .inv .2) true eq) ∙ l .inv .3
+
+pub offsets-check-spec : {M : Type 1} → statement M
+offsets-check-spec =
+    tie.close
+    (tie.spec
+    Inv-loop
+    μ-loop
+    offset-at-requires
+    refused-requires
+    returns
+    loop-holds
+    add-offset-at
+    offset-at-requires-2
+    add-refused
+    refused-requires-2
+    returns-2
+    add-i
+    loop-less
+    loop-again
+    refused-requires-3
+    returns-3
+    returns-4)

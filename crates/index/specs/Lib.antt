@@ -1,0 +1,4 @@
+pub mod Compare
+pub mod Cases
+pub mod Order
+pub mod Find

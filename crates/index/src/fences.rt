@@ -1,0 +1,79 @@
+// Fences: every stride-th key, with its place among the keys. Rule 15.
+ghost use mathlib.Core.Path.{_≡_};
+ghost use Prim.Native.Nat.{_+_, _*_, _≤_, _<_};
+ghost use lib.ListN.{length};
+ghost use lib.Dec.{eqb};
+ghost use Rattle.codes.specs.Ids.{numberOf};
+ghost use Rattle.frame.specs.Open.{fenceGood, fencesFrom, fencesGood};
+use super::keys::key_at;
+use codes::ids::Id;
+use codes::ids::Order;
+use codes::ids::compare;
+use codes::ids::id_at;
+use codes::little::le32;
+use codes::little::le64;
+use frame::Row;
+
+// Are a and b one id?
+fn same(a: Id, b: Id) -> bool
+    ensures { λ r. ⌜ r ≡ eqb (numberOf a) (numberOf b) ⌝ }
+{
+    match compare(a, b) {
+        Order::Less => false,
+        Order::Equal => true,
+        Order::Greater => false,
+    }
+}
+
+// Is fence i key i * stride, and its place?
+fn fence_good(x: &[u8], keys: &[u8], stride: usize, i: usize) -> bool
+    requires { ⌜ (i ≤ 16777216) × (i * stride ≤ 16777216) × (32 + 24 * i ≤ length (now x)) × (i * stride * 16 + 16 ≤ length (now keys)) ⌝ }
+    ensures { λ r. ⌜ r ≡ fenceGood (now (x .entry)) (now (keys .entry)) stride i ⌝ }
+{
+    let k = i * stride;
+    let at = (Row::FENCES_HEAD as usize) + (Row::FENCE as usize) * i;
+    if !same(id_at(x, at), key_at(keys, k)) {
+        return false;
+    }
+    let place = le64(x, at + (Row::KEY as usize));
+    place == Row::KEY * (k as u64)
+}
+
+// Are all `count` fences good? The last of them is still one of the n keys.
+fn all_good(x: &[u8], keys: &[u8], n: usize, stride: usize, count: usize) -> bool
+    requires { ⌜ (n ≤ 16777216) × (count ≤ n) × (count * stride < n + stride) × (8 + 24 * count ≤ length (now x)) × (n * 16 ≤ length (now keys)) ⌝ }
+    ensures { λ r. ⌜ r ≡ fencesFrom count (now (x .entry)) (now (keys .entry)) stride 0 ⌝ }
+{
+    let mut i: usize = 0;
+    while i < count {
+        if !fence_good(x, keys, stride, i) {
+            return false;
+        }
+        i = i + 1;
+    }
+    true
+}
+
+// Rule 15: the stride is at least 1, the count is that of n keys divided by the stride, rounded up, the fences fill the
+// section x, and each is good.
+pub fn fences_good(x: &[u8], keys: &[u8], n: usize) -> bool
+    requires { ⌜ (n ≤ 16777216) × (n * 16 ≤ length (now keys)) ⌝ }
+    ensures { λ r. ⌜ r ≡ fencesGood (now (x .entry)) (now (keys .entry)) n ⌝ }
+{
+    let head = Row::FENCES_HEAD as usize;
+    if x.len() < head {
+        return false;
+    }
+    let stride = le32(x, 0) as usize;
+    if stride < 1 {
+        return false;
+    }
+    let count = le32(x, 4) as usize;
+    if count != (n + (stride - 1)) / stride {
+        return false;
+    }
+    if x.len() != head + (Row::FENCE as usize) * count {
+        return false;
+    }
+    all_good(x, keys, n, stride, count)
+}
