@@ -12,6 +12,7 @@ use Rattle.codes.specs.declared.ids.Id.{Id}
 use Rattle.codes.specs.Ids.{idAt, numberOf, halvesAt, order}
 use Rattle.codes.specs.Ids.Laws.{less, greater, equal, number-halves}
 
+-- a number is below another, equal to it or above it
 pub tri {ℓ} : {X : Type ℓ} (m n : ℕ) → (m < n → X) → (m ≡ n → X) → (n < m → X) → X
 tri m n f g h = elim (decLt m n) [ yes a ↦ f a | no a ↦ elim (decLt n m) [ yes b ↦ h b | no b ↦ g (omega arith) ] ]
 

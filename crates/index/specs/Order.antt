@@ -14,11 +14,12 @@ use Rattle.frame.specs.Open.{keyAt, keysFrom, offsetAt, offsetGood, offsetsFrom
 use Rattle.index.specs.Compare.{tri}
 use Rattle.index.specs.Cases.{rises}
 
--- ---- keys
+-- ---- keys: n of them
 
 abbrev pub Rising : List ℕ → ℕ → Type 0
 Rising s n = (i j : ℕ) → i < j → j < n → keyAt s i < keyAt s j
 
+-- of d keys from k on, each is above the one before
 keys-above : (d : ℕ) (s : List ℕ) (k : ℕ) → keysFrom d s k ≡ Check.Fine → (j : ℕ) → k ≤ j → j < k + d → keyAt s (j - 1) < keyAt s j
 unfolding keysFrom
 keys-above zero s k e j a b = absurd (omega arith)
@@ -44,7 +45,7 @@ module _ (s : List ℕ) (n : ℕ) (up : Rising s n) where
   pub key-once : (i j : ℕ) → i < n → j < n → keyAt s i ≡ keyAt s j → i ≡ j
   key-once i j h g e = tri i j (λ l. absurd (omega (arith, up i j l g))) (λ q. q) (λ l. absurd (omega (arith, up j i l h)))
 
--- ---- offsets
+-- ---- offsets: n + 1 of them, of w bytes, into partners of len bytes
 
 pub record Offsets (o : List ℕ) (w n len : ℕ) : Type 0 where
   pub first : offsetAt o w 0 ≡ 0
@@ -53,6 +54,7 @@ pub record Offsets (o : List ℕ) (w n len : ℕ) : Type 0 where
   pub within : (i : ℕ) → i ≤ n → offsetAt o w i ≤ len
 
 module _ (o : List ℕ) (w n len : ℕ) where
+  -- of d offsets from i on, each is good
   offsets-good : (d i : ℕ) → offsetsFrom d o w n len i ≡ Check.Fine → (j : ℕ) → i ≤ j → j < i + d → offsetGood o w n len j ≡ true
   unfolding offsetsFrom
   offsets-good zero i e j a b = absurd (omega arith)
@@ -61,7 +63,7 @@ module _ (o : List ℕ) (w n len : ℕ) where
       let others = offsets-good d (i + 1) (p .1) j in
       tri i j (λ lt. others (omega arith) (omega arith)) (λ eq. (rw eq at (p .0))) (λ gt. absurd (omega arith))
 
-  -- a good offset rises, and the last one is len
+  -- a good offset rises, and a good last one is len
   good-rises : (i : ℕ) → offsetGood o w n len i ≡ true → rises o w i ≡ true
   unfolding offsetGood
   good-rises i e = and-parts (rises o w i) (not (eqb i n) || eqb (offsetAt o w i) len) e .0
@@ -77,17 +79,19 @@ module _ (o : List ℕ) (w n len : ℕ) where
       let d : i + 1 - 1 ≡ i = omega arith in
       ltb-true _ _ (rw (ne-eqb (i + 1) 0 (λ q. omega arith), d) at e)
 
+  -- offset i, d before the last
+  within-from : ((i : ℕ) → i < n → offsetAt o w i < offsetAt o w (i + 1)) → (d i : ℕ) → i + d ≡ n → offsetAt o w i ≤ offsetAt o w n
+  within-from up zero i q = let e : i ≡ n = omega arith in rw e (omega arith)
+  within-from up (suc d) i q = omega (arith, up i (omega arith), within-from up d (i + 1) (omega arith))
+
   pub offsets-rise : offsetsFrom (n + 1) o w n len 0 ≡ Check.Fine → Offsets o w n len
   offsets-rise e =
       let good : (i : ℕ) → i ≤ n → offsetGood o w n len i ≡ true = λ i h. offsets-good (n + 1) 0 e i (omega arith) (omega arith) in
       let up : (i : ℕ) → i < n → offsetAt o w i < offsetAt o w (i + 1) = λ i h. rises-above i (good-rises (i + 1) (good (i + 1) (omega arith))) in
       let end : offsetAt o w n ≡ len = good-last (good n (omega arith)) in
-      record { first = eqb-true _ _ (good-rises 0 (good 0 (omega arith))); above = up; last = end; within = below up end }
-    where
-      -- the d-th before the last
-      from : ((i : ℕ) → i < n → offsetAt o w i < offsetAt o w (i + 1)) → offsetAt o w n ≡ len → (d i : ℕ) → i + d ≡ n → offsetAt o w i ≤ len
-      from up end zero i q = let q′ : i ≡ n = omega arith in rw (q′, end) (omega arith)
-      from up end (suc d) i q = omega (arith, up i (omega arith), from up end d (i + 1) (omega arith))
-
-      below : ((i : ℕ) → i < n → offsetAt o w i < offsetAt o w (i + 1)) → offsetAt o w n ≡ len → (i : ℕ) → i ≤ n → offsetAt o w i ≤ len
-      below up end i h = from up end (n - i) i (omega arith)
+      record {
+        first = eqb-true _ _ (good-rises 0 (good 0 (omega arith)));
+        above = up;
+        last = end;
+        within = λ i h. omega (arith, within-from up (n - i) i (omega arith));
+      }

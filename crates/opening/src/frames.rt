@@ -153,3 +153,35 @@ pub fn table_framing(flags: u64, b: &[u8], limit: u64) -> Framing
         Scan::Whole { seen } => judged(flags, b, seen),
     }
 }
+
+// Rules 8 to 12 of a file whose size and footer length are good.
+fn summed(file: &[u8]) -> Framing
+    requires { ⌜ (84 ≤ length (now file)) × (length (now file) ≤ 1073741824) × (39 ≤ footLen (now file)) × (footLen (now file) ≤ length (now file) - 64) ⌝ }
+    ensures { λ r. ⌜ r ≡ framing (sumCheck (now (file .entry)) ⊳ tableCheck (length (now (file .entry)) - footLen (now (file .entry))) (flagsOf (now (file .entry))) (bodyOf (now (file .entry)))) (framedOf (now (file .entry))) ⌝ }
+{
+    match sum_check(file) {
+        Check::Bad { refusal } => refused(refusal),
+        Check::Fine => {
+            let foot = le32(file, file.len() - 12) as usize;
+            let a = file.len() - foot;
+            let e = file.len() - 20;
+            table_framing(le32(file, 12), &file[a..e], a as u64)
+        }
+    }
+}
+
+// Rules 1 to 12 of a file.
+pub fn frame_of(file: &[u8]) -> Framing
+    ensures { λ r. ⌜ r ≡ framing (frameCheck (length (now (file .entry))) (now (file .entry)) (now (file .entry))) (framedOf (now (file .entry))) ⌝ }
+{
+    match size_check(file.len()) {
+        Check::Bad { refusal } => refused(refusal),
+        Check::Fine => match head_check(file) {
+            Check::Bad { refusal: second } => refused(second),
+            Check::Fine => match tail_check(file.len(), file) {
+                Check::Bad { refusal: third } => refused(third),
+                Check::Fine => summed(file),
+            },
+        },
+    }
+}

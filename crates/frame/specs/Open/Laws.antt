@@ -63,19 +63,16 @@ frames-made f s =
     (fine-both (good-fine Refusal.Table (table-made (bodyOf f) (s .table))) (fine-both (s .raw) (fine-both (s .apart) (good-fine Refusal.Counts (s .counts))))))))
 
 -- the size and the footer's length, as numbers
-pub record Sizes (f : List ℕ) : Type 0 where
-  pub low : 84 ≤ length f
-  pub high : length f ≤ 2 ^ 30
-  pub foot : 39 ≤ footLen f
-  pub most : footLen f ≤ length f - 64
+pub size-parts : (n : ℕ) → sizeCheck n ≡ Check.Fine → (84 ≤ n) × (n ≤ 2 ^ 30)
+unfolding sizeCheck
+size-parts n e = let a = either-parts Refusal.Size (ltb n 84) (ltb (2 ^ 30) n) e in (ltb-false n 84 (a .0), ltb-false (2 ^ 30) n (a .1))
 
-pub sizes-of : (f : List ℕ) → sizeCheck (length f) ≡ Check.Fine → tailCheck (length f) f ≡ Check.Fine → Sizes f
-unfolding sizeCheck tailCheck
-sizes-of f p q =
-    let a = either-parts Refusal.Size (ltb (length f) 84) (ltb (2 ^ 30) (length f)) p in
-    let t = fine-parts (refuse Refusal.TailMagic (not (eqb (leAt f (length f - 8) 8) kind.magic))) _ q in
-    let b = either-parts Refusal.FooterLength (ltb (footLen f) 39) (ltb (length f - 64) (footLen f)) (t .1) in
-    record { low = ltb-false _ _ (a .0); high = ltb-false _ _ (a .1); foot = ltb-false _ _ (b .0); most = ltb-false _ _ (b .1) }
+pub tail-parts : (n : ℕ) (t : List ℕ) → tailCheck n t ≡ Check.Fine → (39 ≤ footLen t) × (footLen t ≤ n - 64)
+unfolding tailCheck
+tail-parts n t e =
+    let p = fine-parts (refuse Refusal.TailMagic (not (eqb (leAt t (length t - 8) 8) kind.magic))) _ e in
+    let a = either-parts Refusal.FooterLength (ltb (footLen t) 39) (ltb (n - 64) (footLen t)) (p .1) in
+    (ltb-false (footLen t) 39 (a .0), ltb-false (n - 64) (footLen t) (a .1))
 
 -- the bounds and lengths of rule 12
 pub record Sized (n e bits k o l : ℕ) (marked : Bool) (d : ℕ) : Type 0 where

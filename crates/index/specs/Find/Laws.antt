@@ -17,33 +17,56 @@ use Rattle.index.specs.Find.{middle, turn, findFrom, findIn, comparedOf}
 
 -- ---- by its cases
 
-pub find-from : (s : List ℕ) (n k : ℕ) → findIn s n k ≡ findFrom n s k 0 n 0
-unfolding findIn
-find-from s n k = refl
-
 module _ (s : List ℕ) (k low high c : ℕ) where
-  pub from-none : (d : ℕ) → high ≤ low → findFrom d s k low high c ≡ Found.Absent c
+  from-none : (d : ℕ) → high ≤ low → findFrom d s k low high c ≡ Found.Absent c
   unfolding findFrom
   from-none zero h = refl
   from-none (suc d) h = simp (le-ltb low high h)
 
   module _ (d : ℕ) (h : low < high) where
     from-some : (o : Order) → order (keyAt s (middle low high)) k ≡ o
-        → findFrom (suc d) s k low high c ≡ turn o (findFrom d s k (middle low high + 1) high (c + 1)) (Found.At (middle low high) (c + 1)) (findFrom d s k low (middle low high) (c + 1))
+        → findFrom (suc d) s k low high c ≡ turn o (findFrom d s k (middle low high + 1) high (c + 1))
+        (Found.At (middle low high) (c + 1)) (findFrom d s k low (middle low high) (c + 1))
     unfolding findFrom
     from-some o e = simp (lt-ltb low high h, e)
 
-    pub from-less : order (keyAt s (middle low high)) k ≡ Order.Less → findFrom (suc d) s k low high c ≡ findFrom d s k (middle low high + 1) high (c + 1)
+    from-less : order (keyAt s (middle low high)) k ≡ Order.Less → findFrom (suc d) s k low high c ≡ findFrom d s k (middle low high + 1) high (c + 1)
     unfolding turn
     from-less e = from-some Order.Less e
 
-    pub from-equal : order (keyAt s (middle low high)) k ≡ Order.Equal → findFrom (suc d) s k low high c ≡ Found.At (middle low high) (c + 1)
+    from-equal : order (keyAt s (middle low high)) k ≡ Order.Equal → findFrom (suc d) s k low high c ≡ Found.At (middle low high) (c + 1)
     unfolding turn
     from-equal e = from-some Order.Equal e
 
-    pub from-greater : order (keyAt s (middle low high)) k ≡ Order.Greater → findFrom (suc d) s k low high c ≡ findFrom d s k low (middle low high) (c + 1)
+    from-greater : order (keyAt s (middle low high)) k ≡ Order.Greater → findFrom (suc d) s k low high c ≡ findFrom d s k low (middle low high) (c + 1)
     unfolding turn
     from-greater e = from-some Order.Greater e
+
+-- ---- as a loop meets them: c keys have been compared, and the turns that are left give the whole answer
+
+abbrev pub Left : List ℕ → ℕ → ℕ → ℕ → ℕ → ℕ → Type 0
+Left s n k low high c = (d : ℕ) × (high - low ≤ d) × (findFrom d s k low high c ≡ findIn s n k)
+
+pub search-start : (s : List ℕ) (n k : ℕ) → Left s n k 0 n 0
+unfolding findIn
+search-start s n k = (n, omega arith, refl)
+
+module _ (s : List ℕ) (n k low high c : ℕ) (l : Left s n k low high c) where
+  pub search-end : high ≤ low → Found.Absent c ≡ findIn s n k
+  search-end h = sym (from-none s k low high c (l .0) h) ∙ l .2
+
+  module _ (h : low < high) where
+    some : findFrom (suc (l .0 - 1)) s k low high c ≡ findIn s n k
+    some = let m = l .1 in let e : l .0 ≡ suc (l .0 - 1) = omega arith in (rw e at (l .2))
+
+    pub search-above : order (keyAt s (middle low high)) k ≡ Order.Less → Left s n k (middle low high + 1) high (c + 1)
+    search-above e = let m = l .1 in (l .0 - 1, omega arith, sym (from-less s k low high c (l .0 - 1) h e) ∙ some)
+
+    pub search-here : order (keyAt s (middle low high)) k ≡ Order.Equal → Found.At (middle low high) (c + 1) ≡ findIn s n k
+    search-here e = sym (from-equal s k low high c (l .0 - 1) h e) ∙ some
+
+    pub search-below : order (keyAt s (middle low high)) k ≡ Order.Greater → Left s n k low (middle low high) (c + 1)
+    search-below e = let m = l .1 in (l .0 - 1, omega arith, sym (from-greater s k low high c (l .0 - 1) h e) ∙ some)
 
 -- ---- the count
 
@@ -107,7 +130,8 @@ onto : {a b : Found} {i : ℕ} → a ≡ b → (c : ℕ) × (b ≡ Found.At i c)
 onto p r = (r .0, p ∙ r .1)
 
 module _ (s : List ℕ) (n : ℕ) (up : Rising s n) where
-  complete-from : (d low high c i : ℕ) → high - low ≤ d → high ≤ n → low ≤ i → i < high → (e : ℕ) × (findFrom d s (keyAt s i) low high c ≡ Found.At i e)
+  complete-from : (d low high c i : ℕ) → high - low ≤ d → high ≤ n → low ≤ i → i < high
+      → (e : ℕ) × (findFrom d s (keyAt s i) low high c ≡ Found.At i e)
   complete-from zero low high c i b hn li ih = absurd (omega arith)
   complete-from (suc d) low high c i b hn li ih =
       let k = keyAt s i in

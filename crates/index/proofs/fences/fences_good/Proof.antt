@@ -32,7 +32,8 @@ returns-3 c =
     let a = c .before .before .before .before .before .before .before .args in
     let stride = c .before .before .before .le32 in
     let count = c .before .le322 in
-    sym (fences-count (a .x .now) (a .keys .now) (a .n) (omega arith) (stride .result) (stride .ensures .0) (omega arith) (count .result) (count .ensures .0) (c .if3 .taken))
+    sym (fences-count (a .x .now) (a .keys .now) (a .n) (omega arith) (stride .result) (stride .ensures .0)
+    (omega arith) (count .result) (count .ensures .0) (c .if3 .taken))
 
 mul-if4 : tie.Need-mul-if4
 mul-if4 c = search needs
@@ -45,7 +46,8 @@ returns-4 c =
     let a = c .before .before .before .before .before .before .before .before .args in
     let stride = c .before .before .before .before .le32 in
     let count = c .before .before .le322 in
-    sym (fences-length (a .x .now) (a .keys .now) (a .n) (omega arith) (stride .result) (stride .ensures .0) (omega arith) (count .result) (count .ensures .0) (c .before .if3 .left) (c .if4 .taken))
+    sym (fences-length (a .x .now) (a .keys .now) (a .n) (omega arith) (stride .result) (stride .ensures .0)
+    (omega arith) (count .result) (count .ensures .0) (c .before .if3 .left) (c .if4 .taken))
 
 all-good-requires : tie.Need-all-good-requires
 all-good-requires c κs =
@@ -60,7 +62,8 @@ returns-5 c =
     let a = c .before .before .before .before .before .before .before .before .before .args in
     let stride = c .before .before .before .before .before .le32 in
     let count = c .before .before .before .le322 in
-    fences-walked (a .x .now) (a .keys .now) (a .n) (omega arith) (stride .result) (stride .ensures .0) (omega arith) (count .result) (count .ensures .0) (c .before .before .if3 .left) (c .before .if4 .left) (c .all-good .ensures)
+    fences-walked (a .x .now) (a .keys .now) (a .n) (omega arith) (stride .result) (stride .ensures .0)
+    (omega arith) (count .result) (count .ensures .0) (c .before .before .if3 .left) (c .before .if4 .left) (c .all-good .ensures)
 
 pub fences-good-spec : {M : Type 1} → statement M
 fences-good-spec =

@@ -1,10 +1,16 @@
 -- `index::keys::above` meets its contract.
+use mathlib.Core.Path.{_≡_}
+use lib.Dec.{ltb}
 use Rattle.codes.specs.declared.ids.Order.{Order}
 use Rattle.codes.specs.Ids.{numberOf}
-use Rattle.index.specs.Compare.{less-is}
+use Rattle.index.specs.Compare.{isLess, less-is}
 use borrow.Author.Needs.{needs}
 use Rattle.index.proofs.keys.above.Statement.{statement}
 use Rattle.index.proofs.keys.above.Tie as tie
+
+-- the comparison answered p
+said : (c : tie.After-compare) (p : Order) → c .compare .result ≡ p → isLess p ≡ ltb (numberOf (c .before .args .a)) (numberOf (c .before .args .b))
+said c p q = less-is (numberOf (c .before .args .a)) (numberOf (c .before .args .b)) p (c .compare .ensures) q
 
 compare-requires : tie.Need-compare-requires
 compare-requires c κs = search needs
@@ -19,13 +25,13 @@ enum-told-3 : tie.Need-enum-told-3
 enum-told-3 c = search needs
 
 returns : tie.Need-returns
-returns c = let a = c .before .before .before .args in less-is (numberOf (a .a)) (numberOf (a .b)) Order.Less (c .before .before .compare .ensures) (c .enum-told .given .1)
+returns c = said (c .before .before) Order.Less (c .enum-told .given .1)
 
 returns-2 : tie.Need-returns-2
-returns-2 c = let a = c .before .before .before .args in less-is (numberOf (a .a)) (numberOf (a .b)) Order.Equal (c .before .before .compare .ensures) (c .enum-told2 .given .1)
+returns-2 c = said (c .before .before) Order.Equal (c .enum-told2 .given .1)
 
 returns-3 : tie.Need-returns-3
-returns-3 c = let a = c .before .before .before .args in less-is (numberOf (a .a)) (numberOf (a .b)) Order.Greater (c .before .before .compare .ensures) (c .enum-told3 .given .1)
+returns-3 c = said (c .before .before) Order.Greater (c .enum-told3 .given .1)
 
 pub above-spec : {M : Type 1} → statement M
 above-spec =

@@ -1,29 +1,36 @@
 -- `index::keys::find` meets its contract. Invariant: the turns that are left give the whole answer.
-use mathlib.Core.Path.{_≡_, _∙_, sym}
-use Prim.Native.Nat.{ℕ, suc, _+_, _-_, _*_, _≤_, _<_}
+use mathlib.Core.Path.{_≡_}
+use Prim.Native.Nat.{_+_, _-_, _*_, _≤_}
 use native.Mathlib.Omega.{arith}
-use mathlib.Core.List.{List}
 use Rattle.codes.specs.declared.ids.Order.{Order}
-use Rattle.codes.specs.Ids.{numberOf}
+use Rattle.codes.specs.Ids.{numberOf, order}
+use Rattle.frame.specs.Open.{keyAt}
 use Rattle.index.specs.Compare.{order-read}
-use Rattle.index.specs.Find.{middle, findFrom, findIn}
-use Rattle.index.specs.Find.Laws.{find-from, from-none, from-less, from-equal, from-greater}
+use Rattle.index.specs.Find.{middle}
+use Rattle.index.specs.Find.Laws.{Left, search-start, search-end, search-above, search-here, search-below}
 use borrow.Author.Needs.{needs}
 use Rattle.index.proofs.keys.find.Statement.{statement}
 use Rattle.index.proofs.keys.find.Tie as tie
 
--- a turn is left while low is below high
-whole : (s : List ℕ) (n k low high c d : ℕ) → high - low ≤ d → findFrom d s k low high c ≡ findIn s n k → low < high → findFrom (suc (d - 1)) s k low high c ≡ findIn s n k
-whole s n k low high c d le w h = let e : d ≡ suc (d - 1) = omega arith in (rw e at w)
-
 abbrev Inv-loop : tie.InvT-loop
-Inv-loop keys n key low₀ high₀ compared₀ low high compared = (high ≤ n) × (compared + (high - low) ≤ n) × ((d : ℕ) × (high - low ≤ d) × (findFrom d keys (numberOf key) low high compared ≡ findIn keys n (numberOf key)))
+Inv-loop keys n key low₀ high₀ compared₀ low high compared =
+    (high ≤ n) × (compared + (high - low) ≤ n) × Left keys n (numberOf key) low high compared
 
 abbrev μ-loop : tie.MeasureT-loop
 μ-loop keys n key low₀ high₀ compared₀ low high compared = high - low
 
+-- the comparison answered p
+said : (c : tie.After-compare Inv-loop μ-loop) (p : Order) → c .compare .result ≡ p →
+    (let a = c .before .before .before .before .before .args in
+    let l = c .before .before .before .loop in
+    order (keyAt (a .keys .now) (middle (l .low) (l .high))) (numberOf (a .key)) ≡ p)
+said c p q =
+    let a = c .before .before .before .before .before .args in
+    let l = c .before .before .before .loop in
+    order-read (a .keys .now) (middle (l .low) (l .high) * 16) (c .before .key-at .ensures) (numberOf (a .key)) p (c .compare .ensures) q
+
 loop-holds : tie.Need-loop-holds Inv-loop μ-loop
-loop-holds c = (omega arith, omega arith, (c .before .args .n, omega arith, sym (find-from (c .before .args .keys .now) (c .before .args .n) (numberOf (c .before .args .key)))))
+loop-holds c = let a = c .before .args in (omega arith, omega arith, search-start (a .keys .now) (a .n) (numberOf (a .key)))
 
 sub-middle : tie.Need-sub-middle Inv-loop μ-loop
 sub-middle c = omega arith
@@ -53,12 +60,8 @@ loop-again : tie.Need-loop-again Inv-loop μ-loop
 loop-again c =
     let a = c .before .before .before .before .before .before .before .args in
     let l = c .before .before .before .before .before .loop in
-    let s = a .keys .now in
-    let k = numberOf (a .key) in
-    let d = l .inv .2 .0 in
-    let w = whole s (a .n) k (l .low) (l .high) (l .compared) d (l .inv .2 .1) (l .inv .2 .2) (c .before .before .before .before .loop-test .taken) in
-    let o = order-read s (middle (l .low) (l .high) * 16) (c .before .before .before .key-at .ensures) k Order.Less (c .before .before .compare .ensures) (c .enum-told .given .1) in
-    (omega arith, omega arith, (d - 1, omega arith, sym (from-less s k (l .low) (l .high) (l .compared) (d - 1) (omega arith) o) ∙ w))
+    let answer = said (c .before .before) Order.Less (c .enum-told .given .1) in
+    (omega arith, omega arith, search-above (a .keys .now) (a .n) (numberOf (a .key)) (l .low) (l .high) (l .compared) (l .inv .2) (omega arith) answer)
 
 enum-told-2 : tie.Need-enum-told-2 Inv-loop μ-loop
 enum-told-2 c = search needs
@@ -70,12 +73,8 @@ loop-again-2 : tie.Need-loop-again-2 Inv-loop μ-loop
 loop-again-2 c =
     let a = c .before .before .before .before .before .before .before .args in
     let l = c .before .before .before .before .before .loop in
-    let s = a .keys .now in
-    let k = numberOf (a .key) in
-    let d = l .inv .2 .0 in
-    let w = whole s (a .n) k (l .low) (l .high) (l .compared) d (l .inv .2 .1) (l .inv .2 .2) (c .before .before .before .before .loop-test .taken) in
-    let o = order-read s (middle (l .low) (l .high) * 16) (c .before .before .before .key-at .ensures) k Order.Greater (c .before .before .compare .ensures) (c .enum-told2 .given .1) in
-    (omega arith, omega arith, (d - 1, omega arith, sym (from-greater s k (l .low) (l .high) (l .compared) (d - 1) (omega arith) o) ∙ w))
+    let answer = said (c .before .before) Order.Greater (c .enum-told2 .given .1) in
+    (omega arith, omega arith, search-below (a .keys .now) (a .n) (numberOf (a .key)) (l .low) (l .high) (l .compared) (l .inv .2) (omega arith) answer)
 
 enum-told-3 : tie.Need-enum-told-3 Inv-loop μ-loop
 enum-told-3 c = search needs
@@ -84,18 +83,14 @@ returns : tie.Need-returns Inv-loop μ-loop
 returns c =
     let a = c .before .before .before .before .before .before .before .args in
     let l = c .before .before .before .before .before .loop in
-    let s = a .keys .now in
-    let k = numberOf (a .key) in
-    let d = l .inv .2 .0 in
-    let w = whole s (a .n) k (l .low) (l .high) (l .compared) d (l .inv .2 .1) (l .inv .2 .2) (c .before .before .before .before .loop-test .taken) in
-    let o = order-read s (middle (l .low) (l .high) * 16) (c .before .before .before .key-at .ensures) k Order.Equal (c .before .before .compare .ensures) (c .enum-told3 .given .1) in
-    sym (from-equal s k (l .low) (l .high) (l .compared) (d - 1) (omega arith) o) ∙ w
+    let answer = said (c .before .before) Order.Equal (c .enum-told3 .given .1) in
+    search-here (a .keys .now) (a .n) (numberOf (a .key)) (l .low) (l .high) (l .compared) (l .inv .2) (omega arith) answer
 
 returns-2 : tie.Need-returns-2 Inv-loop μ-loop
 returns-2 c =
     let a = c .before .before .before .args in
     let l = c .before .loop in
-    sym (from-none (a .keys .now) (numberOf (a .key)) (l .low) (l .high) (l .compared) (l .inv .2 .0) (omega arith)) ∙ l .inv .2 .2
+    search-end (a .keys .now) (a .n) (numberOf (a .key)) (l .low) (l .high) (l .compared) (l .inv .2) (omega arith)
 
 pub find-spec : {M : Type 1} → statement M
 find-spec =

@@ -2,9 +2,11 @@
 use mathlib.Core.Path.{_≡_, _∙_, sym, refl}
 use Prim.Native.Nat.{_+_, _-_, _*_, _≤_}
 use native.Mathlib.Omega.{arith}
+use mathlib.Core.Bool.{Bool, true, false}
+use lib.Dec.{ltb}
 use borrow.Author.Tests.{not-true, not-false}
 use Rattle.codes.specs.Ids.{halvesAt}
-use Rattle.frame.specs.Open.{keysFrom}
+use Rattle.frame.specs.Open.{keyAt, keysFrom}
 use Rattle.index.specs.Compare.{ltb-read}
 use Rattle.index.specs.Cases.{keys-bad, keys-on, keys-none}
 use borrow.Author.Needs.{needs}
@@ -12,10 +14,20 @@ use Rattle.index.proofs.keys.keys_check.Statement.{statement}
 use Rattle.index.proofs.keys.keys_check.Tie as tie
 
 abbrev Inv-loop : tie.InvT-loop
-Inv-loop keys n last₀ k₀ last k = (1 ≤ k) × (k ≤ n) × (last ≡ halvesAt keys ((k - 1) * 16)) × (keysFrom (n - k) keys k ≡ keysFrom (n - 1) keys 1)
+Inv-loop keys n last₀ k₀ last k =
+    (1 ≤ k) × (k ≤ n) × (last ≡ halvesAt keys ((k - 1) * 16)) × (keysFrom (n - k) keys k ≡ keysFrom (n - 1) keys 1)
 
 abbrev μ-loop : tie.MeasureT-loop
 μ-loop keys n last₀ k₀ last k = n - k
+
+-- what `above` answered, of the keys
+said : (c : tie.After-above Inv-loop μ-loop) (b : Bool) → c .above .result ≡ b →
+    (let s = c .before .before .before .before .before .before .before .args .keys .now in
+    let k = c .before .before .before .loop .k in ltb (keyAt s (k - 1)) (keyAt s k) ≡ b)
+said c b q =
+    let s = c .before .before .before .before .before .before .before .args .keys .now in
+    let l = c .before .before .before .loop in
+    ltb-read s ((l .k - 1) * 16) (l .inv .2) s (l .k * 16) (c .before .key-at2 .ensures) (c .above .ensures) q
 
 returns : tie.Need-returns Inv-loop μ-loop
 returns c = sym (keys-none (c .before .before .args .keys .now) (c .before .before .args .n) 1 (omega arith))
@@ -36,8 +48,7 @@ returns-2 : tie.Need-returns-2 Inv-loop μ-loop
 returns-2 c =
     let a = c .before .before .before .before .before .before .before .before .args in
     let l = c .before .before .before .before .loop in
-    let e = ltb-read (a .keys .now) ((l .k - 1) * 16) (l .inv .2) (a .keys .now) (l .k * 16) (c .before .before .key-at2 .ensures) (c .before .above .ensures) (not-true _ (c .if2 .taken)) in
-    sym (keys-bad (a .keys .now) (a .n) (l .k) (omega arith) e) ∙ l .inv .3
+    sym (keys-bad (a .keys .now) (a .n) (l .k) (omega arith) (said (c .before) false (not-true _ (c .if2 .taken)))) ∙ l .inv .3
 
 add-k : tie.Need-add-k Inv-loop μ-loop
 add-k c = omega arith
@@ -49,9 +60,12 @@ loop-again : tie.Need-loop-again Inv-loop μ-loop
 loop-again c =
     let a = c .before .before .before .before .before .before .before .before .args in
     let l = c .before .before .before .before .loop in
-    let e = ltb-read (a .keys .now) ((l .k - 1) * 16) (l .inv .2) (a .keys .now) (l .k * 16) (c .before .before .key-at2 .ensures) (c .before .above .ensures) (not-false _ (c .if2 .left)) in
-    let back : l .k + 1 - 1 ≡ l .k = omega arith in
-    (omega arith, omega arith, rw back (c .before .before .key-at2 .ensures), sym (keys-on (a .keys .now) (a .n) (l .k) (omega arith) e) ∙ l .inv .3)
+    let back : l .k + 1 - 1 ≡ l .k = omega arith in (
+      omega arith,
+      omega arith,
+      rw back (c .before .before .key-at2 .ensures),
+      sym (keys-on (a .keys .now) (a .n) (l .k) (omega arith) (said (c .before) true (not-false _ (c .if2 .left)))) ∙ l .inv .3,
+    )
 
 returns-3 : tie.Need-returns-3 Inv-loop μ-loop
 returns-3 c =

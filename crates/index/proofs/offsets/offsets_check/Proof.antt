@@ -12,7 +12,9 @@ use Rattle.index.proofs.offsets.offsets_check.Statement.{statement}
 use Rattle.index.proofs.offsets.offsets_check.Tie as tie
 
 abbrev Inv-loop : tie.InvT-loop
-Inv-loop offs w n len last₀ i₀ last i = (i ≤ n) × (last ≡ offsetAt offs w i) × (rises offs w i ≡ true) × (offsetsFrom (n + 1 - i) offs w n len i ≡ offsetsFrom (n + 1) offs w n len 0)
+Inv-loop offs w n len last₀ i₀ last i =
+    (i ≤ n) × (last ≡ offsetAt offs w i) × (rises offs w i ≡ true)
+    × (offsetsFrom (n + 1 - i) offs w n len i ≡ offsetsFrom (n + 1) offs w n len 0)
 
 abbrev μ-loop : tie.MeasureT-loop
 μ-loop offs w n len last₀ i₀ last i = n - i
