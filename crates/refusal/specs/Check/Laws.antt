@@ -17,6 +17,13 @@ fine-parts (Check.Bad r) b e = let z : _≡_ {A = ℕ} 0 1 = cc in absurd (omega
 pub fine-both : {a b : Check} → a ≡ Check.Fine → b ≡ Check.Fine → a ⊳ b ≡ Check.Fine
 fine-both e d = rw (e, d)
 
+-- a chain stops at the first that is broken, and goes on past one that is fine
+pub bad-then : {a : Check} (b : Check) {r : Refusal} → a ≡ Check.Bad r → a ⊳ b ≡ Check.Bad r
+bad-then b e = rw e
+
+pub fine-then : {a : Check} (b : Check) → a ≡ Check.Fine → a ⊳ b ≡ b
+fine-then b e = rw e
+
 pub then-assoc : (a b c : Check) → (a ⊳ b) ⊳ c ≡ a ⊳ (b ⊳ c)
 then-assoc Check.Fine b c = refl
 then-assoc (Check.Bad r) b c = refl

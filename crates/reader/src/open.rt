@@ -1,0 +1,94 @@
+// Opening a file: rules 1 to 15.
+ghost use mathlib.Core.Path.{_≡_};
+ghost use mathlib.Core.Bool.{not, _&&_};
+ghost use Prim.Native.Nat.{_+_, _-_, _*_, _≤_};
+ghost use lib.ListN.{length};
+ghost use Rattle.refusal.specs.declared.Refusal.{Refusal};
+ghost use Rattle.refusal.specs.Check.{_⊳_, refuse};
+ghost use Rattle.frame.specs.Open.{keysFrom, offsetsFrom, fencesGood, knownOf, bytesAt, contentCheck, openOf};
+ghost use Rattle.reader.specs.Fit.{Fit};
+use super::section::bytes_of;
+use frame::Framed;
+use frame::Framing;
+use frame::Opening;
+use index::fences::fences_good;
+use index::keys::keys_check;
+use index::offsets::offsets_check;
+use opening::frames::frame_of;
+use refusal::Check;
+use refusal::Refusal;
+
+// Rule 15.
+fn fence_check(fenced: bool, fences: &[u8], keys: &[u8], n: usize) -> Check
+    requires { ⌜ (n ≤ 16777216) × (n * 16 ≤ length (now keys)) ⌝ }
+    ensures { λ r. ⌜ r ≡ refuse Refusal.Fences (fenced && not (fencesGood (now (fences .entry)) (now (keys .entry)) n)) ⌝ }
+{
+    if !fenced {
+        return Check::Fine;
+    }
+    if fences_good(fences, keys, n) {
+        return Check::Fine;
+    }
+    let refusal = Refusal::Fences;
+    Check::Bad { refusal }
+}
+
+// Rules 13 to 15: keys, offsets of w bytes into a partner section of `len` bytes, fences.
+fn content_check(
+    keys: &[u8],
+    offsets: &[u8],
+    fenced: bool,
+    fences: &[u8],
+    n: usize,
+    w: usize,
+    len: u64,
+) -> Check
+    requires { ⌜ (n ≤ 16777216) × (n * 16 ≤ length (now keys)) × (3 ≤ w) × (w ≤ 6) × ((n + 1) * w ≤ length (now offsets)) ⌝ }
+    ensures { λ r. ⌜ r ≡ keysFrom (n - 1) (now (keys .entry)) 1 ⊳ offsetsFrom (n + 1) (now (offsets .entry)) w n len 0 ⊳ refuse Refusal.Fences (fenced && not (fencesGood (now (fences .entry)) (now (keys .entry)) n)) ⌝ }
+{
+    match keys_check(keys, n) {
+        Check::Bad { refusal } => Check::Bad { refusal },
+        Check::Fine => match offsets_check(offsets, w, n, len) {
+            Check::Bad { refusal: later } => Check::Bad { refusal: later },
+            Check::Fine => fence_check(fenced, fences, keys, n),
+        },
+    }
+}
+
+// The same of a file whose frame is known.
+fn content_of(file: &[u8], x: Framed) -> Check
+    requires { ⌜ Fit (length (now file)) x ⌝ }
+    ensures { λ r. ⌜ r ≡ contentCheck (knownOf (now (file .entry)) (x .opened)) (x .fenced) (bytesAt (now (file .entry)) (x .fences)) ⌝ }
+{
+    let o = x.opened;
+    let keys = o.keys;
+    let offsets = o.offsets;
+    let partners = o.partners;
+    let fences = x.fences;
+    let len = bytes_of(file, partners).len() as u64;
+    content_check(
+        bytes_of(file, keys),
+        bytes_of(file, offsets),
+        x.fenced,
+        bytes_of(file, fences),
+        o.keycount as usize,
+        (o.bits / 8) as usize,
+        len,
+    )
+}
+
+// What opening gives for any bytes: where the sections lie and the counts, or the first refusal.
+pub fn open(file: &[u8]) -> Opening
+    ensures { λ r. ⌜ r ≡ openOf (now (file .entry)) ⌝ }
+{
+    match frame_of(file) {
+        Framing::Refused { refusal } => Opening::Refused { refusal },
+        Framing::Good { framed } => match content_of(file, framed) {
+            Check::Bad { refusal: later } => Opening::Refused { refusal: later },
+            Check::Fine => {
+                let opened = framed.opened;
+                Opening::Good { opened }
+            }
+        },
+    }
+}
