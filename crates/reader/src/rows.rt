@@ -1,0 +1,85 @@
+// The section table of a file, entry by entry.
+ghost use mathlib.Core.Path.{_≡_};
+ghost use Prim.Native.Nat.{_+_, _≤_};
+ghost use lib.ListN.{length};
+ghost use Rattle.reader.specs.declared.rows.Section.{Section};
+ghost use Rattle.reader.specs.Rows.{moved, rowIn, rowOf};
+use codes::little::byte;
+use codes::little::le16;
+use codes::little::le32;
+use frame::Row;
+use table::row_at;
+
+// An entry, or none of that number.
+pub enum Section {
+    Entry { row: Row },
+    Missing,
+}
+
+// The entry with its name's place counted from the file's first byte; `at` is where the footer body begins.
+fn placed(at: u64, r: Row) -> Section
+    requires { ⌜ (at ≤ 1073741824) × (r .nameat ≤ 1073741824) ⌝ }
+    ensures { λ s. ⌜ s ≡ Section.Entry (moved at r) ⌝ }
+{
+    let row = Row {
+        kind: r.kind,
+        codec: r.codec,
+        namelen: r.namelen,
+        nameat: at + r.nameat,
+        start: r.start,
+        len: r.len,
+        sum: r.sum,
+    };
+    Section::Entry { row }
+}
+
+// Entry i of a footer body b that begins at `at`.
+fn row_in(at: u64, b: &[u8], i: usize) -> Section
+    requires { ⌜ (at ≤ 1073741824) × (2 ≤ length (now b)) × (length (now b) ≤ 1073741824) ⌝ }
+    ensures { λ s. ⌜ s ≡ rowIn at (now (b .entry)) i ⌝ }
+{
+    let count = le16(b, 0) as usize;
+    if count <= i {
+        return Section::Missing;
+    }
+    let mut p: usize = 2;
+    let mut k: usize = 0;
+    while k < i {
+        if b.len() < p + Row::ENTRY {
+            return Section::Missing;
+        }
+        p = p + Row::ENTRY + byte(b, p + 3) as usize;
+        k = k + 1;
+    }
+    if b.len() < p + Row::ENTRY {
+        return Section::Missing;
+    }
+    let name = byte(b, p + 3) as usize;
+    if b.len() < p + Row::ENTRY + name {
+        return Section::Missing;
+    }
+    placed(at, row_at(b, p))
+}
+
+// Entry i of a file's section table, for any bytes: missing where the footer holds no such entry.
+pub fn section_at(file: &[u8], i: usize) -> Section
+    ensures { λ s. ⌜ s ≡ rowOf (now (file .entry)) i ⌝ }
+{
+    let size = file.len();
+    if size < 84 {
+        return Section::Missing;
+    }
+    if 1073741824 < size {
+        return Section::Missing;
+    }
+    let foot = le32(file, size - 12) as usize;
+    if foot < 39 {
+        return Section::Missing;
+    }
+    if size - 64 < foot {
+        return Section::Missing;
+    }
+    let a = size - foot;
+    let e = size - 20;
+    row_in(a as u64, &file[a..e], i)
+}
