@@ -106,14 +106,14 @@ fn refuse_at(number: u8, faulty: Option<usize>) -> Result<(), Refusal> {
 }
 
 /// The bytes of a range that lies in the file.
-fn bytes_of(file: &[u8], range: Range) -> &[u8] {
+pub fn bytes_of(file: &[u8], range: Range) -> &[u8] {
     let begin = range.offset as usize;
     &file[begin..begin + range.length as usize]
 }
 
 impl Range {
     /// A sum that may pass 2^64.
-    fn end(&self) -> u128 {
+    pub fn end(&self) -> u128 {
         u128::from(self.offset) + u128::from(self.length)
     }
 }

@@ -1,9 +1,9 @@
--- `opening::counts::alike` meets its contract.
+-- `counts::alike` meets its contract.
 use mathlib.Core.Path.{_≡_, refl}
 use mathlib.Core.Bool.{Bool, true, false, Bool·beq}
 use borrow.Author.Needs.{needs}
-use Rattle.opening.proofs.counts.alike.Statement.{statement}
-use Rattle.opening.proofs.counts.alike.Tie as tie
+use Rattle.counts.proofs.alike.Statement.{statement}
+use Rattle.counts.proofs.alike.Tie as tie
 
 beq-true : (b : Bool) → b ≡ Bool·beq true b
 beq-true true = refl

@@ -1,7 +1,7 @@
--- `opening::counts::edges_good` meets its contract.
+-- `counts::edges_good` meets its contract.
 use borrow.Author.Tests.{eq-eqb, ne-eqb}
-use Rattle.opening.proofs.counts.edges_good.Statement.{statement}
-use Rattle.opening.proofs.counts.edges_good.Tie as tie
+use Rattle.counts.proofs.edges_good.Statement.{statement}
+use Rattle.counts.proofs.edges_good.Tie as tie
 
 returns : tie.Need-returns
 returns c = simp (ne-eqb (c .before .args .n) 0 (c .if1 .taken))

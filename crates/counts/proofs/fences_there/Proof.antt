@@ -1,7 +1,7 @@
--- `opening::counts::fences_there` meets its contract.
+-- `counts::fences_there` meets its contract.
 use borrow.Author.Tests.{le-leb, lt-leb}
-use Rattle.opening.proofs.counts.fences_there.Statement.{statement}
-use Rattle.opening.proofs.counts.fences_there.Tie as tie
+use Rattle.counts.proofs.fences_there.Statement.{statement}
+use Rattle.counts.proofs.fences_there.Tie as tie
 
 returns : tie.Need-returns
 returns c = simp (le-leb (c .before .args .n) 65536 (c .if1 .taken))

@@ -1,4 +1,4 @@
--- `opening::counts::presence_good` meets its contract.
+-- `counts::presence_good` meets its contract.
 use mathlib.Core.Path.{_≡_, sym, ap, _∙_}
 use Prim.Native.Nat.{_/_, _%_}
 use mathlib.Core.Bool.{Bool, true, false, not, _||_, Bool·beq}
@@ -7,8 +7,8 @@ use borrow.Author.Tests.{le-leb, lt-leb, not-true, not-false}
 use Rattle.frame.specs.Frame.{presenceGood}
 use native.Mathlib.Omega.{arith}
 use borrow.Author.Needs.{needs}
-use Rattle.opening.proofs.counts.presence_good.Statement.{statement}
-use Rattle.opening.proofs.counts.presence_good.Tie as tie
+use Rattle.counts.proofs.presence_good.Statement.{statement}
+use Rattle.counts.proofs.presence_good.Tie as tie
 
 returns : tie.Need-returns
 unfolding presenceGood

@@ -1,8 +1,8 @@
--- `opening::counts::width_good` meets its contract.
+-- `counts::width_good` meets its contract.
 use borrow.Author.Tests.{eq-eqb, ne-eqb}
 use native.Mathlib.Omega.{arith}
-use Rattle.opening.proofs.counts.width_good.Statement.{statement}
-use Rattle.opening.proofs.counts.width_good.Tie as tie
+use Rattle.counts.proofs.width_good.Statement.{statement}
+use Rattle.counts.proofs.width_good.Tie as tie
 
 returns : tie.Need-returns
 returns c = let b = c .before .args .bits in simp (eq-eqb b 24 (omega arith))

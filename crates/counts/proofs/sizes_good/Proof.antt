@@ -1,4 +1,4 @@
--- `opening::counts::sizes_good` meets its contract.
+-- `counts::sizes_good` meets its contract.
 use mathlib.Core.Path.{_≡_, sym, ap, _∙_}
 use Prim.Native.Nat.{ℕ, _+_, _*_, _/_, _≤_, _<_}
 use native.Mathlib.Nat.{mul-le-mul-left}
@@ -7,8 +7,8 @@ use borrow.Author.Tests.{le-leb, lt-leb, eq-eqb, ne-eqb, not-true, not-false}
 use Rattle.frame.specs.Frame.{widthGood, sizesGood}
 use native.Mathlib.Omega.{arith}
 use borrow.Author.Needs.{needs}
-use Rattle.opening.proofs.counts.sizes_good.Statement.{statement}
-use Rattle.opening.proofs.counts.sizes_good.Tie as tie
+use Rattle.counts.proofs.sizes_good.Statement.{statement}
+use Rattle.counts.proofs.sizes_good.Tie as tie
 
 small : (b : ℕ) → b < 256 → b / 8 ≤ 31
 small b h = omega arith
