@@ -1,6 +1,7 @@
 //! The program's checks of itself: against outside values where there are
 //! any, against a second way to the same result where there are none.
 
+mod lookups;
 mod opening;
 
 use crate::corpus::{self, Record};
@@ -44,6 +45,7 @@ pub fn all() -> Tally {
     check_varint_round_trips(&mut tally);
     check_corpus(&mut tally);
     opening::check(&mut tally);
+    lookups::check(&mut tally);
     tally
 }
 

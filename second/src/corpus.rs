@@ -1,6 +1,7 @@
 //! The vector files: inputs and expected outputs for the programs under test.
 
 mod codes_vectors;
+pub mod lookup_calls;
 pub mod open_files;
 mod record;
 mod xxh3_vectors;
@@ -17,7 +18,16 @@ pub struct VectorFile {
 pub fn files() -> Vec<VectorFile> {
     let records = code_records();
     let opened = open_files::small();
+    let looked_up = lookup_calls::files();
     vec![
+        VectorFile {
+            path: "xxh3_sum/stdin",
+            bytes: xxh3_vectors::sum_input(),
+        },
+        VectorFile {
+            path: "xxh3_sum/stdout",
+            bytes: xxh3_vectors::sum_line().into_bytes(),
+        },
         VectorFile {
             path: "xxh3_vectors/stdout",
             bytes: xxh3_vectors::lines().into_bytes(),
@@ -40,6 +50,14 @@ pub fn files() -> Vec<VectorFile> {
         VectorFile {
             path: "open_corpus/stdout",
             bytes: open_files::stdout(&opened),
+        },
+        VectorFile {
+            path: "lookup_corpus/stdin",
+            bytes: lookup_calls::stdin(&looked_up),
+        },
+        VectorFile {
+            path: "lookup_corpus/stdout",
+            bytes: lookup_calls::stdout(&looked_up),
         },
     ]
 }

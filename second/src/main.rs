@@ -1,5 +1,5 @@
-//! The second program: an independent opinion on checksums, number codes and
-//! the opening of files.
+//! The second program: an independent opinion on checksums, number codes, the
+//! opening of files and the lookup of keys.
 //! See README.md.
 
 mod check;
@@ -8,6 +8,7 @@ mod family;
 mod format;
 mod groups;
 mod layout;
+mod lookup;
 mod numbers;
 mod open;
 mod random;

@@ -37,6 +37,10 @@ rowAt b i = record {
 abbrev pub nextAt : List ℕ → ℕ → ℕ
 nextAt b i = i + kind.entrySize + getD b (i + 3) 0
 
+-- an entry without a name, as kinds 1 to 6 have it
+abbrev pub rawRow : ℕ → ℕ → ℕ → ℕ → Row
+rawRow k start len sum = record { kind = k; codec = 0; namelen = 0; nameat = 0; start = start; len = len; sum = sum }
+
 -- d entries from i on, and the place after them
 unfoldable pub rowsFrom : ℕ → List ℕ → ℕ → List Row
 rowsFrom zero b i = []

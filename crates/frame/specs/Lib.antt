@@ -1,3 +1,5 @@
 pub mod Kind
 pub mod Frame
 pub mod Open
+pub mod Layout
+pub mod Cases

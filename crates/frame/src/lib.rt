@@ -1,6 +1,7 @@
 // The frame of a file: header, section table, footer. Definitions of opening (specs/), and the types that they speak of.
 // The code of the rules stands in the crates above.
 ghost use mathlib.Core.Path.{_≡_};
+ghost use Rattle.frame.specs.Frame.{rawRow};
 use refusal::Refusal;
 
 // Where a section lies.
@@ -53,7 +54,7 @@ impl Row {
 
     // An entry without a name, as kinds 1 to 6 have it.
     pub fn raw(kind: u16, start: u64, len: u64, sum: u64) -> Row
-        ensures { λ r. ⌜ (r .kind ≡ kind) × (r .codec ≡ 0) × (r .namelen ≡ 0) × (r .start ≡ start) × (r .len ≡ len) × (r .sum ≡ sum) ⌝ }
+        ensures { λ r. ⌜ r ≡ rawRow kind start len sum ⌝ }
     {
         Row {
             kind,

@@ -22,7 +22,7 @@ fn bad(refusal: Refusal) -> Check
 }
 
 // Rule 1.
-pub fn size_check(size: usize) -> Check
+pub(crate) fn size_check(size: usize) -> Check
     ensures { λ r. ⌜ r ≡ sizeCheck size ⌝ }
 {
     if size < 84 {
@@ -35,7 +35,7 @@ pub fn size_check(size: usize) -> Check
 }
 
 // Rules 2 to 5, over the first bytes.
-pub fn head_check(h: &[u8]) -> Check
+pub(crate) fn head_check(h: &[u8]) -> Check
     requires { ⌜ 64 ≤ length (now h) ⌝ }
     ensures { λ r. ⌜ r ≡ headCheck (now (h .entry)) ⌝ }
 {
@@ -59,7 +59,7 @@ pub fn head_check(h: &[u8]) -> Check
 }
 
 // Rules 6 and 7, over the last bytes.
-pub fn tail_check(size: usize, t: &[u8]) -> Check
+pub(crate) fn tail_check(size: usize, t: &[u8]) -> Check
     requires { ⌜ (20 ≤ length (now t)) × (64 ≤ size) ⌝ }
     ensures { λ r. ⌜ r ≡ tailCheck size (now (t .entry)) ⌝ }
 {
@@ -78,7 +78,7 @@ pub fn tail_check(size: usize, t: &[u8]) -> Check
 }
 
 // Rule 8.
-pub fn sum_check(t: &[u8]) -> Check
+pub(crate) fn sum_check(t: &[u8]) -> Check
     requires { ⌜ (39 ≤ footLen (now t)) × (footLen (now t) ≤ length (now t)) ⌝ }
     ensures { λ r. ⌜ r ≡ sumCheck (now (t .entry)) ⌝ }
 {

@@ -154,7 +154,7 @@ fn floor_after(limit: u64, floor: u64, r: Row) -> u64
 }
 
 impl Found {
-    pub fn unmet() -> Found
+    fn unmet() -> Found
         ensures { λ f. ⌜ f ≡ unmet ⌝ }
     {
         Found {
@@ -165,7 +165,7 @@ impl Found {
     }
 
     // With one entry more.
-    pub fn noted(self, k: u16, r: Row) -> Found
+    fn noted(self, k: u16, r: Row) -> Found
         ensures { λ f. ⌜ f ≡ noted k self r ⌝ }
     {
         if r.kind != k {
@@ -191,7 +191,7 @@ impl Found {
 }
 
 impl Seen {
-    pub fn unseen() -> Seen
+    fn unseen() -> Seen
         ensures { λ s. ⌜ s ≡ unseen ⌝ }
     {
         Seen {
@@ -210,7 +210,7 @@ impl Seen {
     }
 
     // With entry k more, which is r.
-    pub fn noted(self, limit: u64, k: u64, r: Row) -> Seen
+    fn noted(self, limit: u64, k: u64, r: Row) -> Seen
         ensures { λ s. ⌜ s ≡ seenWith limit k self r ⌝ }
     {
         let codecs = self.codecs;

@@ -11,7 +11,7 @@ mod kinds;
 mod large;
 mod pairs;
 mod ranges;
-mod samples;
+pub(super) mod samples;
 mod sound;
 mod table;
 mod unread;

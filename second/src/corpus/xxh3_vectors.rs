@@ -17,3 +17,12 @@ pub fn lines() -> String {
         .map(|n| format!("{n} {:016x}\n", xxh3_64(&family[..n])))
         .collect()
 }
+
+/// The one input of the program that prints a checksum.
+pub fn sum_input() -> Vec<u8> {
+    family::bytes(1000)
+}
+
+pub fn sum_line() -> String {
+    format!("{:016x}\n", xxh3_64(&sum_input()))
+}

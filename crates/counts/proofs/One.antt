@@ -1,0 +1,13 @@
+-- Each public contract of the crate leaves one result.
+use mathlib.Core.Path.{_≡_, refl, sym, _∙_}
+use Rattle.base.proofs.Determined.{Determined}
+use Rattle.counts.proofs.sizes_good as sizes-good
+use Rattle.counts.proofs.sizes_good.Reads as sizes-good-reads
+use Rattle.counts.proofs.presence_good as presence-good
+use Rattle.counts.proofs.presence_good.Reads as presence-good-reads
+
+pub sizes-good-determined : Determined sizes-good.ended sizes-good-reads.Pre sizes-good-reads.Post
+sizes-good-determined κs a pre r₁ r₂ w₁ w₂ p q = (p ∙ sym q, refl)
+
+pub presence-good-determined : Determined presence-good.ended presence-good-reads.Pre presence-good-reads.Post
+presence-good-determined κs a pre r₁ r₂ w₁ w₂ p q = (p ∙ sym q, refl)

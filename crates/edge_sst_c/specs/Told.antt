@@ -1,0 +1,69 @@
+-- What the C calls tell of the library's answers.
+use mathlib.Core.Path.{_≡_}
+use Prim.Native.Nat.{ℕ}
+use mathlib.Core.Bool.{Bool, true, false}
+use Rattle.refusal.specs.declared.Refusal.{Refusal}
+use Rattle.refusal.specs.Refusal.{numberOf, placeOf}
+use Rattle.frame.specs.declared.Opened.{Opened}
+use Rattle.frame.specs.declared.Opening.{Opening}
+use Rattle.edge_sst_c.specs.declared.EdgeSstOpened.{EdgeSstOpened}
+
+abbrev pub truth : Bool → ℕ
+truth true = 1
+truth false = 0
+
+-- a record, with m for its mark
+abbrev pub recordWith : Opened → ℕ → EdgeSstOpened
+recordWith o m = record {
+  number = 0;
+  place = 0;
+  keystart = o .keys .start;
+  keylen = o .keys .len;
+  offsetstart = o .offsets .start;
+  offsetlen = o .offsets .len;
+  partnerstart = o .partners .start;
+  partnerlen = o .partners .len;
+  logstart = o .logs .start;
+  loglen = o .logs .len;
+  deadstart = o .dead .start;
+  deadlen = o .dead .len;
+  marked = m;
+  keycount = o .keycount;
+  edgecount = o .edgecount;
+  bits = o .bits;
+}
+
+-- a number and a place, without a record
+abbrev pub refusalWith : ℕ → ℕ → EdgeSstOpened
+refusalWith number place = record {
+  number = number;
+  place = place;
+  keystart = 0;
+  keylen = 0;
+  offsetstart = 0;
+  offsetlen = 0;
+  partnerstart = 0;
+  partnerlen = 0;
+  logstart = 0;
+  loglen = 0;
+  deadstart = 0;
+  deadlen = 0;
+  marked = 0;
+  keycount = 0;
+  edgecount = 0;
+  bits = 0;
+}
+
+unfoldable pub openedTold : Opening → EdgeSstOpened
+openedTold (Opening.Good o) = recordWith o (truth (o .marked))
+openedTold (Opening.Refused r) = refusalWith (numberOf r) (placeOf r)
+
+-- ---- laws
+
+pub told-good : (x : Opening) (o : Opened) → x ≡ Opening.Good o → openedTold x ≡ recordWith o (truth (o .marked))
+unfolding openedTold
+told-good x o e = rw e
+
+pub told-refused : (x : Opening) (r : Refusal) → x ≡ Opening.Refused r → openedTold x ≡ refusalWith (numberOf r) (placeOf r)
+unfolding openedTold
+told-refused x r e = rw e

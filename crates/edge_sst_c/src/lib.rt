@@ -1,0 +1,103 @@
+// The calls for C. Each is thin over the library and gives numbers: 0 is no refusal. See include/edge_sst.h.
+ghost use mathlib.Core.Path.{_≡_};
+ghost use Rattle.frame.specs.Open.{openOf};
+ghost use Rattle.refusal.specs.Refusal.{numberOf, placeOf};
+ghost use Rattle.edge_sst_c.specs.Told.{truth, recordWith, refusalWith, openedTold};
+use frame::Opened;
+use frame::Opening;
+use reader::open::open;
+use refusal::Refusal;
+use refusal::told_of;
+
+// The opened record with the refusal's number and place before it; where it is refused, all else is 0.
+#[repr(C)]
+pub struct EdgeSstOpened {
+    pub number: u64,
+    pub place: u64,
+    pub keystart: u64,
+    pub keylen: u64,
+    pub offsetstart: u64,
+    pub offsetlen: u64,
+    pub partnerstart: u64,
+    pub partnerlen: u64,
+    pub logstart: u64,
+    pub loglen: u64,
+    pub deadstart: u64,
+    pub deadlen: u64,
+    pub marked: u64,
+    pub keycount: u64,
+    pub edgecount: u64,
+    pub bits: u64,
+}
+
+fn truth(b: bool) -> u64
+    ensures { λ r. ⌜ r ≡ truth b ⌝ }
+{
+    if b {
+        return 1;
+    }
+    0
+}
+
+fn record_told(o: Opened) -> EdgeSstOpened
+    ensures { λ r. ⌜ r ≡ recordWith o (truth (o .marked)) ⌝ }
+{
+    let keys = o.keys;
+    let offsets = o.offsets;
+    let partners = o.partners;
+    let logs = o.logs;
+    let dead = o.dead;
+    EdgeSstOpened {
+        number: 0,
+        place: 0,
+        keystart: keys.start,
+        keylen: keys.len,
+        offsetstart: offsets.start,
+        offsetlen: offsets.len,
+        partnerstart: partners.start,
+        partnerlen: partners.len,
+        logstart: logs.start,
+        loglen: logs.len,
+        deadstart: dead.start,
+        deadlen: dead.len,
+        marked: truth(o.marked),
+        keycount: o.keycount,
+        edgecount: o.edgecount,
+        bits: o.bits as u64,
+    }
+}
+
+fn refusal_told(r: Refusal) -> EdgeSstOpened
+    ensures { λ x. ⌜ x ≡ refusalWith (numberOf r) (placeOf r) ⌝ }
+{
+    let t = told_of(r);
+    EdgeSstOpened {
+        number: t.number as u64,
+        place: t.place,
+        keystart: 0,
+        keylen: 0,
+        offsetstart: 0,
+        offsetlen: 0,
+        partnerstart: 0,
+        partnerlen: 0,
+        logstart: 0,
+        loglen: 0,
+        deadstart: 0,
+        deadlen: 0,
+        marked: 0,
+        keycount: 0,
+        edgecount: 0,
+        bits: 0,
+    }
+}
+
+// Opens a file.
+#[no_mangle]
+pub extern "C" fn edge_sst_open(file: &[u8]) -> EdgeSstOpened
+    ensures { λ r. ⌜ r ≡ openedTold (openOf (now (file .entry))) ⌝ }
+{
+    match open(file) {
+        Opening::Good { opened } => record_told(opened),
+        Opening::Refused { refusal } => refusal_told(refusal),
+    }
+}

@@ -1,0 +1,225 @@
+//! Refusal 21: records in which one field is another number.
+
+use super::{ask, expect, found, Files, LentRecord, LookupFile};
+use crate::corpus::open_files::samples::{full, one_edge, three_groups};
+use crate::groups;
+use crate::layout::Layout;
+use crate::numbers::{id_of, Id};
+use crate::open::Range;
+use std::collections::BTreeSet;
+
+pub fn add(files: &mut Files) {
+    one_field(files, "edge", one_edge(), &[id_of(1, 2)]);
+    let keys = [id_of(1, 2), id_of(1, 3), id_of(2, 0)];
+    one_field(files, "full", full(), &keys);
+    let layout = groups::layout(&three_groups(), 48);
+    one_field(files, "three48", layout, &keys);
+    products_that_wrap(files);
+}
+
+type RangeOf = fn(&mut LentRecord) -> &mut Range;
+
+const RANGES: [(&str, RangeOf); 5] = [
+    ("keys", |record| &mut record.keys),
+    ("offsets", |record| &mut record.offsets),
+    ("partners", |record| &mut record.partners),
+    ("logs", |record| &mut record.logs),
+    ("dead", |record| &mut record.dead),
+];
+
+/// Numbers that a slip would take for this one.
+fn others(number: u64) -> Vec<u64> {
+    vec![
+        0,
+        1,
+        number.wrapping_sub(1),
+        number.wrapping_add(1),
+        1 << 32,
+        number | 1 << 32,
+        1 << 63,
+        number | 1 << 63,
+        u64::MAX,
+        u64::MAX - 1,
+    ]
+}
+
+fn one_field(files: &mut Files, name: &str, layout: Layout, keys: &[Id]) {
+    let own = LentRecord::of_layout(&layout);
+    let mut fields = Fields {
+        file: files.layout(format!("field-{name}"), &layout),
+        own: own.clone(),
+        keys,
+    };
+    let size = layout.size();
+    for (word, range_of) in RANGES {
+        let Range { offset, length } = *range_of(&mut own.clone());
+        let fixed = word != "partners";
+        let asked = word != "dead" || own.marked;
+
+        let mut starts = others(offset);
+        starts.extend([
+            // The range ends with the file, and one byte and all bytes later.
+            size - length,
+            size - length + 1,
+            size,
+            size + 1,
+            // The sum with the length comes round to 0, 1 and the start.
+            0u64.wrapping_sub(length),
+            1u64.wrapping_sub(length),
+            offset.wrapping_sub(length),
+        ]);
+        fields.each(&format!("{word}-start"), offset, starts, |record, start| {
+            range_of(record).offset = start;
+            let end = u128::from(start) + u128::from(length);
+            asked && end > u128::from(size)
+        });
+
+        let mut lengths = others(length);
+        lengths.extend([
+            size - offset,
+            size - offset + 1,
+            size,
+            0u64.wrapping_sub(offset),
+            1u64.wrapping_sub(offset),
+            length.wrapping_sub(offset),
+        ]);
+        fields.each(
+            &format!("{word}-length"),
+            length,
+            lengths,
+            |record, length| {
+                range_of(record).length = length;
+                let end = u128::from(offset) + u128::from(length);
+                asked && (fixed || end > u128::from(size))
+            },
+        );
+    }
+
+    let mut counts = others(own.key_count);
+    counts.extend([1 << 24, (1 << 24) + 1, 1 << 60, own.key_count | 1 << 60]);
+    fields.each("key-count", own.key_count, counts, |record, count| {
+        record.key_count = count;
+        true
+    });
+    let mut counts = others(own.edge_count);
+    counts.extend([1 << 26, (1 << 26) + 1, 1 << 61, own.edge_count | 1 << 61]);
+    // One byte of tombstones for all of these, but other log numbers.
+    counts.extend([2, 6, 8, 9]);
+    fields.each("edge-count", own.edge_count, counts, |record, count| {
+        record.edge_count = count;
+        true
+    });
+    let bits = [
+        0, 1, 8, 16, 23, 24, 25, 31, 32, 33, 40, 48, 56, 64, 128, 152, 255,
+    ];
+    let own_bits = u64::from(own.offset_bits);
+    fields.each("bits", own_bits, bits.to_vec(), |record, bits| {
+        record.offset_bits = bits as u8;
+        true
+    });
+}
+
+struct Fields<'a> {
+    file: &'a mut LookupFile,
+    own: LentRecord,
+    keys: &'a [Id],
+}
+
+impl Fields<'_> {
+    /// The record with each of these numbers in a field of another number.
+    /// `set` says of each whether it is to be refused.
+    fn each(
+        &mut self,
+        field: &str,
+        right: u64,
+        numbers: Vec<u64>,
+        set: impl Fn(&mut LentRecord, u64) -> bool,
+    ) {
+        let numbers: BTreeSet<u64> = numbers.into_iter().filter(|&n| n != right).collect();
+        for (turn, number) in numbers.into_iter().enumerate() {
+            let mut record = self.own.clone();
+            let refused = set(&mut record, number);
+            let name = format!("{field}-{number}");
+            let question = |key: Id| ask(key).by(&record);
+            let (first, last) = (self.keys[0], self.keys[self.keys.len() - 1]);
+            if refused {
+                // Partners alone ask the same of a record.
+                match turn % 2 {
+                    0 => self.file.full(name, question(first), expect(21, 0)),
+                    _ => self.file.alone(name, question(last), expect(21, 0)),
+                }
+                continue;
+            }
+            for (index, &key) in self.keys.iter().enumerate() {
+                let name = format!("{name}-key-{index}");
+                self.file.full(name, question(key), None);
+            }
+            self.file.alone(name, question(last), None);
+        }
+    }
+}
+
+/// Counts so large that the lengths they give come round to those that stand
+/// there.
+fn products_that_wrap(files: &mut Files) {
+    let layout = groups::layout(&three_groups()[1..2], 48);
+    let own = LentRecord::of_layout(&layout);
+    let file = files.layout("wrap", &layout);
+    let key = id_of(1, 3);
+    file.both("own", ask(key).by(&own), found(1, 0));
+    let mut refused = |name: &str, change: fn(&mut LentRecord)| {
+        let record = own.with(change);
+        file.both(name, ask(key).by(&record), expect(21, 0));
+    };
+    refused("keys-16-times", |r| {
+        r.key_count = 1 << 60;
+        r.keys.length = 0;
+        r.offsets.length = 6;
+    });
+    refused("keys-16-times-and-1", |r| r.key_count |= 1 << 60);
+    refused("keys-and-1", |r| {
+        r.key_count = u64::MAX;
+        r.keys.length = 0u64.wrapping_sub(16);
+        r.offsets.length = 0;
+    });
+    refused("edges-8-times", |r| {
+        r.edge_count = 1 << 61;
+        r.logs.length = 0;
+    });
+    refused("edges-8-times-and-1", |r| r.edge_count |= 1 << 61);
+    refused("edges-rounded-up", |r| {
+        r.edge_count = u64::MAX;
+        r.logs.length = 0u64.wrapping_sub(8);
+        r.marked = true;
+        r.dead.length = 0;
+    });
+    refused("bits-rounded", |r| {
+        r.offset_bits = 52;
+        r.offsets.length = 13;
+    });
+    refused("bits-56", |r| {
+        r.offset_bits = 56;
+        r.offsets.length = 14;
+    });
+    refused("bits-64", |r| {
+        r.offset_bits = 64;
+        r.offsets.length = 16;
+    });
+    refused("bits-16", |r| {
+        r.offset_bits = 16;
+        r.offsets.length = 4;
+    });
+    refused("bits-0", |r| {
+        r.offset_bits = 0;
+        r.offsets.length = 0;
+    });
+    // All ranges are empty, and lie just past the file or at the largest place.
+    for (name, past) in [("past", layout.size() + 1), ("largest", u64::MAX)] {
+        let record = own.with(|r| {
+            (r.key_count, r.edge_count) = (0, 0);
+            r.fit();
+            r.logs.offset = past;
+        });
+        file.both(format!("empty-{name}"), ask(key).by(&record), expect(21, 0));
+    }
+}

@@ -1,0 +1,239 @@
+//! Records whose ranges lie in unlikely places that the rules allow: in header
+//! and footer, at the file's very end, over each other. And offset sections
+//! that are read at another width.
+
+use super::raw::{self, single, DENSE};
+use super::{ask, expect, found, Files, Intended, LentRecord};
+use crate::corpus::open_files::samples::{one_edge, single_groups};
+use crate::format::OFFSET_BITS;
+use crate::groups;
+use crate::numbers::{id_of, Id};
+use crate::open::Range;
+
+pub fn add(files: &mut Files) {
+    in_header_and_footer(files);
+    empty_ranges(files);
+    over_each_other(files);
+    zeros(files);
+    other_widths(files);
+}
+
+fn range(offset: u64, length: u64) -> Range {
+    Range { offset, length }
+}
+
+fn in_header_and_footer(files: &mut Files) {
+    let layout = one_edge();
+    let own = LentRecord::of_layout(&layout);
+    let key = id_of(1, 2);
+    let file = files.layout("places", &layout);
+    let size = file.bytes.len() as u64;
+    let id_at =
+        |bytes: &[u8], at: u64| -> Id { bytes[at as usize..][..16].try_into().expect("16 bytes") };
+
+    let record = own.with(|r| r.partners.length = size - r.partners.offset);
+    file.both("partners-to-the-end", ask(key).by(&record), found(1, 0));
+    let record = own.with(|r| r.partners.length += 1 + size - r.partners.offset);
+    file.both("partners-past-the-end", ask(key).by(&record), expect(21, 0));
+    // The offsets then count from the file's first byte: 84 partners and no tag
+    // that there is.
+    let record = own.with(|r| r.partners = range(0, size));
+    file.both("partners-are-the-file", ask(key).by(&record), expect(16, 0));
+    let record = own.with(|r| r.partners = range(size, 0));
+    file.both(
+        "no-partners-at-the-end",
+        ask(key).by(&record),
+        expect(14, 0),
+    );
+
+    for (word, at) in [
+        ("magic", 0),
+        ("type", 16),
+        ("offsets", own.offsets.offset),
+        ("table", layout.footer_place() + 2),
+        ("end", size - 16),
+    ] {
+        let record = own.with(|r| r.keys.offset = at);
+        let there = id_at(&file.bytes, at);
+        let name = format!("key-in-{word}");
+        file.both(&name, ask(there).by(&record), found(1, 0));
+        let name = format!("key-not-in-{word}");
+        file.both(&name, ask(key).by(&record), Intended::Absent);
+    }
+    for (word, at) in [
+        ("magic", 0),
+        ("label", 41),
+        ("key", own.keys.offset + 4),
+        ("partner", own.partners.offset + 3),
+        ("footer", layout.footer_place()),
+        ("end", size - 8),
+    ] {
+        let record = own.with(|r| r.logs.offset = at);
+        file.both(format!("log-in-{word}"), ask(key).by(&record), found(1, 0));
+    }
+    let record = own.with(|r| r.logs.offset = size - 7);
+    file.both("log-past-the-end", ask(key).by(&record), expect(21, 0));
+    // The first six bytes are no offsets of this partner range.
+    let record = own.with(|r| r.offsets.offset = 0);
+    file.both("offsets-in-magic", ask(key).by(&record), expect(14, 0));
+    // Zeros behind a zero: an empty group.
+    let record = own.with(|r| r.offsets.offset = own.keys.offset);
+    file.both("offsets-in-key", ask(key).by(&record), expect(17, 0));
+}
+
+/// An empty range may lie anywhere up to the file's end.
+fn empty_ranges(files: &mut Files) {
+    let layout = one_edge();
+    let own = LentRecord::of_layout(&layout).with(|r| {
+        (r.key_count, r.edge_count) = (0, 0);
+        r.partners.length = 0;
+        r.fit();
+    });
+    let file = files.layout("empty", &layout);
+    let size = file.bytes.len() as u64;
+    type Place = fn(&mut LentRecord) -> &mut Range;
+    let places: [(&str, Place); 3] = [
+        ("keys", |r| &mut r.keys),
+        ("partners", |r| &mut r.partners),
+        ("logs", |r| &mut r.logs),
+    ];
+    let key = id_of(1, 2);
+    for (word, place) in places {
+        for (at, answer) in [
+            (0, Intended::Absent),
+            (size, Intended::Absent),
+            (size + 1, expect(21, 0)),
+            (1 << 63, expect(21, 0)),
+            (u64::MAX, expect(21, 0)),
+        ] {
+            let record = own.with(|r| place(r).offset = at);
+            file.both(format!("{word}-at-{at}"), ask(key).by(&record), answer);
+        }
+    }
+    for (at, answer) in [(size - 3, Intended::Absent), (size - 2, expect(21, 0))] {
+        let record = own.with(|r| r.offsets.offset = at);
+        file.both(format!("offsets-at-{at}"), ask(key).by(&record), answer);
+    }
+}
+
+/// Bytes that are no file at all, and stand for several things at once.
+fn over_each_other(files: &mut Files) {
+    // A dense group of one partner: 2 and 16 bytes. Then offsets 0 and 18.
+    let partner = id_of(0x0102030405060708, 0x090A0B0C0D0E0F10);
+    let mut bytes = raw::group(1, &[DENSE, &partner]);
+    bytes.extend([0, 0, 0, 18, 0, 0]);
+    let file = files.bytes("overlap", bytes);
+    let record = LentRecord {
+        keys: range(2, 16),
+        offsets: range(18, 6),
+        partners: range(0, 18),
+        logs: range(0, 8),
+        dead: range(0, 1),
+        marked: true,
+        key_count: 1,
+        edge_count: 1,
+        offset_bits: 24,
+    };
+    let own = ask(partner);
+    file.both("one-call", own.clone(), expect(1, 0));
+    file.both("key-is-partner", own.clone().by(&record), found(1, 0));
+    let longer = record.with(|r| r.partners.length = 24);
+    file.both("partners-hold-all", own.clone().by(&longer), found(1, 0));
+    let logs = record.with(|r| r.logs.offset = 16);
+    file.both("log-to-the-end", own.clone().by(&logs), found(1, 0));
+    let dead = record.with(|r| r.dead.offset = 23);
+    file.both("dead-to-the-end", own.clone().by(&dead), found(1, 0));
+    let past = record.with(|r| r.logs.offset = 17);
+    file.both("log-past-the-end", own.clone().by(&past), expect(21, 0));
+    let shifted = record.with(|r| r.keys.offset = 1);
+    file.both("key-shifted", own.clone().by(&shifted), Intended::Absent);
+    let no_edges = record.with(|r| {
+        r.edge_count = 0;
+        r.fit();
+    });
+    file.misplaced("no-edges", own.by(&no_edges), 1, 0);
+
+    // A key whose first bytes are its own offsets, and whose last bytes are
+    // its group.
+    let mut bytes = vec![0, 0, 0, 11, 0];
+    bytes.extend(single(5, 1));
+    let key: Id = bytes[..16].try_into().expect("16 bytes");
+    bytes.push(0);
+    let file = files.bytes("overlap-key", bytes);
+    let record = LentRecord {
+        keys: range(0, 16),
+        offsets: range(0, 6),
+        partners: range(5, 11),
+        logs: range(8, 8),
+        dead: range(3, 1),
+        marked: false,
+        key_count: 1,
+        edge_count: 1,
+        offset_bits: 24,
+    };
+    // The second offset has 1 as its highest byte.
+    file.both("offsets", ask(key).by(&record), expect(14, 0));
+    let mended = record.with(|r| r.partners = range(0, 17));
+    file.both("group-in-key", ask(key).by(&mended), expect(14, 0));
+}
+
+/// Keys that are all zero, and offsets of which none rises.
+fn zeros(files: &mut Files) {
+    let file = files.bytes("zeros", vec![0; 200]);
+    for key_count in [1, 2, 3, 4, 7, 8] {
+        let record = LentRecord {
+            keys: range(0, 0),
+            offsets: range(0, 0),
+            partners: range(200, 0),
+            logs: range(0, 0),
+            dead: range(0, 0),
+            marked: true,
+            key_count,
+            edge_count: 1600,
+            offset_bits: 40,
+        }
+        .with(LentRecord::fit);
+        // More log numbers than the file has bytes.
+        let past = ask([0; 16]).by(&record);
+        file.both(format!("edges-past-{key_count}"), past, expect(21, 0));
+        let record = record.with(|r| {
+            r.edge_count = 25;
+            r.fit();
+        });
+        let question = |key: Id| ask(key).by(&record);
+        // The middle key is met first; its group is empty.
+        let middle = expect(17, key_count / 2);
+        file.both(format!("{key_count}-keys"), question([0; 16]), middle);
+        let name = format!("{key_count}-keys-above");
+        file.both(name, question(id_of(0, 1)), Intended::Absent);
+        let record = record.with(|r| (r.partners.offset, r.partners.length) = (0, 200));
+        let name = format!("{key_count}-keys-whole");
+        file.both(name, ask([0; 16]).by(&record), middle);
+    }
+}
+
+/// Offsets of one width, read at another.
+fn other_widths(files: &mut Files) {
+    for bits in OFFSET_BITS {
+        let groups = single_groups(4);
+        let layout = groups::layout(&groups, bits);
+        let file = files.layout(format!("width-{bits}"), &layout);
+        for read in OFFSET_BITS {
+            let record = LentRecord::of_layout(&layout).with(|r| {
+                r.offset_bits = read;
+                r.fit();
+            });
+            for (index, group) in groups.iter().enumerate() {
+                // Only from 48 bits to 24 the first two offsets are both 0.
+                let answer = match (bits, read) {
+                    _ if bits == read => Some(found(1, index as u64)),
+                    _ if index > 0 => None,
+                    (48, 24) => Some(expect(17, 0)),
+                    _ => Some(expect(14, 0)),
+                };
+                let name = format!("read-{read}-{index}");
+                file.both(name, ask(group.key).by(&record), answer);
+            }
+        }
+    }
+}
