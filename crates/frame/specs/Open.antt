@@ -1,6 +1,6 @@
 -- Opening: what the frame gives, rules 13 to 15 over the contents of the sections, and the answer.
 use Prim.Native.Nat.{ℕ, zero, suc, _+_, _-_, _*_, _/_}
-use mathlib.Core.List.{List}
+use mathlib.Core.List.{List, []}
 use mathlib.Core.Bool.{Bool, true, not, _&&_, _||_}
 use lib.ListN.{length}
 use lib.Dec.{ltb, leb, eqb}
@@ -18,7 +18,7 @@ use Rattle.frame.specs.declared.Framed.{Framed}
 use Rattle.frame.specs.declared.Framing.{Framing}
 use Rattle.frame.specs.declared.Opening.{Opening}
 use Rattle.frame.specs.Kind as kind
-use Rattle.frame.specs.Frame.{rowsOf, keyCount, edgeCount, bitsOf, has, sectionOf, bodyOf, frameCheck}
+use Rattle.frame.specs.Frame.{rowsOf, keyCount, edgeCount, bitsOf, has, sectionOf, sizesGood, bodyOf, frameCheck}
 pub mod Laws
 
 -- ---- what the frame gives: a body b with the rows rs
@@ -46,7 +46,8 @@ recordOf f = recordFrom (bodyOf f) (rowsOf (bodyOf f))
 unfoldable pub framedOf : List ℕ → Framed
 framedOf f = framedFrom (bodyOf f) (rowsOf (bodyOf f))
 
--- ---- what a lookup sees of a file: the bytes of the known sections, the counts, the offset bits
+-- ---- what a lookup sees of a file: the bytes of the known sections, the counts, the offset bits. "Without the section
+-- every edge is live": no tombstones read as none.
 
 pub record Known : Type 0 where
   pub keys : List ℕ
@@ -67,11 +68,23 @@ knownOf f o = record {
   offsets = bytesAt f (o .offsets);
   partners = bytesAt f (o .partners);
   logs = bytesAt f (o .logs);
-  dead = bytesAt f (o .dead);
+  dead = pick (o .marked) (bytesAt f (o .dead)) [];
   keycount = o .keycount;
   edgecount = o .edgecount;
   bits = o .bits;
 }
+
+-- ---- rule 21, which is asked of a lent record: "opened record whose ranges leave the file or whose counts or offset bits
+-- break rule 12's bounds or lengths (edges below keys or without keys isn't asked); its file over 2^30 bytes". Without
+-- tombstones their range is not looked at.
+
+abbrev pub inside : List ℕ → Range → Bool
+inside f p = leb (p .start + p .len) (length f)
+
+unfoldable pub recordGood : List ℕ → Opened → Bool
+recordGood f o =
+    leb (length f) kind.mostBytes && (inside f (o .keys) && (inside f (o .offsets) && (inside f (o .partners) && (inside f (o .logs) && ((not (o .marked) || inside f (o .dead))
+    && sizesGood (o .keycount) (o .edgecount) (o .bits) (o .keys .len) (o .offsets .len) (o .logs .len) (o .marked) (o .dead .len))))))
 
 -- ---- rule 13: d keys from k on, each above the one before
 

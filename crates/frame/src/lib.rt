@@ -1,7 +1,10 @@
 // The frame of a file: header, section table, footer. Definitions of opening (specs/), and the types that they speak of.
 // The code of the rules stands in the crates above.
 ghost use mathlib.Core.Path.{_≡_};
+ghost use Prim.Native.Nat.{_+_, _≤_};
+ghost use lib.ListN.{length};
 ghost use Rattle.frame.specs.Frame.{rawRow};
+ghost use Rattle.frame.specs.Open.{bytesAt};
 use refusal::Refusal;
 
 // Where a section lies.
@@ -98,4 +101,14 @@ pub enum Framing {
 pub enum Opening {
     Good { opened: Opened },
     Refused { refusal: Refusal },
+}
+
+// The bytes of a section that lies within the file.
+pub fn bytes_of<'a>(file: &'a [u8], r: Range) -> &'a [u8]
+    requires { ⌜ r .start + r .len ≤ length (now file) ⌝ }
+    ensures { λ s. ⌜ now s ≡ bytesAt (now (file .entry)) r ⌝ }
+{
+    let a = r.start as usize;
+    let e = a + r.len as usize;
+    &file[a..e]
 }

@@ -3,7 +3,7 @@ use mathlib.Core.Path.{_≡_, refl, sym, ap, _∙_}
 use Prim.Native.Nat.{ℕ, suc, _+_, _-_, _*_, _/_, _^_, _≤_, _<_}
 use native.Mathlib.Omega.{arith}
 use mathlib.Core.List.{List}
-use mathlib.Core.Bool.{Bool, true, _&&_}
+use mathlib.Core.Bool.{Bool, true, false, not, _&&_, _||_}
 use lib.ListN.{length}
 use lib.Dec.{leb}
 use borrow.Author.Tests.{le-leb}
@@ -13,23 +13,17 @@ use Rattle.frame.specs.declared.Opened.{Opened}
 use Rattle.frame.specs.declared.Opening.{Opening}
 use Rattle.frame.specs.Kind as kind
 use Rattle.frame.specs.Frame.{sectionOf, rowsOf, bodyOf, sizesGood, countsGood}
-use Rattle.frame.specs.Open.{recordFrom, recordOf, bytesAt, keyAt, offsetAt, openOf}
+use Rattle.frame.specs.Open.{recordFrom, recordOf, bytesAt, inside, recordGood, openOf}
 use Rattle.frame.specs.Open.Laws.{Opens, Frames, opens-parts, opens-record, size-parts, frames-within}
 use Rattle.index.specs.Order.{Rising, keys-rise, Offsets, offsets-rise}
-
--- rule 21, which is asked of a lent record: "opened record whose ranges leave the file or whose counts or offset bits
--- break rule 12's bounds or lengths (edges below keys or without keys isn't asked); its file over 2^30 bytes"
-abbrev pub inside : List ℕ → Range → Bool
-inside f p = leb (p .start + p .len) (length f)
-
-unfoldable pub recordGood : List ℕ → Opened → Bool
-recordGood f o =
-    leb (length f) kind.mostBytes && (inside f (o .keys) && (inside f (o .offsets) && (inside f (o .partners) && (inside f (o .logs) && (inside f (o .dead)
-    && sizesGood (o .keycount) (o .edgecount) (o .bits) (o .keys .len) (o .offsets .len) (o .logs .len) (o .marked) (o .dead .len))))))
 
 module _ (f : List ℕ) (o : Opened) (op : openOf f ≡ Opening.Good o) where
   opens : Opens f
   opens = opens-parts f o op
+
+  or-true : (a : Bool) {b : Bool} → b ≡ true → (a || b) ≡ true
+  or-true true e = refl
+  or-true false e = e
 
   lies : (q : ℕ) → inside f (sectionOf q (rowsOf (bodyOf f))) ≡ true
   lies q =
@@ -40,7 +34,7 @@ module _ (f : List ℕ) (o : Opened) (op : openOf f ≡ Opening.Good o) where
   unfolding recordGood recordOf recordFrom countsGood
   good =
       and-both (le-leb (length f) kind.mostBytes (size-parts (length f) (opens .frames .size) .1)) (and-both (lies kind.keys) (and-both (lies kind.offsets) (and-both (lies kind.partners)
-      (and-both (lies kind.logs) (and-both (lies kind.tombstones) (and-parts (sizesGood _ _ _ _ _ _ _ _) _ (opens .frames .counts) .0))))))
+      (and-both (lies kind.logs) (and-both (or-true (not (recordOf f .marked)) (lies kind.tombstones)) (and-parts (sizesGood _ _ _ _ _ _ _ _) _ (opens .frames .counts) .0))))))
 
   -- the record that opening gives lies within the file and satisfies rule 21
   pub opened-good : recordGood f o ≡ true

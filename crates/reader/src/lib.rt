@@ -1,4 +1,3 @@
 // The calls on a file: opening, and the sections by value. No call has a `requires`: any bytes may be lent.
 pub mod open;
 pub mod rows;
-mod section;
