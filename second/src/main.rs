@@ -90,14 +90,20 @@ fn compare(dir: &Path) -> Result<(), String> {
     }
 }
 
-/// One file of the corpus of opening, as it is.
+/// One file of the corpora, as it is.
 fn bytes(name: &str) -> Result<(), String> {
-    let file = corpus::open_files::small()
+    let opened = corpus::open_files::small()
         .into_iter()
         .chain(corpus::open_files::large())
-        .find(|file| file.name == name)
-        .ok_or_else(|| format!("{name}: no such file in the corpus"))?;
-    write_out(&file.bytes)
+        .map(|file| (file.name, file.bytes));
+    let looked_up = corpus::lookup_calls::files()
+        .into_iter()
+        .map(|file| (file.name, file.bytes));
+    let (_, bytes) = opened
+        .chain(looked_up)
+        .find(|file| file.0 == name)
+        .ok_or_else(|| format!("{name}: no such file in the corpora"))?;
+    write_out(&bytes)
 }
 
 fn family(count: &str) -> Result<(), String> {

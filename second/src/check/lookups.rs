@@ -97,11 +97,16 @@ fn check_sizes(tally: &mut Tally, files: &[LookupFile]) {
             tally.same(&format!("rooms of {}", call.name), within, true);
         }
     }
-    let calls: usize = files.iter().map(|file| file.calls.len()).sum();
+    let calls = || files.iter().flat_map(|file| &file.calls);
     tally.notes.push(format!(
-        "corpus of lookups: {} files, {calls} calls, {input} bytes in, {output} bytes out",
-        files.len()
+        "corpus of lookups: {} files, {} calls, {input} bytes in, {output} bytes out",
+        files.len(),
+        calls().count()
     ));
+    let intended = calls().filter(|call| call.intended.is_some()).count();
+    tally
+        .notes
+        .push(format!("lookups: calls with an intended answer {intended}"));
 }
 
 /// The input falls apart into its items again.

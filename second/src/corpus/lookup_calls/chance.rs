@@ -6,7 +6,7 @@ use super::{ask, Files, LentRecord};
 use crate::corpus::open_files::samples::full;
 use crate::format::{kind, OFFSET_BITS};
 use crate::layout::Layout;
-use crate::numbers::{id_of, write_le, Id};
+use crate::numbers::{id_of, Id};
 use crate::random::Random;
 
 pub fn add(files: &mut Files) {
@@ -77,36 +77,32 @@ fn offsets(files: &mut Files, random: &mut Random) {
     }
 }
 
-/// Records whose lengths are as their counts give and whose ranges lie anywhere
-/// in the file, on files that begin with many offsets of use.
+/// Records whose lengths are as their counts give and of which some ranges lie
+/// anywhere in the file. The key asked for is one that they hold.
 fn records(files: &mut Files, random: &mut Random) {
-    for (name, layout) in [
-        ("base", base()),
-        ("full", full()),
-        ("small", small_bytes(random)),
-    ] {
+    for (name, layout) in [("base", base()), ("full", full())] {
+        let own = LentRecord::of_layout(&layout);
         let file = files.layout(format!("chance-record-{name}"), &layout);
         let bytes = file.bytes.clone();
         let size = bytes.len() as u64;
-        for count in 0..60 {
-            let mut record = LentRecord::of_layout(&layout);
-            let mut anywhere = |length: u64| random.below(size - length.min(size) + 1);
-            match count % 3 {
-                0 => record.partners.offset = anywhere(record.partners.length),
+        for count in 0..90 {
+            let mut record = own.clone();
+            // Half of the records have right offsets, and so lead to groups.
+            match random.below(4) {
+                0 => record.partners.offset = random.below(size - record.partners.length),
                 1 => {
-                    record.offsets.offset = anywhere(record.offsets.length);
-                    record.partners.offset = 0;
-                    record.partners.length = size;
-                }
-                _ => {
-                    record.key_count = 1 + random.below(5);
-                    record.edge_count = random.below(12);
                     record.offset_bits = OFFSET_BITS[random.below(4) as usize];
                     record.fit();
-                    let mut anywhere = |length: u64| random.below(size - length + 1);
-                    record.keys.offset = anywhere(record.keys.length);
-                    record.logs.offset = anywhere(record.logs.length);
-                    record.dead.offset = anywhere(record.dead.length);
+                    record.offsets.offset = random.below(size - record.offsets.length);
+                    (record.partners.offset, record.partners.length) = (0, size);
+                }
+                _ => {
+                    record.key_count = 1 + random.below(own.key_count);
+                    record.edge_count = 1 + random.below(12);
+                    record.fit();
+                    record.keys.offset = random.below(size - record.keys.length);
+                    record.logs.offset = random.below(size - record.logs.length);
+                    record.dead.offset = random.below(size - record.dead.length);
                 }
             }
             let index = random.below(record.key_count);
@@ -115,22 +111,4 @@ fn records(files: &mut Files, random: &mut Random) {
             file.both(count, ask(key).by(&record), None);
         }
     }
-}
-
-/// A file whose partner section is full of small bytes, so that groups may
-/// begin in it anywhere, and whose keys are small offsets too.
-fn small_bytes(random: &mut Random) -> Layout {
-    base().with(|layout| {
-        let bytes = &mut layout.section(kind::PARTNERS).bytes;
-        for byte in bytes.iter_mut() {
-            *byte = [1, 1, 2, 0x10][random.below(4) as usize];
-        }
-        let length = bytes.len() as u64;
-        let numbers: Vec<u8> = (0..27)
-            .flat_map(|i| write_le((11 * i).min(length), 3))
-            .chain([0])
-            .collect();
-        layout.section(kind::KEYS).bytes[..numbers.len().min(80)]
-            .copy_from_slice(&numbers[..numbers.len().min(80)]);
-    })
 }

@@ -58,7 +58,7 @@ fn one_field(files: &mut Files, name: &str, layout: Layout, keys: &[Id]) {
 
         let mut starts = others(offset);
         starts.extend([
-            // The range ends with the file, and one byte and all bytes later.
+            // The range ends with the file, or a byte later, or begins there.
             size - length,
             size - length + 1,
             size,
@@ -116,6 +116,13 @@ fn one_field(files: &mut Files, name: &str, layout: Layout, keys: &[Id]) {
     fields.each("bits", own_bits, bits.to_vec(), |record, bits| {
         record.offset_bits = bits as u8;
         true
+    });
+    // A mark where there is no range gives that range a wrong length; no mark
+    // where there is one is lawful.
+    let own_mark = u64::from(own.marked);
+    fields.each("marked", own_mark, vec![0, 1], |record, mark| {
+        record.marked = mark == 1;
+        record.marked
     });
 }
 
@@ -213,7 +220,7 @@ fn products_that_wrap(files: &mut Files) {
         r.offset_bits = 0;
         r.offsets.length = 0;
     });
-    // All ranges are empty, and lie just past the file or at the largest place.
+    // No log numbers, just past the file or at the largest place.
     for (name, past) in [("past", layout.size() + 1), ("largest", u64::MAX)] {
         let record = own.with(|r| {
             (r.key_count, r.edge_count) = (0, 0);

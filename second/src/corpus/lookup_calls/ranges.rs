@@ -153,28 +153,30 @@ fn over_each_other(files: &mut Files) {
     });
     file.misplaced("no-edges", own.by(&no_edges), 1, 0);
 
-    // A key whose first bytes are its own offsets, and whose last bytes are
-    // its group.
-    let mut bytes = vec![0, 0, 0, 11, 0];
-    bytes.extend(single(5, 1));
+    // A key whose first bytes are its own offsets, 0 and 11, and whose other
+    // bytes are its group but for the last one.
+    let mut bytes = vec![0, 0, 0, 11, 0, 0];
+    bytes.extend(single(5, 1 << 56));
     let key: Id = bytes[..16].try_into().expect("16 bytes");
-    bytes.push(0);
     let file = files.bytes("overlap-key", bytes);
     let record = LentRecord {
         keys: range(0, 16),
         offsets: range(0, 6),
-        partners: range(5, 11),
-        logs: range(8, 8),
+        partners: range(6, 11),
+        logs: range(9, 8),
         dead: range(3, 1),
-        marked: false,
-        key_count: 1,
-        edge_count: 1,
-        offset_bits: 24,
+        ..record
     };
-    // The second offset has 1 as its highest byte.
-    file.both("offsets", ask(key).by(&record), expect(14, 0));
-    let mended = record.with(|r| r.partners = range(0, 17));
-    file.both("group-in-key", ask(key).by(&mended), expect(14, 0));
+    file.both("all-in-one", ask(key).by(&record), found(1, 0));
+    // Offsets that fall, and offsets that pass.
+    let shifted = record.with(|r| r.offsets.offset = 1);
+    file.both("offsets-at-1", ask(key).by(&shifted), expect(14, 0));
+    let shifted = record.with(|r| r.offsets.offset = 3);
+    file.both("offsets-at-3", ask(key).by(&shifted), expect(14, 0));
+    let earlier = record.with(|r| r.partners = range(5, 12));
+    file.both("partners-at-5", ask(key).by(&earlier), expect(18, 0));
+    let shorter = record.with(|r| r.partners = range(6, 10));
+    file.both("partners-cut", ask(key).by(&shorter), expect(14, 0));
 }
 
 /// Keys that are all zero, and offsets of which none rises.

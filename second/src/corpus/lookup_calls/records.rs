@@ -1,7 +1,7 @@
 //! Records that are lawful and say something else than the file: of another
 //! file, without its tombstones or with others, of fewer or more keys.
 
-use super::{ask, found, Files, Intended, LentRecord};
+use super::{ask, expect, found, Files, Intended, LentRecord};
 use crate::corpus::open_files::samples::{
     dead, dense, full, heading_only, live, one_edge, single_groups, split, three_groups,
 };
@@ -66,13 +66,11 @@ fn same_places(files: &mut Files) {
     file.both("record", ask(id_of(1, 2)).by(&record), found(1, 0));
     file.both("own", ask(id_of(1, 2)), found(1, 0));
 
-    // The same partners at other places, so that each half of them is read as
-    // it lies: a dense group of the same length as two split ones.
+    // A dense group is longer than the record's partner range.
     let dense_one = groups::layout(&[dense(id_of(1, 2), &[live(5, 1, 7)])], 24);
     let file = files.layout("other-form", &dense_one);
-    let own = LentRecord::of_layout(&dense_one);
-    file.both("own", ask(id_of(1, 2)).by(&own), found(1, 0));
-    file.both("record", ask(id_of(1, 2)).by(&record), None);
+    file.both("record", ask(id_of(1, 2)).by(&record), expect(14, 0));
+    file.both("own", ask(id_of(1, 2)), found(1, 0));
 }
 
 /// The mark in the record decides whether there are tombstones, its range

@@ -35,6 +35,12 @@ fn every_key(files: &mut Files, name: impl Into<String>, layout: Layout, groups:
         let exact = question.rooms(Rooms::exact(degree as u32));
         file.both(format!("own-record-{index}"), exact.by(&record), answer);
     }
+    if groups.is_empty() {
+        let question = ask(id_of(1, 2)).rooms(Rooms::NONE);
+        file.both("no-keys", question.clone(), Intended::Absent);
+        let by_record = question.by(&record);
+        file.both("no-keys-by-record", by_record, Intended::Absent);
+    }
     let keys: Vec<Id> = groups.iter().map(|group| group.key).collect();
     absent_keys(file, &keys, &record);
     file.groups = Some(groups);
@@ -130,8 +136,7 @@ fn group_forms(files: &mut Files) {
 }
 
 /// Upper halves at both sides of each length of a varint, as a first one and
-/// as a difference. Document 01 does not ask a reader whether the split form
-/// is the shorter.
+/// as a difference. No reader asks whether the split form is the shorter.
 fn upper_halves(files: &mut Files) {
     let groups: Vec<Group> = (1..=9)
         .map(|k| {

@@ -21,10 +21,10 @@ fn singles(count: u64, offset_bits: u8) -> Layout {
     raw::layout(&groups, count, offset_bits)
 }
 
-/// For each run of keys, what the search does with the ones asked for: an
-/// index or absence.
+/// Runs of keys, with the index of the first that does not rise; keys that the
+/// search meets, with their indices; and keys that it misses, there or not.
 fn keys(files: &mut Files) {
-    let mut run = |name: &str, keys: &[u64], faulty: u64, asked: &[(u64, Option<u64>)]| {
+    let mut run = |name: &str, keys: &[u64], faulty, met: &[(u64, u64)], missed: &[u64]| {
         let layout = singles(keys.len() as u64, 24).with(|l| {
             for (i, &lower) in keys.iter().enumerate() {
                 set_key(l, i, id_of(0, lower));
@@ -32,94 +32,35 @@ fn keys(files: &mut Files) {
         });
         let file = files.layout(format!("unsorted-{name}"), &layout);
         let record = LentRecord::of_layout(&layout);
-        for &(lower, index) in asked {
+        let met = met.iter().map(|&(lower, index)| (lower, found(1, index)));
+        let missed = missed.iter().map(|&lower| (lower, Intended::Absent));
+        for (lower, answer) in met.chain(missed) {
             let question = ask(id_of(0, lower));
-            file.full(
-                format!("file-{lower}"),
-                question.clone(),
-                expect(13, faulty),
-            );
-            let answer = index.map_or(Intended::Absent, |index| found(1, index));
+            let name = format!("file-{lower}");
+            file.full(name, question.clone(), expect(13, faulty));
             file.both(format!("record-{lower}"), question.by(&record), answer);
         }
     };
-    run(
-        "three",
-        &[30, 10, 20],
-        1,
-        &[
-            (10, Some(1)),
-            (20, Some(2)),
-            (30, None),
-            (5, None),
-            (25, None),
-        ],
-    );
-    run(
-        "falling",
-        &[50, 40, 30, 20, 10],
-        1,
-        &[
-            (30, Some(2)),
-            (40, None),
-            (20, None),
-            (50, None),
-            (10, None),
-            (35, None),
-        ],
-    );
-    run("equal-2", &[7, 7], 1, &[(7, Some(1)), (6, None), (8, None)]);
-    run(
-        "equal-4",
-        &[7, 7, 7, 7],
-        1,
-        &[(7, Some(2)), (6, None), (8, None)],
-    );
-    run(
-        "equal-5",
-        &[7, 7, 7, 7, 7],
-        1,
-        &[(7, Some(2)), (6, None), (8, None)],
-    );
-    // The search meets the third of the equal ones, or the first of two.
-    run(
-        "some-equal",
-        &[1, 3, 3, 3, 5, 5],
-        2,
-        &[
-            (3, Some(3)),
-            (5, Some(5)),
-            (1, Some(0)),
-            (4, None),
-            (2, None),
-        ],
-    );
-    run(
-        "rotated",
-        &[4, 5, 6, 7, 1, 2, 3],
-        4,
-        &[
-            (7, Some(3)),
-            (5, Some(1)),
-            (6, Some(2)),
-            (4, Some(0)),
-            (1, None),
-            (2, None),
-            (9, None),
-        ],
-    );
+    run("three", &[30, 10, 20], 1, &[(10, 1), (20, 2)], &[30, 5, 25]);
+    let falling = [50, 40, 30, 20, 10];
+    run("falling", &falling, 1, &[(30, 2)], &[40, 20, 50, 10, 35]);
+    run("equal-2", &[7; 2], 1, &[(7, 1)], &[6, 8]);
+    run("equal-4", &[7; 4], 1, &[(7, 2)], &[6, 8]);
+    run("equal-5", &[7; 5], 1, &[(7, 2)], &[6, 8]);
+    // Of equal keys the search meets the last.
+    let some_equal = [1, 3, 3, 3, 5, 5];
+    let met = [(3, 3), (5, 5), (1, 0)];
+    run("some-equal", &some_equal, 2, &met, &[4, 2]);
+    let rotated = [4, 5, 6, 7, 1, 2, 3];
+    let met = [(7, 3), (5, 1), (6, 2), (4, 0)];
+    run("rotated", &rotated, 4, &met, &[1, 2, 9]);
+    let met = [(10, 0), (20, 1), (30, 2)];
     run(
         "last-misplaced",
         &[10, 20, 30, 40, 5],
         4,
-        &[
-            (5, None),
-            (10, Some(0)),
-            (20, Some(1)),
-            (30, Some(2)),
-            (40, None),
-            (45, None),
-        ],
+        &met,
+        &[5, 40, 45],
     );
 }
 
