@@ -1,0 +1,107 @@
+-- `group::head::head_of` meets its contract: each way out is a case of headOf.
+use mathlib.Core.Path.{_≡_, sym, _∙_}
+use native.Mathlib.Omega.{arith}
+use Rattle.codes.specs.declared.varint.Varint.the-variants.{Value}
+use Rattle.codes.specs.Varint.{varintAt}
+use Rattle.group.specs.Group.Laws.{head-cut, head-long, head-large, head-none, head-short, head-split, head-dense, head-tag}
+use borrow.Author.Needs.{needs}
+use Rattle.group.proofs.head.head_of.Statement.{statement}
+use Rattle.group.proofs.head.head_of.Tie as tie
+
+-- the degree that was read
+got : (p : tie.After-known-told) → varintAt (p .before .before .before .before .before .args .g .now) 0 ≡ Value (p .before .value .given .0 .0) (p .before .value .given .0 .1 .0)
+got p = sym (p .before .before .before .varint-at .ensures) ∙ p .before .value .given .1
+
+varint-at-requires : tie.Need-varint-at-requires
+varint-at-requires c κs = search needs
+
+enum-known-value : tie.Need-enum-known-value
+enum-known-value c = search needs
+
+returns : tie.Need-returns
+returns c =
+    let p = c .before in
+    let a = p .before .before .before .before .before .args in
+    let d = p .before .value .given .0 .0 in
+    let n = p .before .value .given .0 .1 .0 in
+    sym (head-none (a .g .now) d n (got p) (omega arith))
+
+returns-2 : tie.Need-returns-2
+returns-2 c =
+    let p = c .before .before in
+    let a = p .before .before .before .before .before .args in
+    let d = p .before .value .given .0 .0 in
+    let n = p .before .value .given .0 .1 .0 in
+    sym (head-short (a .g .now) d n (got p) (omega arith) (omega arith))
+
+shared-slice-read-tag : tie.Need-shared-slice-read-tag
+shared-slice-read-tag c = search needs
+
+add-t11 : tie.Need-add-t11
+add-t11 c = search needs
+
+returns-3 : tie.Need-returns-3
+returns-3 c =
+    let p = c .before .before .before .before in
+    let a = p .before .before .before .before .before .args in
+    let d = p .before .value .given .0 .0 in
+    let n = p .before .value .given .0 .1 .0 in
+    cc (head-split (a .g .now) d n (got p) (omega arith) (omega arith) (omega arith))
+
+add-t12 : tie.Need-add-t12
+add-t12 c = search needs
+
+returns-4 : tie.Need-returns-4
+returns-4 c =
+    let p = c .before .before .before .before .before in
+    let a = p .before .before .before .before .before .args in
+    let d = p .before .value .given .0 .0 in
+    let n = p .before .value .given .0 .1 .0 in
+    cc (head-dense (a .g .now) d n (got p) (omega arith) (omega arith) (omega arith))
+
+enum-told : tie.Need-enum-told
+enum-told c = search needs
+
+enum-told-2 : tie.Need-enum-told-2
+enum-told-2 c = search needs
+
+enum-told-3 : tie.Need-enum-told-3
+enum-told-3 c = search needs
+
+returns-5 : tie.Need-returns-5
+returns-5 c =
+    let p = c .before .before .before .before .before in
+    let a = p .before .before .before .before .before .args in
+    let d = p .before .value .given .0 .0 in
+    let n = p .before .value .given .0 .1 .0 in
+    sym (head-tag (a .g .now) d n (got p) (omega arith) (omega arith) (λ q. omega arith) (λ q. omega arith))
+
+returns-6 : tie.Need-returns-6
+returns-6 c = sym (head-cut (c .before .before .before .before .args .g .now) (sym (c .before .before .varint-at .ensures) ∙ c .enum-told .given .1))
+
+returns-7 : tie.Need-returns-7
+returns-7 c = sym (head-long (c .before .before .before .before .args .g .now) (sym (c .before .before .varint-at .ensures) ∙ c .enum-told2 .given .1))
+
+returns-8 : tie.Need-returns-8
+returns-8 c = sym (head-large (c .before .before .before .before .args .g .now) (sym (c .before .before .varint-at .ensures) ∙ c .enum-told3 .given .1))
+
+pub head-of-spec : {M : Type 1} → statement M
+head-of-spec =
+    tie.close
+    (tie.spec
+    varint-at-requires
+    enum-known-value
+    returns
+    returns-2
+    shared-slice-read-tag
+    add-t11
+    returns-3
+    add-t12
+    returns-4
+    enum-told
+    enum-told-2
+    enum-told-3
+    returns-5
+    returns-6
+    returns-7
+    returns-8)

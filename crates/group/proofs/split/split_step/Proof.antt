@@ -1,0 +1,105 @@
+-- `group::split::split_step` meets its contract: each way out is a case of splitStep.
+use mathlib.Core.Path.{_≡_, sym, _∙_}
+use native.Mathlib.Omega.{arith}
+use Rattle.codes.specs.declared.varint.Varint.the-variants.{Value}
+use Rattle.codes.specs.Varint.{varintAt}
+use Rattle.codes.specs.Varint.Laws.{varint-next}
+use Rattle.group.specs.Group.Laws.{split-cut, split-long, split-large, split-over, split-short, split-good}
+use borrow.Author.Needs.{needs}
+use Rattle.group.proofs.split.split_step.Statement.{statement}
+use Rattle.group.proofs.split.split_step.Tie as tie
+
+-- the difference that was read
+got : (p : tie.After-known-told) → varintAt (p .before .before .before .before .before .args .g .now) (p .before .before .before .before .before .args .i) ≡ Value (p .before .value .given .0 .0) (p .before .value .given .0 .1 .0)
+got p = sym (p .before .before .before .difference .ensures) ∙ p .before .value .given .1
+
+difference-requires : tie.Need-difference-requires
+difference-requires c κs = search needs
+
+enum-known-value : tie.Need-enum-known-value
+enum-known-value c = search needs
+
+sub-if1 : tie.Need-sub-if1
+sub-if1 c = search needs
+
+returns : tie.Need-returns
+returns c =
+    let p = c .before in
+    let a = p .before .before .before .before .before .args in
+    let v = p .before .value .given .0 .0 in
+    let n = p .before .value .given .0 .1 .0 in
+    sym (split-over (a .g .now) (a .i) (a .hi) v n (got p) (omega arith))
+
+sub-if2 : tie.Need-sub-if2
+sub-if2 c =
+    let p = c .before in
+    let a = p .before .before .before .before .before .args in
+    let v = p .before .value .given .0 .0 in
+    let n = p .before .value .given .0 .1 .0 in
+    varint-next (a .g .now) (a .i) v n (got p) .1
+
+returns-2 : tie.Need-returns-2
+returns-2 c =
+    let p = c .before .before in
+    let a = p .before .before .before .before .before .args in
+    let v = p .before .value .given .0 .0 in
+    let n = p .before .value .given .0 .1 .0 in
+    let next = varint-next (a .g .now) (a .i) v n (got p) in
+    sym (split-short (a .g .now) (a .i) (a .hi) v n (got p) (omega arith) (omega arith))
+
+le64-requires : tie.Need-le64-requires
+le64-requires c κs = search needs
+
+add-t9 : tie.Need-add-t9
+add-t9 c = search needs
+
+add-t11 : tie.Need-add-t11
+add-t11 c = search needs
+
+enum-told : tie.Need-enum-told
+enum-told c = search needs
+
+enum-told-2 : tie.Need-enum-told-2
+enum-told-2 c = search needs
+
+enum-told-3 : tie.Need-enum-told-3
+enum-told-3 c = search needs
+
+returns-3 : tie.Need-returns-3
+returns-3 c =
+    let p = c .before .before .before in
+    let a = p .before .before .before .before .before .args in
+    let v = p .before .value .given .0 .0 in
+    let n = p .before .value .given .0 .1 .0 in
+    let next = varint-next (a .g .now) (a .i) v n (got p) in
+    cc (split-good (a .g .now) (a .i) (a .hi) v n (got p) (omega arith) (omega arith))
+
+returns-4 : tie.Need-returns-4
+returns-4 c = let a = c .before .before .before .before .args in sym (split-cut (a .g .now) (a .i) (a .hi) (sym (c .before .before .difference .ensures) ∙ c .enum-told .given .1))
+
+returns-5 : tie.Need-returns-5
+returns-5 c = let a = c .before .before .before .before .args in sym (split-long (a .g .now) (a .i) (a .hi) (sym (c .before .before .difference .ensures) ∙ c .enum-told2 .given .1))
+
+returns-6 : tie.Need-returns-6
+returns-6 c = let a = c .before .before .before .before .args in sym (split-large (a .g .now) (a .i) (a .hi) (sym (c .before .before .difference .ensures) ∙ c .enum-told3 .given .1))
+
+pub split-step-spec : {M : Type 1} → statement M
+split-step-spec =
+    tie.close
+    (tie.spec
+    difference-requires
+    enum-known-value
+    sub-if1
+    returns
+    sub-if2
+    returns-2
+    le64-requires
+    add-t9
+    add-t11
+    enum-told
+    enum-told-2
+    enum-told-3
+    returns-3
+    returns-4
+    returns-5
+    returns-6)

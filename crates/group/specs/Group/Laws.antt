@@ -1,0 +1,597 @@
+-- The laws of a group: by its cases, as the code meets them, and what a good walk is made of.
+use mathlib.Core.Path.{_≡_, refl, sym, ap, ap₂, _∙_}
+use Prim.Native.Nat.{ℕ, zero, suc, _+_, _-_, _*_, _^_, _≤_, _<_}
+use native.Mathlib.Nat.{sub-zero, zero-add}
+use native.Mathlib.Omega.{arith}
+use native.Mathlib.Decide.{decLe, decLt, ℕ-discrete}
+use mathlib.Core.List.{List, [], _∷_, _++_}
+use mathlib.Core.Bool.{Bool, true, false}
+use lib.ListN.{length, getD, length-append}
+use lib.Dec.{ltb, leb, eqb}
+use borrow.Author.Tests.{lt-ltb, le-ltb, le-leb, lt-leb, leb-true, eq-eqb, ne-eqb}
+use Rattle.base.specs.Pick.{pick}
+use Rattle.codes.specs.declared.ids.Id.{Id}
+use Rattle.codes.specs.declared.varint.Varint.{Varint}
+use Rattle.codes.specs.declared.varint.Varint.the-variants.{Value, Cut, Long, Large}
+use Rattle.codes.specs.Little.{leAt}
+use Rattle.codes.specs.Ids.{halvesAt, numberOf, idBytes}
+use Rattle.codes.specs.Ids.Laws.{length-idBytes, upper}
+use Rattle.codes.specs.Varint.{varintAt}
+use Rattle.codes.specs.Varint.Laws.{varint-next, varint-from, from-cut, from-zero, from-value}
+use Rattle.group.specs.declared.head.Head.{Head}
+use Rattle.group.specs.declared.split.Step.{Step}
+use Rattle.group.specs.declared.Group.{Group}
+use Rattle.group.specs.Group.{Partners, good, badTag, badVarint, badShape, onVarint, splitStep, denseStep, stepAt, onStep, cons, walkFrom, floorOf, degreeOf, headOf, onHead, groupOf, isGood, partnersOf, bytesOf, answerOf}
+
+-- ---- a varint of at most one byte
+
+module _ (g : List ℕ) (i : ℕ) where
+  pub varint-none : length g ≤ i → varintAt g i ≡ Cut
+  varint-none h = varint-from g i ∙ from-cut g i 0 1 9 h
+
+  pub varint-short : i < length g → getD g i 0 < 128 → varintAt g i ≡ Value (getD g i 0) (i + 1)
+  varint-short h s =
+      let x : ℕ = getD g i 0 in
+      let same : 0 + x * 1 ≡ x = omega arith in
+      elim (ℕ-discrete x 0) [
+        | yes z ↦ varint-from g i ∙ from-zero g i 0 1 9 h z (omega arith) ∙ ap (λ (t : ℕ). Value t (i + 1)) (sym z)
+        | no z ↦ varint-from g i ∙ from-value g i 0 1 9 h s z (omega arith) ∙ ap (λ (t : ℕ). Value t (i + 1)) same
+      ]
+
+-- ---- a partner of a split group
+
+module _ (g : List ℕ) (i hi : ℕ) where
+  pub split-cut : varintAt g i ≡ Cut → splitStep g i hi ≡ Step.BadVarint
+  unfolding splitStep onVarint
+  split-cut e = rw e
+
+  pub split-long : varintAt g i ≡ Long → splitStep g i hi ≡ Step.BadVarint
+  unfolding splitStep onVarint
+  split-long e = rw e
+
+  pub split-large : varintAt g i ≡ Large → splitStep g i hi ≡ Step.BadVarint
+  unfolding splitStep onVarint
+  split-large e = rw e
+
+  module _ (v n : ℕ) (e : varintAt g i ≡ Value v n) where
+    pub split-over : 2 ^ 64 ≤ hi + v → splitStep g i hi ≡ Step.BadShape
+    unfolding splitStep onVarint
+    split-over h = rw e (simp (le-ltb (hi + v) (2 ^ 64) h))
+
+    pub split-short : hi + v < 2 ^ 64 → length g < n + 8 → splitStep g i hi ≡ Step.BadShape
+    unfolding splitStep onVarint
+    split-short h s = rw e (simp (lt-ltb (hi + v) (2 ^ 64) h, lt-leb (n + 8) (length g) s))
+
+    pub split-good : hi + v < 2 ^ 64 → n + 8 ≤ length g → splitStep g i hi ≡ Step.Partner (record { hi = hi + v; lo = leAt g n 8 }) (n + 8)
+    unfolding splitStep onVarint
+    split-good h s = rw e (simp (lt-ltb (hi + v) (2 ^ 64) h, le-leb (n + 8) (length g) s))
+
+-- a partner that was read, by the varint before it
+pub record SplitRead (g : List ℕ) (i hi : ℕ) (p : Id) (m v n : ℕ) : Type 0 where
+  pub fits : hi + v < 2 ^ 64
+  pub room : n + 8 ≤ length g
+  pub partner : p ≡ record { hi = hi + v; lo = leAt g n 8 }
+  pub place : m ≡ n + 8
+
+module _ (g : List ℕ) (i hi : ℕ) (p : Id) (m : ℕ) (e : splitStep g i hi ≡ Step.Partner p m) where
+  pub split-read : (v n : ℕ) → varintAt g i ≡ Value v n → SplitRead g i hi p m v n
+  split-read v n q =
+      elim (decLt (hi + v) (2 ^ 64)) [
+        | yes h ↦ elim (decLe (n + 8) (length g)) [
+          | yes s ↦
+              let r = sym (split-good g i hi v n q h s) ∙ e in
+              record { fits = h; room = s; partner = cc; place = cc }
+          | no s ↦
+              let r : Step.BadShape ≡ Step.Partner p m = sym (split-short g i hi v n q h (omega arith)) ∙ e in
+              let z : _≡_ {A = ℕ} 0 1 = cc in absurd (omega arith)
+        ]
+        | no h ↦
+            let r : Step.BadShape ≡ Step.Partner p m = sym (split-over g i hi v n q (omega arith)) ∙ e in
+            let z : _≡_ {A = ℕ} 0 1 = cc in absurd (omega arith)
+      ]
+
+  is-varint : splitStep g i hi ≡ Step.BadVarint → ⊥
+  is-varint q = let z : _≡_ {A = ℕ} 0 1 = cc in omega arith
+
+  -- there was a varint
+  pub split-varint : (v : ℕ) × (n : ℕ) × (varintAt g i ≡ Value v n)
+  split-varint = go (varintAt g i) refl
+    where
+      go : (t : Varint) → varintAt g i ≡ t → (v : ℕ) × (n : ℕ) × (varintAt g i ≡ Value v n)
+      go (Value v n) q = (v, n, q)
+      go Cut q = absurd (is-varint (split-cut g i hi q))
+      go Long q = absurd (is-varint (split-long g i hi q))
+      go Large q = absurd (is-varint (split-large g i hi q))
+
+-- ---- a partner of a dense group
+
+pub dense-short : (g : List ℕ) (i : ℕ) → length g < i + 16 → denseStep g i ≡ Step.BadShape
+unfolding denseStep
+dense-short g i h = simp (lt-leb (i + 16) (length g) h)
+
+pub dense-good : (g : List ℕ) (i : ℕ) → i + 16 ≤ length g → denseStep g i ≡ Step.Partner (halvesAt g i) (i + 16)
+unfolding denseStep
+dense-good g i h = simp (le-leb (i + 16) (length g) h)
+
+pub dense-read : (g : List ℕ) (i : ℕ) (p : Id) (m : ℕ) → denseStep g i ≡ Step.Partner p m → (i + 16 ≤ length g) × (p ≡ halvesAt g i) × (m ≡ i + 16)
+dense-read g i p m e =
+    elim (decLe (i + 16) (length g)) [
+      | yes h ↦ let r = sym (dense-good g i h) ∙ e in (h, cc, cc)
+      | no h ↦
+          let r : Step.BadShape ≡ Step.Partner p m = sym (dense-short g i (omega arith)) ∙ e in
+          let z : _≡_ {A = ℕ} 0 1 = cc in absurd (omega arith)
+    ]
+
+-- ---- a partner of either sort
+
+pub step-split : (g : List ℕ) (i hi : ℕ) → stepAt false g i hi ≡ splitStep g i hi
+unfolding stepAt
+step-split g i hi = refl
+
+pub step-dense : (g : List ℕ) (i hi : ℕ) → stepAt true g i hi ≡ denseStep g i
+unfolding stepAt
+step-dense g i hi = refl
+
+-- the id that was read is the partner
+pub dense-at : (g : List ℕ) (i hi : ℕ) {p : Id} → p ≡ halvesAt g i → i + 16 ≤ length g → stepAt true g i hi ≡ Step.Partner p (i + 16)
+dense-at g i hi e h = step-dense g i hi ∙ dense-good g i h ∙ ap (λ (t : Id). Step.Partner t (i + 16)) (sym e)
+
+-- a partner has nine bytes or more, and the place after it lies within the group
+pub step-next : (dense : Bool) (g : List ℕ) (i hi : ℕ) (p : Id) (n : ℕ) → stepAt dense g i hi ≡ Step.Partner p n → (i + 9 ≤ n) × (n ≤ length g)
+step-next true g i hi p n e =
+    let (room, is, place) = dense-read g i p n (sym (step-dense g i hi) ∙ e) in (omega arith, omega arith)
+step-next false g i hi p n e =
+    let s : splitStep g i hi ≡ Step.Partner p n = sym (step-split g i hi) ∙ e in
+    let (v, m, q) = split-varint g i hi p n s in
+    let r = split-read g i hi p n s v m q in
+    let place = r .place in
+    let room = r .room in
+    let after = varint-next g i v m q in
+    (omega arith, omega arith)
+
+-- ---- order, by the halves
+
+module _ (a b : Id) where
+  pub above-upper : a .hi < b .hi → a .lo < 2 ^ 64 → ltb (numberOf a) (numberOf b) ≡ true
+  above-upper h l = lt-ltb (numberOf a) (numberOf b) (upper (a .lo) (b .lo) h l)
+
+  pub above-under : b .hi < a .hi → b .lo < 2 ^ 64 → ltb (numberOf a) (numberOf b) ≡ false
+  above-under h l = let lt = upper (b .lo) (a .lo) h l in le-ltb (numberOf a) (numberOf b) (omega arith)
+
+  pub above-lower : a .hi ≡ b .hi → ltb (numberOf a) (numberOf b) ≡ ltb (a .lo) (b .lo)
+  above-lower e =
+      elim (decLt (a .lo) (b .lo)) [
+        | yes l ↦ let n : numberOf a < numberOf b = rw e (omega arith) in lt-ltb (numberOf a) (numberOf b) n ∙ sym (lt-ltb (a .lo) (b .lo) l)
+        | no l ↦ let n : numberOf b ≤ numberOf a = rw e (omega arith) in le-ltb (numberOf a) (numberOf b) n ∙ sym (le-ltb (a .lo) (b .lo) (omega arith))
+      ]
+
+-- the first partner is not below the floor, and another is not where it is above the last one
+pub order-first : (k : ℕ) (last p : Id) → k ≡ 0 → leb (floorOf k last) (numberOf p) ≡ true
+unfolding floorOf
+order-first k last p h = simp (eq-eqb k 0 h) (le-leb 0 (numberOf p) (omega arith))
+
+pub order-next : (k : ℕ) (last p : Id) → (k ≡ 0 → ⊥) → leb (floorOf k last) (numberOf p) ≡ ltb (numberOf last) (numberOf p)
+unfolding floorOf
+order-next k last p h = simp (ne-eqb k 0 h)
+
+-- ---- what stands before the partners
+
+module _ (g : List ℕ) where
+  pub head-cut : varintAt g 0 ≡ Cut → headOf g ≡ Head.BadVarint
+  unfolding headOf degreeOf onVarint
+  head-cut e = rw e
+
+  pub head-long : varintAt g 0 ≡ Long → headOf g ≡ Head.BadVarint
+  unfolding headOf degreeOf onVarint
+  head-long e = rw e
+
+  pub head-large : varintAt g 0 ≡ Large → headOf g ≡ Head.BadVarint
+  unfolding headOf degreeOf onVarint
+  head-large e = rw e
+
+  module _ (d n : ℕ) (e : varintAt g 0 ≡ Value d n) where
+    pub head-none : d ≡ 0 → headOf g ≡ Head.BadShape
+    unfolding headOf degreeOf onVarint
+    head-none h = rw e (simp (eq-eqb d 0 h))
+
+    module _ (some : d ≡ 0 → ⊥) where
+      pub head-short : length g ≤ n → headOf g ≡ Head.BadShape
+      unfolding headOf degreeOf onVarint
+      head-short h = rw e (simp (ne-eqb d 0 some, le-leb (length g) n h))
+
+      module _ (h : n < length g) where
+        pub head-split : getD g n 0 ≡ 0x01 → headOf g ≡ Head.Split d (n + 1)
+        unfolding headOf degreeOf onVarint
+        head-split t = rw e (simp (ne-eqb d 0 some, lt-leb (length g) n h, eq-eqb (getD g n 0) 0x01 t))
+
+        pub head-dense : getD g n 0 ≡ 0x10 → headOf g ≡ Head.Dense d (n + 1)
+        unfolding headOf degreeOf onVarint
+        head-dense t =
+            rw e (simp (ne-eqb d 0 some, lt-leb (length g) n h, ne-eqb (getD g n 0) 0x01 (λ q. omega arith), eq-eqb (getD g n 0) 0x10 t))
+
+        pub head-tag : (getD g n 0 ≡ 0x01 → ⊥) → (getD g n 0 ≡ 0x10 → ⊥) → headOf g ≡ Head.BadTag
+        unfolding headOf degreeOf onVarint
+        head-tag a b = rw e (simp (ne-eqb d 0 some, lt-leb (length g) n h, ne-eqb (getD g n 0) 0x01 a, ne-eqb (getD g n 0) 0x10 b))
+
+-- the head of partners: the degree d, the tag, and the place i where the payload begins
+abbrev pub headIs : Bool → ℕ → ℕ → Head
+headIs dense d i = pick dense (Head.Dense d i) (Head.Split d i)
+
+abbrev pub tagOf : Bool → ℕ
+tagOf dense = pick dense 0x10 0x01
+
+pub record Headed (g : List ℕ) (dense : Bool) (d i : ℕ) : Type 0 where
+  pub some : 1 ≤ d
+  pub tag : ℕ
+  pub degree : degreeOf g ≡ Value d tag
+  pub tagged : getD g tag 0 ≡ tagOf dense
+  pub within : tag < length g
+  pub place : i ≡ tag + 1
+
+walks : Head → Bool
+walks (Head.Split d i) = true
+walks (Head.Dense d i) = true
+walks Head.BadTag = false
+walks Head.BadVarint = false
+walks Head.BadShape = false
+
+walks-is : (dense : Bool) (d i : ℕ) → walks (headIs dense d i) ≡ true
+unfolding walks
+walks-is true d i = refl
+walks-is false d i = refl
+
+is-split : (dense : Bool) (c j d i : ℕ) → Head.Split c j ≡ headIs dense d i → (dense ≡ false) × (c ≡ d) × (j ≡ i)
+is-split true c j d i e = let z : _≡_ {A = ℕ} 0 1 = cc in absurd (omega arith)
+is-split false c j d i e = (refl, cc, cc)
+
+is-dense : (dense : Bool) (c j d i : ℕ) → Head.Dense c j ≡ headIs dense d i → (dense ≡ true) × (c ≡ d) × (j ≡ i)
+is-dense true c j d i e = (refl, cc, cc)
+is-dense false c j d i e = let z : _≡_ {A = ℕ} 0 1 = cc in absurd (omega arith)
+
+-- what was read before the partners
+pub headed : (g : List ℕ) (dense : Bool) (d i : ℕ) → headOf g ≡ headIs dense d i → Headed g dense d i
+unfolding walks degreeOf
+headed g dense d i e = go (varintAt g 0) refl
+  where
+    bad : (h : Head) → walks h ≡ false → headOf g ≡ h → Headed g dense d i
+    bad h f q =
+        let t : false ≡ true = sym f ∙ ap walks (sym q ∙ e) ∙ walks-is dense d i in
+        let z : _≡_ {A = ℕ} 0 1 = cc in absurd (omega arith)
+
+    go : (t : Varint) → varintAt g 0 ≡ t → Headed g dense d i
+    go Cut q = bad Head.BadVarint refl (head-cut g q)
+    go Long q = bad Head.BadVarint refl (head-long g q)
+    go Large q = bad Head.BadVarint refl (head-large g q)
+    go (Value c n) q =
+        elim (ℕ-discrete c 0) [
+          | yes z ↦ bad Head.BadShape refl (head-none g c n q z)
+          | no z ↦ elim (decLt n (length g)) [
+            | no h ↦ bad Head.BadShape refl (head-short g c n q z (omega arith))
+            | yes h ↦ elim (ℕ-discrete (getD g n 0) 0x01) [
+              | yes t ↦
+                  let (k, same, place) = is-split dense c (n + 1) d i (sym (head-split g c n q z h t) ∙ e) in
+                  record { some = omega arith; tag = n; degree = cc; tagged = rw k t; within = h; place = sym place }
+              | no t ↦ elim (ℕ-discrete (getD g n 0) 0x10) [
+                | yes u ↦
+                    let (k, same, place) = is-dense dense c (n + 1) d i (sym (head-dense g c n q z h u) ∙ e) in
+                    record { some = omega arith; tag = n; degree = cc; tagged = rw k u; within = h; place = sym place }
+                | no u ↦ bad Head.BadTag refl (head-tag g c n q z h t u)
+              ]
+            ]
+          ]
+        ]
+
+-- the group by its head
+module _ (g : List ℕ) where
+  pub group-walk : (dense : Bool) (d i : ℕ) → headOf g ≡ headIs dense d i → groupOf g ≡ walkFrom dense d g i 0 0
+  unfolding groupOf onHead
+  group-walk true d i e = rw e
+  group-walk false d i e = rw e
+
+  pub group-tag : headOf g ≡ Head.BadTag → groupOf g ≡ badTag
+  unfolding groupOf onHead
+  group-tag e = rw e
+
+  pub group-varint : headOf g ≡ Head.BadVarint → groupOf g ≡ badVarint
+  unfolding groupOf onHead
+  group-varint e = rw e
+
+  pub group-shape : headOf g ≡ Head.BadShape → groupOf g ≡ badShape
+  unfolding groupOf onHead
+  group-shape e = rw e
+
+-- ---- the walk by its cases
+
+module _ (dense : Bool) (g : List ℕ) (i hi floor : ℕ) where
+  pub walk-end : i ≡ length g → walkFrom dense 0 g i hi floor ≡ good dense []
+  unfolding walkFrom
+  walk-end h = simp (eq-eqb i (length g) h)
+
+  pub walk-over : (i ≡ length g → ⊥) → walkFrom dense 0 g i hi floor ≡ badShape
+  unfolding walkFrom
+  walk-over h = simp (ne-eqb i (length g) h)
+
+  module _ (d : ℕ) where
+    pub walk-varint : stepAt dense g i hi ≡ Step.BadVarint → walkFrom dense (suc d) g i hi floor ≡ badVarint
+    unfolding walkFrom onStep
+    walk-varint e = rw e
+
+    pub walk-shape : stepAt dense g i hi ≡ Step.BadShape → walkFrom dense (suc d) g i hi floor ≡ badShape
+    unfolding walkFrom onStep
+    walk-shape e = rw e
+
+    module _ (p : Id) (n : ℕ) (e : stepAt dense g i hi ≡ Step.Partner p n) where
+      pub walk-low : leb floor (numberOf p) ≡ false → walkFrom dense (suc d) g i hi floor ≡ badShape
+      unfolding walkFrom onStep
+      walk-low h = rw (e, h)
+
+      pub walk-more : leb floor (numberOf p) ≡ true → walkFrom dense (suc d) g i hi floor ≡ cons p (walkFrom dense d g n (p .hi) (suc (numberOf p)))
+      unfolding walkFrom onStep
+      walk-more h = rw (e, h)
+
+-- ---- a good walk, taken apart
+
+cons-good : (p : Id) (w : Partners) (b : Bool) (ps : List Id) → cons p w ≡ good b ps → (qs : List Id) × (w ≡ good b qs) × (ps ≡ p ∷ qs)
+unfolding cons
+cons-good p (good c qs) b ps e = let same : c ≡ b = cc in (qs, ap (λ (t : Bool). good t qs) same, cc)
+cons-good p badTag b ps e = let z : _≡_ {A = ℕ} 0 1 = cc in absurd (omega arith)
+cons-good p badVarint b ps e = let z : _≡_ {A = ℕ} 0 1 = cc in absurd (omega arith)
+cons-good p badShape b ps e = let z : _≡_ {A = ℕ} 0 1 = cc in absurd (omega arith)
+
+-- its first partner and the others
+pub record Turn (dense : Bool) (d : ℕ) (g : List ℕ) (i hi floor : ℕ) (b : Bool) (ps : List Id) : Type 0 where
+  pub partner : Id
+  pub next : ℕ
+  pub others : List Id
+  pub step : stepAt dense g i hi ≡ Step.Partner partner next
+  pub order : floor ≤ numberOf partner
+  pub rest : walkFrom dense d g next (partner .hi) (suc (numberOf partner)) ≡ good b others
+  pub all : ps ≡ partner ∷ others
+
+module _ (dense : Bool) (g : List ℕ) (i hi floor : ℕ) (b : Bool) (ps : List Id) where
+  pub good-turn : (d : ℕ) → walkFrom dense (suc d) g i hi floor ≡ good b ps → Turn dense d g i hi floor b ps
+  good-turn d e = go (stepAt dense g i hi) refl
+    where
+      low : (p : Id) (n : ℕ) → stepAt dense g i hi ≡ Step.Partner p n → (t : Bool) → leb floor (numberOf p) ≡ t → Turn dense d g i hi floor b ps
+      low p n q true l =
+          let w = walkFrom dense d g n (p .hi) (suc (numberOf p)) in
+          let (qs, r, all) = cons-good p w b ps (sym (walk-more dense g i hi floor d p n q l) ∙ e) in
+          record { partner = p; next = n; others = qs; step = q; order = leb-true floor (numberOf p) l; rest = r; all = all }
+      low p n q false l =
+          let r : badShape ≡ good b ps = sym (walk-low dense g i hi floor d p n q l) ∙ e in
+          let z : _≡_ {A = ℕ} 0 1 = cc in absurd (omega arith)
+
+      go : (t : Step) → stepAt dense g i hi ≡ t → Turn dense d g i hi floor b ps
+      go (Step.Partner p n) q = low p n q (leb floor (numberOf p)) refl
+      go Step.BadVarint q =
+          let r : badVarint ≡ good b ps = sym (walk-varint dense g i hi floor d q) ∙ e in
+          let z : _≡_ {A = ℕ} 0 1 = cc in absurd (omega arith)
+      go Step.BadShape q =
+          let r : badShape ≡ good b ps = sym (walk-shape dense g i hi floor d q) ∙ e in
+          let z : _≡_ {A = ℕ} 0 1 = cc in absurd (omega arith)
+
+  -- and its end
+  pub good-end : walkFrom dense 0 g i hi floor ≡ good b ps → (i ≡ length g) × (b ≡ dense) × (ps ≡ [])
+  good-end e =
+      elim (ℕ-discrete i (length g)) [
+        | yes h ↦ let r = sym (walk-end dense g i hi floor h) ∙ e in (h, cc, cc)
+        | no h ↦
+            let r : badShape ≡ good b ps = sym (walk-over dense g i hi floor h) ∙ e in
+            let z : _≡_ {A = ℕ} 0 1 = cc in absurd (omega arith)
+      ]
+
+-- ---- what is answered
+
+pub answer-good : (dense : Bool) (ps : List Id) → answerOf (good dense ps) ≡ Group.Good (length ps) dense
+unfolding answerOf
+answer-good dense ps = refl
+
+pub answer-tag : answerOf badTag ≡ Group.BadTag
+unfolding answerOf
+answer-tag = refl
+
+pub answer-varint : answerOf badVarint ≡ Group.BadVarint
+unfolding answerOf
+answer-varint = refl
+
+pub answer-shape : answerOf badShape ≡ Group.BadShape
+unfolding answerOf
+answer-shape = refl
+
+pub partners-good : (dense : Bool) (ps : List Id) → partnersOf (good dense ps) ≡ ps
+unfolding partnersOf
+partners-good dense ps = refl
+
+pub good-good : (dense : Bool) (ps : List Id) → isGood (good dense ps) ≡ true
+unfolding isGood
+good-good dense ps = refl
+
+-- a good answer is that of partners, and their number
+pub answered-good : (w : Partners) (n : ℕ) (dense : Bool) → answerOf w ≡ Group.Good n dense
+    → (w ≡ good dense (partnersOf w)) × (isGood w ≡ true) × (length (partnersOf w) ≡ n)
+unfolding answerOf partnersOf isGood
+answered-good (good b ps) n dense e = let same : b ≡ dense = cc in (ap (λ (t : Bool). good t ps) same, refl, cc)
+answered-good badTag n dense e = let z : _≡_ {A = ℕ} 0 1 = cc in absurd (omega arith)
+answered-good badVarint n dense e = let z : _≡_ {A = ℕ} 0 1 = cc in absurd (omega arith)
+answered-good badShape n dense e = let z : _≡_ {A = ℕ} 0 1 = cc in absurd (omega arith)
+
+-- what is good has partners
+pub good-is : (w : Partners) → isGood w ≡ true → (dense : Bool) × (w ≡ good dense (partnersOf w))
+unfolding isGood partnersOf
+good-is (good dense ps) e = (dense, refl)
+good-is badTag e = let z : _≡_ {A = ℕ} 0 1 = cc in absurd (omega arith)
+good-is badVarint e = let z : _≡_ {A = ℕ} 0 1 = cc in absurd (omega arith)
+good-is badShape e = let z : _≡_ {A = ℕ} 0 1 = cc in absurd (omega arith)
+
+pub not-tag : {w : Partners} → isGood w ≡ true → w ≡ badTag → ⊥
+unfolding isGood
+not-tag h e = let z : _≡_ {A = ℕ} 0 1 = cc (ap isGood e) in omega arith
+
+pub not-varint : {w : Partners} → isGood w ≡ true → w ≡ badVarint → ⊥
+unfolding isGood
+not-varint h e = let z : _≡_ {A = ℕ} 0 1 = cc (ap isGood e) in omega arith
+
+pub not-shape : {w : Partners} → isGood w ≡ true → w ≡ badShape → ⊥
+unfolding isGood
+not-shape h e = let z : _≡_ {A = ℕ} 0 1 = cc (ap isGood e) in omega arith
+
+pub length-bytesOf : (ps : List Id) → length (bytesOf ps) ≡ 16 * length ps
+unfolding bytesOf
+length-bytesOf [] = refl
+length-bytesOf (p ∷ ps) = rw length-append (omega (arith, length-bytesOf ps, length-idBytes p))
+
+-- ---- as a check meets them: k of the partners were good, and the answer is that of the rest with k more
+
+counted : ℕ → Group → Group
+counted k (Group.Good n dense) = Group.Good (k + n) dense
+counted k Group.BadTag = Group.BadTag
+counted k Group.BadVarint = Group.BadVarint
+counted k Group.BadShape = Group.BadShape
+
+counted-none : (r : Group) → counted 0 r ≡ r
+unfolding counted
+counted-none (Group.Good n dense) = ap (λ (t : ℕ). Group.Good t dense) (zero-add n)
+counted-none Group.BadTag = refl
+counted-none Group.BadVarint = refl
+counted-none Group.BadShape = refl
+
+counted-cons : (k : ℕ) (p : Id) (w : Partners) → counted k (answerOf (cons p w)) ≡ counted (k + 1) (answerOf w)
+unfolding counted answerOf cons
+counted-cons k p (good dense ps) = ap (λ (t : ℕ). Group.Good t dense) (omega arith)
+counted-cons k p badTag = refl
+counted-cons k p badVarint = refl
+counted-cons k p badShape = refl
+
+module _ (dense : Bool) (g : List ℕ) (at degree : ℕ) where
+  abbrev pub answered : Group
+  answered = answerOf (walkFrom dense degree g at 0 0)
+
+  pub Checked : (i k hi floor : ℕ) → Type 0
+  Checked i k hi floor = answered ≡ counted k (answerOf (walkFrom dense (degree - k) g i hi floor))
+
+  pub check-start : Checked at 0 0 0
+  unfolding Checked
+  check-start = rw sub-zero (sym (counted-none answered))
+
+  module _ (i k hi floor : ℕ) (l : Checked i k hi floor) where
+    module _ (h : degree ≤ k) where
+      check-last : answered ≡ counted k (answerOf (walkFrom dense 0 g i hi floor))
+      unfolding Checked
+      check-last = let z : degree - k ≡ 0 = omega arith in (rw z at l)
+
+      pub check-end : k ≤ degree → i ≡ length g → answered ≡ Group.Good degree dense
+      unfolding counted answerOf
+      check-end m e =
+          check-last ∙ ap (λ (w : Partners). counted k (answerOf w)) (walk-end dense g i hi floor e)
+          ∙ ap (λ (t : ℕ). Group.Good t dense) (omega arith)
+
+      pub check-over : (i ≡ length g → ⊥) → answered ≡ Group.BadShape
+      unfolding counted answerOf
+      check-over e = check-last ∙ ap (λ (w : Partners). counted k (answerOf w)) (walk-over dense g i hi floor e)
+
+    module _ (h : k < degree) where
+      check-rest : answered ≡ counted k (answerOf (walkFrom dense (suc (degree - (k + 1))) g i hi floor))
+      unfolding Checked
+      check-rest = let e : degree - k ≡ suc (degree - (k + 1)) = omega arith in (rw e at l)
+
+      pub check-varint : stepAt dense g i hi ≡ Step.BadVarint → answered ≡ Group.BadVarint
+      unfolding counted answerOf
+      check-varint e = check-rest ∙ ap (λ (w : Partners). counted k (answerOf w)) (walk-varint dense g i hi floor (degree - (k + 1)) e)
+
+      pub check-shape : stepAt dense g i hi ≡ Step.BadShape → answered ≡ Group.BadShape
+      unfolding counted answerOf
+      check-shape e = check-rest ∙ ap (λ (w : Partners). counted k (answerOf w)) (walk-shape dense g i hi floor (degree - (k + 1)) e)
+
+      module _ (p : Id) (n : ℕ) (e : stepAt dense g i hi ≡ Step.Partner p n) where
+        pub check-low : leb floor (numberOf p) ≡ false → answered ≡ Group.BadShape
+        unfolding counted answerOf
+        check-low q = check-rest ∙ ap (λ (w : Partners). counted k (answerOf w)) (walk-low dense g i hi floor (degree - (k + 1)) p n e q)
+
+        pub check-more : leb floor (numberOf p) ≡ true → Checked n (k + 1) (p .hi) (suc (numberOf p))
+        unfolding Checked
+        check-more q =
+            check-rest ∙ ap (λ (w : Partners). counted k (answerOf w)) (walk-more dense g i hi floor (degree - (k + 1)) p n e q)
+            ∙ counted-cons k p (walkFrom dense (degree - (k + 1)) g n (p .hi) (suc (numberOf p)))
+
+pub floor-first : (k : ℕ) (last : Id) → k ≡ 0 → floorOf k last ≡ 0
+unfolding floorOf
+floor-first k last h = simp (eq-eqb k 0 h)
+
+pub floor-next : (k : ℕ) (last : Id) → (k ≡ 0 → ⊥) → floorOf k last ≡ suc (numberOf last)
+unfolding floorOf
+floor-next k last h = simp (ne-eqb k 0 h)
+
+-- a dense payload of another length has a fault, and every fault of it is a bad shape
+pub dense-unfit : (d : ℕ) (g : List ℕ) (i hi floor : ℕ) → (i + 16 * d ≡ length g → ⊥) → walkFrom true d g i hi floor ≡ badShape
+unfolding cons
+dense-unfit zero g i hi floor h = walk-over true g i hi floor (λ q. h (omega arith))
+dense-unfit (suc d) g i hi floor h =
+    let p = halvesAt g i in
+    let ih = dense-unfit d g (i + 16) (p .hi) (suc (numberOf p)) (λ q. h (omega arith)) in
+    elim (decLe (i + 16) (length g)) [
+      | yes r ↦
+          let s : stepAt true g i hi ≡ Step.Partner p (i + 16) = step-dense g i hi ∙ dense-good g i r in
+          elim (decLe floor (numberOf p)) [
+            | yes o ↦ walk-more true g i hi floor d p (i + 16) s (le-leb floor (numberOf p) o) ∙ ap (cons p) ih
+            | no o ↦ walk-low true g i hi floor d p (i + 16) s (lt-leb floor (numberOf p) (omega arith))
+          ]
+      | no r ↦ walk-shape true g i hi floor d (step-dense g i hi ∙ dense-short g i (omega arith))
+    ]
+
+-- ---- as a fill meets them: the rest of a good group is good
+
+module _ (g : List ℕ) (i hi floor : ℕ) where
+  -- of a split group, the varint at i is v, and n the place after it
+  pub record Filled (d v n : ℕ) : Type 0 where
+    pub fits : hi + v < 2 ^ 64
+    pub room : n + 8 ≤ length g
+    pub partner : Id
+    pub upper : partner .hi ≡ hi + v
+    pub lower : partner .lo ≡ leAt g n 8
+    pub rest : isGood (walkFrom false d g (n + 8) (hi + v) (suc (numberOf partner))) ≡ true
+    pub bytes : bytesOf (partnersOf (walkFrom false (suc d) g i hi floor))
+        ≡ idBytes partner ++ bytesOf (partnersOf (walkFrom false d g (n + 8) (hi + v) (suc (numberOf partner))))
+
+  module _ (d : ℕ) (ok : isGood (walkFrom false (suc d) g i hi floor) ≡ true) where
+    pub fill-turn : (v n : ℕ) → varintAt g i ≡ Value v n → Filled d v n
+    unfolding bytesOf
+    fill-turn v n q =
+        let (b, is) = good-is (walkFrom false (suc d) g i hi floor) ok in
+        let t = good-turn false g i hi floor b (partnersOf (walkFrom false (suc d) g i hi floor)) d is in
+        let p = t .partner in
+        let s = split-read g i hi p (t .next) (sym (step-split g i hi) ∙ t .step) v n q in
+        let place = s .place in
+        let same = s .partner in
+        let up : p .hi ≡ hi + v = ap (λ (x : Id). x .hi) same in
+        let rest : walkFrom false d g (n + 8) (hi + v) (suc (numberOf p)) ≡ good b (t .others) =
+        sym (ap₂ (λ (m h : ℕ). walkFrom false d g m h (suc (numberOf p))) place up) ∙ t .rest in
+        record {
+          fits = s .fits;
+          room = s .room;
+          partner = p;
+          upper = up;
+          lower = ap (λ (x : Id). x .lo) same;
+          rest = ap isGood rest ∙ good-good b (t .others);
+          bytes = ap bytesOf (t .all) ∙ ap (λ (x : List Id). idBytes p ++ bytesOf x) (sym (ap partnersOf rest ∙ partners-good b (t .others)));
+        }
+
+    no-fault : splitStep g i hi ≡ Step.BadVarint → ⊥
+    no-fault q = not-varint ok (walk-varint false g i hi floor d (step-split g i hi ∙ q))
+
+    pub fill-cut : varintAt g i ≡ Cut → ⊥
+    fill-cut q = no-fault (split-cut g i hi q)
+
+    pub fill-long : varintAt g i ≡ Long → ⊥
+    fill-long q = no-fault (split-long g i hi q)
+
+    pub fill-large : varintAt g i ≡ Large → ⊥
+    fill-large q = no-fault (split-large g i hi q)
+
+  -- nothing is left
+  pub fill-end : bytesOf (partnersOf (walkFrom false 0 g i hi floor)) ≡ []
+  unfolding bytesOf partnersOf
+  fill-end =
+      elim (ℕ-discrete i (length g)) [
+        | yes h ↦ rw (walk-end false g i hi floor h)
+        | no h ↦ rw (walk-over false g i hi floor h)
+      ]

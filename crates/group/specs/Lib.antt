@@ -1,0 +1,4 @@
+pub mod Group
+pub mod Written
+pub mod Good
+pub mod Cases

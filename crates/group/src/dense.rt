@@ -1,0 +1,53 @@
+// Dense groups, tag 0x10: 16 bytes for each partner.
+ghost use mathlib.Core.Path.{_≡_};
+ghost use mathlib.Core.Bool.{true};
+ghost use Prim.Native.Nat.{_-_, _≤_};
+ghost use lib.ListN.{length, drop};
+ghost use Rattle.base.specs.Over.{over};
+ghost use Rattle.group.specs.Group.{walkFrom, answerOf};
+use super::Group;
+use super::above;
+use codes::ids::id_at;
+
+// Checks the partners from `at` on. Every fault of a dense payload is a bad shape, so its length can be held against the
+// degree before any partner is read.
+pub fn check_dense(g: &[u8], at: usize, degree: u64) -> Group
+    requires { ⌜ (at ≤ length (now g)) × (1 ≤ degree) ⌝ }
+    ensures { λ r. ⌜ r ≡ answerOf (walkFrom true degree (now (g .entry)) at 0 0) ⌝ }
+{
+    let rest = g.len() - at;
+    if rest % 16 != 0 {
+        return Group::BadShape;
+    }
+    let count = (rest / 16) as u64;
+    if count != degree {
+        return Group::BadShape;
+    }
+    let mut last = id_at(g, at);
+    let mut i = at + 16;
+    while i < g.len() {
+        let id = id_at(g, i);
+        if !above(last, id) {
+            return Group::BadShape;
+        }
+        last = id;
+        i = i + 16;
+    }
+    Group::Good {
+        degree,
+        dense: true,
+    }
+}
+
+// Copies the payload, from `at` on, which is the partners' bytes as they stand.
+pub fn fill_dense(g: &[u8], at: usize, out: &mut [u8])
+    requires { ⌜ (at ≤ length (now g)) × (length (now g) - at ≤ length (now out)) ⌝ }
+    ensures { λ _. ⌜ now (out .exit) ≡ over (drop at (now (g .entry))) (now (out .entry)) ⌝ }
+{
+    let n = g.len() - at;
+    let mut k: usize = 0;
+    while k < n {
+        out[k] = g[at + k];
+        k = k + 1;
+    }
+}

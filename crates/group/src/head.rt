@@ -1,0 +1,47 @@
+// What stands before the partners: the degree as a varint, and the tag.
+ghost use mathlib.Core.Path.{_≡_};
+ghost use Rattle.group.specs.Group.{headOf};
+use codes::varint::Varint;
+use codes::varint::varint_at;
+
+// The degree and where the payload begins, by the tag.
+pub enum Head {
+    Split { degree: u64, at: usize },
+    Dense { degree: u64, at: usize },
+    BadTag,
+    BadVarint,
+    BadShape,
+}
+
+// Degree 0 is told before the tag is looked at.
+pub fn head_of(g: &[u8]) -> Head
+    ensures { λ r. ⌜ r ≡ headOf (now (g .entry)) ⌝ }
+{
+    match varint_at(g, 0) {
+        Varint::Value { value, next } => {
+            if value == 0 {
+                return Head::BadShape;
+            }
+            if g.len() <= next {
+                return Head::BadShape;
+            }
+            let tag = g[next];
+            if tag == 0x01 {
+                return Head::Split {
+                    degree: value,
+                    at: next + 1,
+                };
+            }
+            if tag == 0x10 {
+                return Head::Dense {
+                    degree: value,
+                    at: next + 1,
+                };
+            }
+            Head::BadTag
+        }
+        Varint::Cut => Head::BadVarint,
+        Varint::Long => Head::BadVarint,
+        Varint::Large => Head::BadVarint,
+    }
+}

@@ -1,0 +1,83 @@
+// One group: the partners of a key. A call is lent the bytes of the group and of nothing else, since a group ends where
+// its offset range ends. The check reads them once and writes nothing; only a group that it found good is then written out.
+ghost use mathlib.Core.Path.{_≡_};
+ghost use mathlib.Core.Bool.{true};
+ghost use Prim.Native.Nat.{_*_, _≤_};
+ghost use lib.ListN.{length};
+ghost use lib.Dec.{ltb};
+ghost use Rattle.base.specs.Over.{over};
+ghost use Rattle.codes.specs.Ids.{numberOf};
+ghost use Rattle.group.specs.Group.{groupOf, answerOf, isGood, partnersOf, bytesOf};
+
+pub mod dense;
+pub mod head;
+pub mod split;
+
+use codes::ids::Id;
+use dense::check_dense;
+use dense::fill_dense;
+use head::Head;
+use head::head_of;
+use split::check_split;
+use split::fill_split;
+
+// A group's partners are good, or its first fault in reading order.
+pub enum Group {
+    Good { degree: u64, dense: bool },
+    // the tag is unknown
+    BadTag,
+    // a varint is cut, too long or too large
+    BadVarint,
+    // degree 0, order, an upper half too large, the group cut or overlong
+    BadShape,
+}
+
+// Is a partner above the last one?
+fn above(last: Id, id: Id) -> bool
+    ensures { λ r. ⌜ r ≡ ltb (numberOf last) (numberOf id) ⌝ }
+{
+    if last.hi < id.hi {
+        return true;
+    }
+    if id.hi < last.hi {
+        return false;
+    }
+    last.lo < id.lo
+}
+
+// Is g a group, and of how many partners?
+pub fn check_group(g: &[u8]) -> Group
+    ensures { λ r. ⌜ r ≡ answerOf (groupOf (now (g .entry))) ⌝ }
+{
+    match head_of(g) {
+        Head::Split { degree, at } => check_split(g, at, degree),
+        Head::Dense { degree, at } => check_dense(g, at, degree),
+        Head::BadTag => Group::BadTag,
+        Head::BadVarint => Group::BadVarint,
+        Head::BadShape => Group::BadShape,
+    }
+}
+
+// Writes the partners of a good group, 16 bytes each, over the start of `out`.
+pub fn fill_group(g: &[u8], out: &mut [u8])
+    requires { ⌜ (isGood (groupOf (now g)) ≡ true) × (16 * length (partnersOf (groupOf (now g))) ≤ length (now out)) ⌝ }
+    ensures { λ _. ⌜ now (out .exit) ≡ over (bytesOf (partnersOf (groupOf (now (g .entry))))) (now (out .entry)) ⌝ }
+{
+    match head_of(g) {
+        Head::Split { degree, at } => {
+            fill_split(g, at, degree, out);
+        }
+        Head::Dense { degree: _, at } => {
+            fill_dense(g, at, out);
+        }
+        Head::BadTag => {
+            return;
+        }
+        Head::BadVarint => {
+            return;
+        }
+        Head::BadShape => {
+            return;
+        }
+    }
+}

@@ -1,0 +1,144 @@
+// Split groups, tag 0x01: of each partner the upper half's difference to the one before as a varint, and the lower half
+// as eight bytes, the lowest first.
+ghost use mathlib.Core.Path.{_≡_};
+ghost use mathlib.Core.Bool.{true, false};
+ghost use Prim.Native.Nat.{_*_, _≤_};
+ghost use lib.ListN.{length};
+ghost use lib.Dec.{leb};
+ghost use Rattle.base.specs.Over.{over};
+ghost use Rattle.codes.specs.Ids.{numberOf};
+ghost use Rattle.codes.specs.Varint.{varintAt};
+ghost use Rattle.group.specs.Group.{splitStep, floorOf, walkFrom, answerOf, isGood, partnersOf, bytesOf};
+use super::Group;
+use super::above;
+use codes::ids::Id;
+use codes::ids::put_be;
+use codes::little::le64;
+use codes::varint::Varint;
+use codes::varint::varint_at;
+
+// A partner and the place after it.
+pub enum Step {
+    Partner { id: Id, next: usize },
+    BadVarint,
+    BadShape,
+}
+
+// The varint at i. Most differences are of one byte: these are read here, without a call.
+fn difference(g: &[u8], i: usize) -> Varint
+    ensures { λ r. ⌜ r ≡ varintAt (now (g .entry)) i ⌝ }
+{
+    if g.len() <= i {
+        return Varint::Cut;
+    }
+    let b = g[i] as u64;
+    if b < 128 {
+        return Varint::Value {
+            value: b,
+            next: i + 1,
+        };
+    }
+    varint_at(g, i)
+}
+
+// The partner at i, after one with the upper half hi; the first comes after 0.
+pub fn split_step(g: &[u8], i: usize, hi: u64) -> Step
+    ensures { λ r. ⌜ r ≡ splitStep (now (g .entry)) i hi ⌝ }
+{
+    match difference(g, i) {
+        Varint::Value { value, next } => {
+            if 18446744073709551615 - hi < value {
+                return Step::BadShape;
+            }
+            if g.len() - next < 8 {
+                return Step::BadShape;
+            }
+            let lo = le64(g, next);
+            Step::Partner {
+                id: Id { hi: hi + value, lo },
+                next: next + 8,
+            }
+        }
+        Varint::Cut => Step::BadVarint,
+        Varint::Long => Step::BadVarint,
+        Varint::Large => Step::BadVarint,
+    }
+}
+
+// Is partner k above the last one? Partner 0 has none before it.
+fn in_order(k: u64, last: Id, id: Id) -> bool
+    ensures { λ r. ⌜ r ≡ leb (floorOf k last) (numberOf id) ⌝ }
+{
+    if k == 0 {
+        return true;
+    }
+    above(last, id)
+}
+
+// Checks the partners from `at` on.
+pub fn check_split(g: &[u8], at: usize, degree: u64) -> Group
+    ensures { λ r. ⌜ r ≡ answerOf (walkFrom false degree (now (g .entry)) at 0 0) ⌝ }
+{
+    let mut i = at;
+    let mut k: u64 = 0;
+    let mut last = Id { hi: 0, lo: 0 };
+    while k < degree {
+        match split_step(g, i, last.hi) {
+            Step::Partner { id, next } => {
+                if !in_order(k, last, id) {
+                    return Group::BadShape;
+                }
+                last = id;
+                i = next;
+                k = k + 1;
+            }
+            Step::BadVarint => {
+                return Group::BadVarint;
+            }
+            Step::BadShape => {
+                return Group::BadShape;
+            }
+        }
+    }
+    if i == g.len() {
+        return Group::Good {
+            degree,
+            dense: false,
+        };
+    }
+    Group::BadShape
+}
+
+// Writes the partners from `at` on, which were checked. The upper half is written before the lower half is read: so
+// the compiler makes one store of each, where 16 stores of a byte in a row would stay 16.
+pub fn fill_split(g: &[u8], at: usize, degree: u64, out: &mut [u8])
+    requires { ⌜ (isGood (walkFrom false degree (now g) at 0 0) ≡ true) × (16 * degree ≤ length (now out)) ⌝ }
+    ensures { λ _. ⌜ now (out .exit) ≡ over (bytesOf (partnersOf (walkFrom false degree (now (g .entry)) at 0 0))) (now (out .entry)) ⌝ }
+{
+    let mut i = at;
+    let mut k: u64 = 0;
+    let mut to: usize = 0;
+    let mut hi: u64 = 0;
+    while k < degree {
+        match difference(g, i) {
+            Varint::Value { value, next } => {
+                hi = hi + value;
+                put_be(out, to, 8, hi);
+                let lo = le64(g, next);
+                put_be(out, to + 8, 8, lo);
+                i = next + 8;
+                to = to + 16;
+                k = k + 1;
+            }
+            Varint::Cut => {
+                return;
+            }
+            Varint::Long => {
+                return;
+            }
+            Varint::Large => {
+                return;
+            }
+        }
+    }
+}

@@ -1,0 +1,3 @@
+pub mod Lookup
+pub mod Record
+pub mod Groups
