@@ -1,3 +1,4 @@
 pub mod Lookup
 pub mod Record
 pub mod Groups
+pub mod Calls

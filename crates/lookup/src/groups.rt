@@ -47,7 +47,7 @@ fn group_seen(partners: &[u8], a: usize, e: usize, i: u64) -> GroupSeen
 }
 
 // Group i of a record.
-pub(crate) fn group_of(file: &[u8], o: Opened, i: u64) -> GroupSeen
+pub fn group_of(file: &[u8], o: Opened, i: u64) -> GroupSeen
     requires { ⌜ Holds (now file) o × (i < o .keycount) ⌝ }
     ensures { λ r. ⌜ r ≡ groupSeen (bytesAt (now (file .entry)) (o .partners)) (offsetAt (bytesAt (now (file .entry)) (o .offsets)) (o .bits / 8) i) (offsetAt (bytesAt (now (file .entry)) (o .offsets)) (o .bits / 8) (i + 1)) i ⌝ }
 {
@@ -66,7 +66,7 @@ fn fill_part(partners: &[u8], a: usize, e: usize, out: &mut [u8])
 }
 
 // Writes the partners of group i of a record, which is good.
-pub(crate) fn give_partners(file: &[u8], o: Opened, i: u64, out: &mut [u8])
+pub fn give_partners(file: &[u8], o: Opened, i: u64, out: &mut [u8])
     requires { ⌜ Holds (now file) o × (i < o .keycount) × Fills (bytesAt (now file) (o .partners)) (offsetAt (bytesAt (now file) (o .offsets)) (o .bits / 8) i) (offsetAt (bytesAt (now file) (o .offsets)) (o .bits / 8) (i + 1)) (length (now out)) ⌝ }
     ensures { λ _. ⌜ now (out .exit) ≡ over (bytesOf (partnersOf (groupOf (part (bytesAt (now (file .entry)) (o .partners)) (offsetAt (bytesAt (now (file .entry)) (o .offsets)) (o .bits / 8) i) (offsetAt (bytesAt (now (file .entry)) (o .offsets)) (o .bits / 8) (i + 1)))))) (now (out .entry)) ⌝ }
 {

@@ -21,7 +21,7 @@ use index::keys::find;
 use index::offsets::offset_at;
 
 // The key's index among the keys, or absence.
-pub(crate) fn locate(file: &[u8], o: Opened, key: Id) -> Found
+pub fn locate(file: &[u8], o: Opened, key: Id) -> Found
     requires { ⌜ Holds (now file) o ⌝ }
     ensures { λ r. ⌜ r ≡ findIn (bytesAt (now (file .entry)) (o .keys)) (o .keycount) (numberOf key) ⌝ }
 {
@@ -30,7 +30,7 @@ pub(crate) fn locate(file: &[u8], o: Opened, key: Id) -> Found
 }
 
 // Where group i begins among the partners; of the last offset, where they end.
-pub(crate) fn offset_of(file: &[u8], o: Opened, i: u64) -> usize
+pub fn offset_of(file: &[u8], o: Opened, i: u64) -> usize
     requires { ⌜ Holds (now file) o × (i ≤ o .keycount) ⌝ }
     ensures { λ r. ⌜ r ≡ offsetAt (bytesAt (now (file .entry)) (o .offsets)) (o .bits / 8) i ⌝ }
 {
@@ -39,7 +39,7 @@ pub(crate) fn offset_of(file: &[u8], o: Opened, i: u64) -> usize
 }
 
 // The edges before group i, if they are no more than the file has.
-pub(crate) fn edges_of(file: &[u8], o: Opened, i: u64) -> Sum
+pub fn edges_of(file: &[u8], o: Opened, i: u64) -> Sum
     requires { ⌜ Holds (now file) o × (i < o .keycount) ⌝ }
     ensures { λ r. ⌜ r ≡ capped (o .edgecount) (edgesBefore (bytesAt (now (file .entry)) (o .partners)) (bytesAt (now (file .entry)) (o .offsets)) (o .bits / 8) i) ⌝ }
 {
@@ -55,7 +55,7 @@ pub(crate) fn edges_of(file: &[u8], o: Opened, i: u64) -> Sum
 }
 
 // Writes the log numbers of d edges from edge `first` on over the start of `out`.
-pub(crate) fn fill_logs(s: &[u8], first: usize, d: usize, out: &mut [u64])
+pub fn fill_logs(s: &[u8], first: usize, d: usize, out: &mut [u64])
     requires { ⌜ (first ≤ 67108864) × (d ≤ 67108864) × (8 * (first + d) ≤ length (now s)) × (d ≤ length (now out)) ⌝ }
     ensures { λ _. ⌜ now (out .exit) ≡ over (logsFrom d (now (s .entry)) first) (now (out .entry)) ⌝ }
 {
@@ -78,7 +78,7 @@ fn mark_at(s: &[u8], e: usize) -> u8
 }
 
 // Writes the dead marks of d edges from edge `first` on over the start of `out`.
-pub(crate) fn fill_marks(s: &[u8], first: usize, d: usize, out: &mut [u8])
+pub fn fill_marks(s: &[u8], first: usize, d: usize, out: &mut [u8])
     requires { ⌜ (first ≤ 67108864) × (d ≤ 67108864) × (d ≤ length (now out)) ⌝ }
     ensures { λ _. ⌜ now (out .exit) ≡ over (marksFrom d (now (s .entry)) first) (now (out .entry)) ⌝ }
 {

@@ -1,6 +1,7 @@
 // Looking up a key in what is known of a file: one part's partners now, even if another group of the file is bad.
-mod groups;
-mod known;
+pub mod groups;
+pub mod known;
+pub mod partners;
 
 use refusal::Refusal;
 
