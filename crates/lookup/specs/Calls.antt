@@ -31,6 +31,10 @@ use Rattle.lookup.specs.Groups.{groupSeen, seen-fault, seen-degree, seen
 abbrev pub alone : ℕ → Rooms
 alone n = record { bytes = n; logs = 0; marks = 0 }
 
+-- a whole lookup lends n bytes, l log numbers and m marks
+abbrev pub lent : ℕ → ℕ → ℕ → Rooms
+lent n l m = record { bytes = n; logs = l; marks = m }
+
 -- what a call of partners alone answers and leaves
 pub record Alone (x : Outcome) (r : Looked) (o out : List ℕ) : Type 0 where
   pub answer : r ≡ answerOf x
@@ -49,6 +53,51 @@ refuse-true r e = rw e
 
 refuse-false : (r : Refusal) {t : Bool} → t ≡ false → refuse r t ≡ Check.Fine
 refuse-false r e = rw e
+
+-- a sum that is capped is the sum, and within the edge count what it was
+cap-cases : (e d : ℕ) (x : Sum) (s : ℕ) → capped e x ≡ Sum.Total s → (within e d x ≡ leb (s + d) e) × (firstOf x ≡ s)
+unfolding capped within firstOf
+cap-cases e d (Sum.Total t) s q =
+    elim (decLe t e) [
+      | yes h ↦
+          let r : Sum.Total t ≡ Sum.Total s = sym (simp (le-leb t e h)) ∙ q in
+          let same : t ≡ s = cc in
+          (ap (λ (m : ℕ). leb (m + d) e) same, same)
+      | no h ↦
+          let r : Sum.Bad ≡ Sum.Total s = sym (simp (lt-leb t e (omega arith))) ∙ q in
+          let z : _≡_ {A = ℕ} 0 1 = cc in absurd (omega arith)
+    ]
+cap-cases e d Sum.Bad s q = let z : _≡_ {A = ℕ} 0 1 = cc in absurd (omega arith)
+
+within-is : (e d : ℕ) (x : Sum) (s : ℕ) → capped e x ≡ Sum.Total s → within e d x ≡ leb (s + d) e
+within-is e d x s q = cap-cases e d x s q .0
+
+first-is : (e : ℕ) (x : Sum) (s : ℕ) → capped e x ≡ Sum.Total s → firstOf x ≡ s
+first-is e x s q = cap-cases e 0 x s q .1
+
+within-bad : (e d : ℕ) (x : Sum) → capped e x ≡ Sum.Bad → within e d x ≡ false
+unfolding capped within
+within-bad e d (Sum.Total t) q =
+    elim (decLe t e) [
+      | yes h ↦
+          let r : Sum.Total t ≡ Sum.Bad = sym (simp (le-leb t e h)) ∙ q in
+          let z : _≡_ {A = ℕ} 0 1 = cc in absurd (omega arith)
+      | no h ↦ simp (lt-leb (t + d) e (omega arith))
+    ]
+within-bad e d Sum.Bad q = refl
+
+pub capped-le : (e : ℕ) (x : Sum) (s : ℕ) → capped e x ≡ Sum.Total s → s ≤ e
+unfolding capped
+capped-le e (Sum.Total t) s q =
+    elim (decLe t e) [
+      | yes h ↦
+          let r : Sum.Total t ≡ Sum.Total s = sym (simp (le-leb t e h)) ∙ q in
+          let same : t ≡ s = cc in omega arith
+      | no h ↦
+          let r : Sum.Bad ≡ Sum.Total s = sym (simp (lt-leb t e (omega arith))) ∙ q in
+          let z : _≡_ {A = ℕ} 0 1 = cc in absurd (omega arith)
+    ]
+capped-le e Sum.Bad s q = let z : _≡_ {A = ℕ} 0 1 = cc in absurd (omega arith)
 
 -- ---- ways out of partners alone
 
@@ -125,3 +174,99 @@ module _ (f : List ℕ) (o : Opened) (i : ℕ) where
 
       pub partners-found : 16 * d ≤ n → lookGroup false (alone n) (knownOf f o) i c ≡ found i c (partnersAt true (alone 0) (knownOf f o) i) [] []
       partners-found h = group-is ∙ outcome-fine _ (alone-check false (le-ltb n (16 * d) h))
+
+    -- with log numbers and dead marks
+    abbrev sum : Sum
+    sum = edgesBefore (bytesAt f (o .partners)) (bytesAt f (o .offsets)) (o .bits / 8) i
+
+    module _ (rooms : Rooms) (c : ℕ) where
+      abbrev marks : List ℕ
+      marks = pick (o .marked) (bytesAt f (o .dead)) []
+
+      whole-is : lookGroup true rooms (knownOf f o) i c
+          ≡ outcome (lookCheck true rooms (knownOf f o) i d) (found i c (partnersAt true (alone 0) (knownOf f o) i) (logsFrom d (bytesAt f (o .logs)) (firstOf sum)) (marksFrom d marks (firstOf sum)))
+      unfolding lookGroup knownOf
+      whole-is = ap (λ (m : ℕ). outcome (lookCheck true rooms (knownOf f o) i m) (found i c (partnersAt true (alone 0) (knownOf f o) i) (logsFrom m (bytesAt f (o .logs)) (firstOf sum)) (marksFrom m marks (firstOf sum)))) degree
+
+      -- after the group's own faults
+      rest : (t u : Bool) → within (o .edgecount) d sum ≡ t → short true rooms d ≡ u
+          → lookCheck true rooms (knownOf f o) i d ≡ (refuse (Refusal.Degrees i) (not t) ⊳ refuse (Refusal.Room d) u)
+      unfolding lookCheck knownOf
+      rest t u p q =
+          fine-then _ (seen-fault (bytesAt f (o .partners)) begins ends i d g)
+          ∙ ap₂ (λ (x y : Bool). refuse (Refusal.Degrees i) (not x) ⊳ refuse (Refusal.Room d) y) p q
+
+      pub whole-lost : capped (o .edgecount) sum ≡ Sum.Bad → lookGroup true rooms (knownOf f o) i c ≡ refused (Refusal.Degrees i)
+      whole-lost e = whole-is ∙ outcome-bad _ (rest false (short true rooms d) (within-bad (o .edgecount) d sum e) refl)
+
+      module _ (s : ℕ) (e : capped (o .edgecount) sum ≡ Sum.Total s) where
+        pub whole-over : o .edgecount < s + d → lookGroup true rooms (knownOf f o) i c ≡ refused (Refusal.Degrees i)
+        whole-over h =
+            whole-is ∙ outcome-bad _ (rest false (short true rooms d) (within-is (o .edgecount) d sum s e ∙ lt-leb (s + d) (o .edgecount) h) refl)
+
+        module _ (h : s + d ≤ o .edgecount) where
+          pub whole-short : short true rooms d ≡ true → lookGroup true rooms (knownOf f o) i c ≡ refused (Refusal.Room d)
+          whole-short q =
+              whole-is ∙ outcome-bad _ (rest true true (within-is (o .edgecount) d sum s e ∙ le-leb (s + d) (o .edgecount) h) q)
+
+          pub whole-found : short true rooms d ≡ false
+              → lookGroup true rooms (knownOf f o) i c ≡ found i c (partnersAt true (alone 0) (knownOf f o) i) (logsFrom d (bytesAt f (o .logs)) s) (marksFrom d marks s)
+          whole-found q =
+              whole-is
+              ∙ outcome-fine _ (rest true false (within-is (o .edgecount) d sum s e ∙ le-leb (s + d) (o .edgecount) h) q)
+              ∙ ap (λ (m : ℕ). found i c (partnersAt true (alone 0) (knownOf f o) i) (logsFrom d (bytesAt f (o .logs)) m) (marksFrom d marks m)) (first-is (o .edgecount) sum s e)
+
+-- what a call with log numbers and dead marks answers and leaves
+pub record Whole (x : Outcome) (r : Looked) (o out l logs m marks : List ℕ) : Type 0 where
+  pub answer : r ≡ answerOf x
+  pub partners : out ≡ partnersLeft x o
+  pub numbers : logs ≡ logsLeft x l
+  pub dead : marks ≡ marksLeft x m
+
+pub whole-absent : (x : Outcome) (c : ℕ) (o l m : List ℕ) → x ≡ absent c → Whole x (Looked.Absent c) o o l l m m
+unfolding answerOf partnersLeft logsLeft marksLeft
+whole-absent x c o l m e = record {
+  answer = sym (ap answerOf e);
+  partners = sym (ap (λ (y : Outcome). partnersLeft y o) e);
+  numbers = sym (ap (λ (y : Outcome). logsLeft y l) e);
+  dead = sym (ap (λ (y : Outcome). marksLeft y m) e);
+}
+
+pub whole-refused : (x : Outcome) (r : Refusal) (o l m : List ℕ) → x ≡ refused r → Whole x (Looked.Refused r) o o l l m m
+unfolding answerOf partnersLeft logsLeft marksLeft
+whole-refused x r o l m e = record {
+  answer = sym (ap answerOf e);
+  partners = sym (ap (λ (y : Outcome). partnersLeft y o) e);
+  numbers = sym (ap (λ (y : Outcome). logsLeft y l) e);
+  dead = sym (ap (λ (y : Outcome). marksLeft y m) e);
+}
+
+pub whole-given : (x : Outcome) (i c d : ℕ) (ps : List Id) (ls ms o out l logs m marks : List ℕ) → x ≡ found i c ps ls ms → length ps ≡ d
+    → out ≡ over (bytesOf ps) o → logs ≡ over ls l → marks ≡ over ms m → Whole x (Looked.Found d i c) o out l logs m marks
+unfolding answerOf partnersLeft logsLeft marksLeft
+whole-given x i c d ps ls ms o out l logs m marks e n p q r = record {
+  answer = sym (ap answerOf e ∙ ap (λ (t : ℕ). Looked.Found t i c) n);
+  partners = p ∙ sym (ap (λ (y : Outcome). partnersLeft y o) e);
+  numbers = q ∙ sym (ap (λ (y : Outcome). logsLeft y l) e);
+  dead = r ∙ sym (ap (λ (y : Outcome). marksLeft y m) e);
+}
+
+-- the outputs: all have room, or one is short
+module _ (rooms : Rooms) (d : ℕ) where
+  pub short-bytes : rooms .bytes < 16 * d → short true rooms d ≡ true
+  unfolding short
+  short-bytes h = simp (lt-ltb (rooms .bytes) (16 * d) h)
+
+  module _ (b : 16 * d ≤ rooms .bytes) where
+    pub short-logs : rooms .logs < d → short true rooms d ≡ true
+    unfolding short
+    short-logs h = simp (le-ltb (rooms .bytes) (16 * d) b, lt-ltb (rooms .logs) d h)
+
+    module _ (l : d ≤ rooms .logs) where
+      pub short-marks : rooms .marks < d → short true rooms d ≡ true
+      unfolding short
+      short-marks h = simp (le-ltb (rooms .bytes) (16 * d) b, le-ltb (rooms .logs) d l, lt-ltb (rooms .marks) d h)
+
+      pub short-none : d ≤ rooms .marks → short true rooms d ≡ false
+      unfolding short
+      short-none h = simp (le-ltb (rooms .bytes) (16 * d) b, le-ltb (rooms .logs) d l, le-ltb (rooms .marks) d h)

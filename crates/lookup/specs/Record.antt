@@ -8,7 +8,7 @@ use lib.ListN.{length}
 use lib.Dec.{leb, eqb}
 use borrow.Author.Tests.{leb-true}
 use Rattle.base.specs.Over.{length-part}
-use Rattle.refusal.specs.Check.Laws.{and-parts}
+use Rattle.refusal.specs.Check.Laws.{and-parts, or-cases}
 use Rattle.frame.specs.declared.Opened.{Opened}
 use Rattle.frame.specs.Open.{inside, recordGood, bytesAt}
 use Rattle.frame.specs.Open.Laws.{Sized, sized-parts, width-bytes}
@@ -67,3 +67,7 @@ holds f o e =
       logbytes = omega arith;
       partnerbytes = omega arith;
     }
+
+-- the tombstones lie within the file where there are any
+pub dead-inside : (f : List ℕ) (o : Opened) → Holds f o → o .marked ≡ true → o .dead .start + o .dead .len ≤ length f
+dead-inside f o h m = leb-true _ _ (or-cases (not (o .marked)) (inside f (o .dead)) (h .dead) (ap not m))

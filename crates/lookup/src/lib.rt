@@ -2,6 +2,7 @@
 pub mod groups;
 pub mod known;
 pub mod partners;
+pub mod whole;
 
 use refusal::Refusal;
 
