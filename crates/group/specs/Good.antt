@@ -1,29 +1,25 @@
 -- What a good group says: of its degree and its partners, of its length, and that its bytes are what is written for them.
 use mathlib.Core.Path.{_≡_, refl, sym, ap, ap₂, subst, _∙_}
 use Prim.Native.Nat.{ℕ, zero, suc, _+_, _-_, _*_, _/_, _%_, _^_, _≤_, _<_}
-use native.Mathlib.Nat.{add-zero, zero-add}
+use native.Mathlib.Nat.{add-zero}
 use native.Mathlib.Numerals.{add-one}
 use native.Mathlib.Omega.{arith}
-use mathlib.Core.List.{List, [], _∷_, _++_, append-assoc}
+use mathlib.Core.List.{List, _∷_, _++_, append-assoc}
 use mathlib.Core.Bool.{Bool, true, false}
-use lib.ListN.{length, getD, take, drop, take-append-drop, length-drop, drop-of-length-le}
+use lib.ListN.{length, getD, drop, take-append-drop, length-drop, drop-of-length-le}
 use lib.Seq.{append-snoc, drop-cons, drop-drop}
 use lib.Arith.{digits-div, digits-mod}
-use lib.Dec.{lit<}
-use Rattle.base.specs.Over.{part}
-use Rattle.base.specs.Pick.{pick}
 use Rattle.codes.specs.declared.ids.Id.{Id}
-use Rattle.codes.specs.declared.varint.Varint.{Varint}
 use Rattle.codes.specs.declared.varint.Varint.the-variants.{Value}
 use Rattle.codes.specs.Little.{leAt, leBytes}
-use Rattle.codes.specs.Little.Laws.{leAt-low, leAt-lt, leBytes-zero}
+use Rattle.codes.specs.Little.Laws.{leAt-low, leAt-lt}
 use Rattle.codes.specs.Ids.{beAt, beBytes, numberOf, idBytes, halvesAt}
-use Rattle.codes.specs.Ids.Laws.{beAt-lt, beBytes-zero}
+use Rattle.codes.specs.Ids.Laws.{beAt-lt}
 use Rattle.codes.specs.Varint.{varintAt, varBytes}
 use Rattle.codes.specs.Varint.Laws.{varint-next, varint-bytes}
 use Rattle.group.specs.declared.head.Head.{Head}
 use Rattle.group.specs.declared.split.Step.{Step}
-use Rattle.group.specs.Group.{Partners, good, badTag, badVarint, badShape, splitStep, denseStep, stepAt, walkFrom, degreeOf, headOf, groupOf, isGood, partnersOf, bytesOf}
+use Rattle.group.specs.Group.{Partners, good, badTag, badVarint, badShape, splitStep, stepAt, walkFrom, degreeOf, headOf, groupOf, isGood, partnersOf, bytesOf}
 use Rattle.group.specs.Group.Laws.{SplitRead, split-read, split-varint, dense-read, step-split, step-dense, step-next, headIs, tagOf, Headed, headed, group-walk, group-tag, group-varint, group-shape, good-turn, good-end, good-is, length-bytesOf}
 use Rattle.group.specs.Written.{Halves, Above, Rising, stepBytes, payloadOf, payload-none, payload-cons, writtenAs, written-is}
 

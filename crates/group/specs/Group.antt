@@ -84,7 +84,8 @@ floorOf k last = pick (eqb k 0) 0 (suc (numberOf last))
 unfoldable pub degreeOf : List ℕ → Varint
 degreeOf g = varintAt g 0
 
--- "Degree is at least 1"; tag 0x01 is split, tag 0x10 dense
+-- "Degree is at least 1": a degree of 0 is told before the tag is looked at. A group that ends before its tag is cut. Tag
+-- 0x01 is split, tag 0x10 dense
 unfoldable pub headOf : List ℕ → Head
 headOf g =
     onVarint (degreeOf g) Head.BadVarint

@@ -13,13 +13,12 @@ use Rattle.codes.specs.declared.ids.Id.{Id}
 use Rattle.codes.specs.declared.varint.Varint.the-variants.{Value}
 use Rattle.codes.specs.Little.{leAt, leBytes}
 use Rattle.codes.specs.Little.Laws.{leAt-back, length-leBytes}
-use Rattle.codes.specs.Ids.{numberOf, idBytes, halvesAt}
+use Rattle.codes.specs.Ids.{numberOf, idBytes}
 use Rattle.codes.specs.Ids.Laws.{length-idBytes, halves-back}
 use Rattle.codes.specs.Varint.{varintAt, varBytes}
 use Rattle.codes.specs.Varint.Laws.{read-back}
-use Rattle.group.specs.declared.head.Head.{Head}
 use Rattle.group.specs.declared.split.Step.{Step}
-use Rattle.group.specs.Group.{Partners, good, splitStep, stepAt, cons, walkFrom, degreeOf, headOf, groupOf, bytesOf}
+use Rattle.group.specs.Group.{Partners, good, splitStep, stepAt, cons, walkFrom, headOf, groupOf, bytesOf}
 use Rattle.group.specs.Group.Laws.{split-good, dense-good, step-split, step-dense, walk-end, walk-more, headIs, tagOf, head-split, head-dense, group-walk}
 
 -- ---- what can be written
@@ -37,6 +36,20 @@ Above floor (p ∷ ps) = (floor ≤ numberOf p) × Above (suc (numberOf p)) ps
 -- "Partners strictly increase"
 abbrev pub Rising : List Id → Type 0
 Rising ps = Above 0 ps
+
+-- so each number is above every one before it; z is any id
+above-floor : (ps : List Id) (floor j : ℕ) (z : Id) → Above floor ps → j < length ps → floor ≤ numberOf (getD ps j z)
+unfolding Above
+above-floor [] floor j z u h = absurd (omega arith)
+above-floor (p ∷ ps) floor zero z u h = u .0
+above-floor (p ∷ ps) floor (suc j) z u h = let first = u .0 in omega (arith, above-floor ps (suc (numberOf p)) j z (u .1) (omega arith))
+
+pub above-before : (ps : List Id) (floor i j : ℕ) (z : Id) → Above floor ps → i < j → j < length ps → numberOf (getD ps i z) < numberOf (getD ps j z)
+unfolding Above
+above-before [] floor i j z u l h = absurd (omega arith)
+above-before (p ∷ ps) floor i zero z u l h = absurd (omega arith)
+above-before (p ∷ ps) floor zero (suc j) z u l h = above-floor ps (suc (numberOf p)) j z (u .1) (omega arith)
+above-before (p ∷ ps) floor (suc i) (suc j) z u l h = above-before ps (suc (numberOf p)) i j z (u .1) (omega arith) (omega arith)
 
 -- ---- the two writings
 

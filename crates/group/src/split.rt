@@ -124,8 +124,8 @@ pub fn fill_split(g: &[u8], at: usize, degree: u64, out: &mut [u8])
             Varint::Value { value, next } => {
                 hi = hi + value;
                 put_be(out, to, 8, hi);
-                let lo = le64(g, next);
-                put_be(out, to + 8, 8, lo);
+                let lower = le64(g, next);
+                put_be(out, to + 8, 8, lower);
                 i = next + 8;
                 to = to + 16;
                 k = k + 1;

@@ -270,3 +270,10 @@ module _ (rooms : Rooms) (d : ℕ) where
       pub short-none : d ≤ rooms .marks → short true rooms d ≡ false
       unfolding short
       short-none h = simp (le-ltb (rooms .bytes) (16 * d) b, le-ltb (rooms .logs) d l, le-ltb (rooms .marks) d h)
+
+-- an outcome by another name
+pub whole-as : {x y : Outcome} {r : Looked} {o out l logs m marks : List ℕ} → x ≡ y → Whole y r o out l logs m marks → Whole x r o out l logs m marks
+whole-as e w = rw e w
+
+pub alone-as : {x y : Outcome} {r : Looked} {o out : List ℕ} → x ≡ y → Alone y r o out → Alone x r o out
+alone-as e w = rw e w

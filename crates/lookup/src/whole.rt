@@ -113,3 +113,26 @@ fn group_edges(
         }
     }
 }
+
+// The partners of a key with their log numbers and dead marks.
+pub fn edges_of_key(
+    file: &[u8],
+    o: Opened,
+    key: Id,
+    out: &mut [u8],
+    logs: &mut [u64],
+    marks: &mut [u8],
+) -> Looked
+    requires { ⌜ Holds (now file) o ⌝ }
+    ensures { λ r. ⌜ Whole (lookIn true (lent (length (now (out .entry))) (length (now (logs .entry))) (length (now (marks .entry)))) (knownOf (now (file .entry)) o) (numberOf key)) r (now (out .entry)) (now (out .exit)) (now (logs .entry)) (now (logs .exit)) (now (marks .entry)) (now (marks .exit)) ⌝ }
+{
+    match locate(file, o, key) {
+        Found::Absent { compared } => Looked::Absent { compared },
+        Found::At { index, compared } => match group_of(file, o, index) {
+            GroupSeen::Refused { refusal } => Looked::Refused { refusal },
+            GroupSeen::Good { degree } => {
+                group_edges(file, o, index, compared, degree, out, logs, marks)
+            }
+        },
+    }
+}

@@ -1,3 +1,5 @@
 pub mod Fit
 pub mod Rows
 pub mod Opened
+pub mod Inside
+pub mod Look

@@ -1,12 +1,11 @@
 -- `group::fill_group` meets its contract: the head of a good group chooses how its payload is written.
-use mathlib.Core.Path.{_≡_, sym, ap, _∙_}
-use Prim.Native.Nat.{ℕ, _^_, _<_}
+use mathlib.Core.Path.{sym, ap, _∙_}
+use Prim.Native.Nat.{ℕ}
 use native.Mathlib.Omega.{arith}
 use mathlib.Core.List.{List}
 use mathlib.Core.Bool.{true, false}
-use lib.ListN.{getD}
 use Rattle.base.specs.Over.{over}
-use Rattle.group.specs.Group.{Partners, groupOf, partnersOf, bytesOf}
+use Rattle.group.specs.Group.{Partners, partnersOf, bytesOf}
 use Rattle.group.specs.Group.Laws.{group-tag, group-varint, group-shape, not-tag, not-varint, not-shape}
 use Rattle.group.specs.Good.{Bytes, Fill, fill, fill-length}
 use borrow.Author.Needs.{needs}

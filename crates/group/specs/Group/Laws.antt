@@ -7,7 +7,7 @@ use native.Mathlib.Decide.{decLe, decLt, ℕ-discrete}
 use mathlib.Core.List.{List, [], _∷_, _++_}
 use mathlib.Core.Bool.{Bool, true, false}
 use lib.ListN.{length, getD, length-append}
-use lib.Dec.{ltb, leb, eqb}
+use lib.Dec.{ltb, leb}
 use borrow.Author.Tests.{lt-ltb, le-ltb, le-leb, lt-leb, leb-true, eq-eqb, ne-eqb}
 use Rattle.base.specs.Pick.{pick}
 use Rattle.codes.specs.declared.ids.Id.{Id}

@@ -1,6 +1,5 @@
 -- `group::head::head_of` meets its contract: each way out is a case of headOf.
 use mathlib.Core.Path.{_≡_, sym, _∙_}
-use native.Mathlib.Omega.{arith}
 use Rattle.codes.specs.declared.varint.Varint.the-variants.{Value}
 use Rattle.codes.specs.Varint.{varintAt}
 use Rattle.group.specs.Group.Laws.{head-cut, head-long, head-large, head-none, head-short, head-split, head-dense, head-tag}
@@ -24,7 +23,7 @@ returns c =
     let a = p .before .before .before .before .before .args in
     let d = p .before .value .given .0 .0 in
     let n = p .before .value .given .0 .1 .0 in
-    sym (head-none (a .g .now) d n (got p) (omega arith))
+    sym (head-none (a .g .now) d n (got p) (c .if1 .taken))
 
 returns-2 : tie.Need-returns-2
 returns-2 c =
@@ -32,7 +31,7 @@ returns-2 c =
     let a = p .before .before .before .before .before .args in
     let d = p .before .value .given .0 .0 in
     let n = p .before .value .given .0 .1 .0 in
-    sym (head-short (a .g .now) d n (got p) (omega arith) (omega arith))
+    sym (head-short (a .g .now) d n (got p) (c .before .if1 .left) (c .if2 .taken))
 
 shared-slice-read-tag : tie.Need-shared-slice-read-tag
 shared-slice-read-tag c = search needs
@@ -46,7 +45,7 @@ returns-3 c =
     let a = p .before .before .before .before .before .args in
     let d = p .before .value .given .0 .0 in
     let n = p .before .value .given .0 .1 .0 in
-    cc (head-split (a .g .now) d n (got p) (omega arith) (omega arith) (omega arith))
+    let e = head-split (a .g .now) d n (got p) (c .before .before .before .if1 .left) (c .before .before .if2 .left) (c .if3 .taken) in sym e
 
 add-t12 : tie.Need-add-t12
 add-t12 c = search needs
@@ -57,7 +56,7 @@ returns-4 c =
     let a = p .before .before .before .before .before .args in
     let d = p .before .value .given .0 .0 in
     let n = p .before .value .given .0 .1 .0 in
-    cc (head-dense (a .g .now) d n (got p) (omega arith) (omega arith) (omega arith))
+    let e = head-dense (a .g .now) d n (got p) (c .before .before .before .before .if1 .left) (c .before .before .before .if2 .left) (c .if4 .taken) in sym e
 
 enum-told : tie.Need-enum-told
 enum-told c = search needs
@@ -74,7 +73,7 @@ returns-5 c =
     let a = p .before .before .before .before .before .args in
     let d = p .before .value .given .0 .0 in
     let n = p .before .value .given .0 .1 .0 in
-    sym (head-tag (a .g .now) d n (got p) (omega arith) (omega arith) (λ q. omega arith) (λ q. omega arith))
+    sym (head-tag (a .g .now) d n (got p) (c .before .before .before .before .if1 .left) (c .before .before .before .if2 .left) (c .before .if3 .left) (c .if4 .left))
 
 returns-6 : tie.Need-returns-6
 returns-6 c = sym (head-cut (c .before .before .before .before .args .g .now) (sym (c .before .before .varint-at .ensures) ∙ c .enum-told .given .1))

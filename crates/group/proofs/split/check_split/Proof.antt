@@ -1,5 +1,5 @@
 -- `group::split::check_split` meets its contract. Invariant: k partners were good, and what is left gives the whole answer.
-use mathlib.Core.Path.{_≡_, sym, refl, _∙_}
+use mathlib.Core.Path.{sym, refl, _∙_}
 use Prim.Native.Nat.{_+_, _-_, _≤_}
 use native.Mathlib.Omega.{arith}
 use mathlib.Core.Bool.{false}
@@ -37,7 +37,7 @@ returns c =
     let p = c .before .before .before .id .given .0 .0 in
     let n = c .before .before .before .id .given .0 .1 .0 in
     let e = step-split (a .g .now) (l .i) (l .last .hi) ∙ sym (c .before .before .before .before .before .split-step .ensures) ∙ c .before .before .before .id .given .1 in
-    sym (check-low false (a .g .now) (a .at) (a .degree) (l .i) (l .k) (l .last .hi) (floorOf (l .k) (l .last)) (l .inv .1) (omega arith) p n e (sym (c .before .in-order .ensures) ∙ not-true _ (c .if1 .taken)))
+    sym (check-low false (a .g .now) (a .at) (a .degree) (l .i) (l .k) (l .last .hi) (floorOf (l .k) (l .last)) (l .inv .1) (c .before .before .before .before .before .before .loop-test .taken) p n e (sym (c .before .in-order .ensures) ∙ not-true _ (c .if1 .taken)))
 
 add-k : tie.Need-add-k Inv-loop μ-loop
 add-k c = omega arith
@@ -52,7 +52,7 @@ loop-again c =
     let p = c .before .before .before .id .given .0 .0 in
     let n = c .before .before .before .id .given .0 .1 .0 in
     let e = step-split (a .g .now) (l .i) (l .last .hi) ∙ sym (c .before .before .before .before .before .split-step .ensures) ∙ c .before .before .before .id .given .1 in
-    let m = check-more false (a .g .now) (a .at) (a .degree) (l .i) (l .k) (l .last .hi) (floorOf (l .k) (l .last)) (l .inv .1) (omega arith) p n e (sym (c .before .in-order .ensures) ∙ not-false _ (c .if1 .left)) in
+    let m = check-more false (a .g .now) (a .at) (a .degree) (l .i) (l .k) (l .last .hi) (floorOf (l .k) (l .last)) (l .inv .1) (c .before .before .before .before .before .before .loop-test .taken) p n e (sym (c .before .in-order .ensures) ∙ not-false _ (c .if1 .left)) in
     (omega arith, rw (floor-next (l .k + 1) p (λ q. omega arith)) m)
 
 enum-told : tie.Need-enum-told Inv-loop μ-loop
@@ -62,7 +62,7 @@ returns-2 : tie.Need-returns-2 Inv-loop μ-loop
 returns-2 c =
     let a = c .before .before .before .before .before .before .args in
     let l = c .before .before .before .before .loop in
-    sym (check-varint false (a .g .now) (a .at) (a .degree) (l .i) (l .k) (l .last .hi) (floorOf (l .k) (l .last)) (l .inv .1) (omega arith) (step-split (a .g .now) (l .i) (l .last .hi) ∙ sym (c .before .before .split-step .ensures) ∙ c .enum-told .given .1))
+    sym (check-varint false (a .g .now) (a .at) (a .degree) (l .i) (l .k) (l .last .hi) (floorOf (l .k) (l .last)) (l .inv .1) (c .before .before .before .loop-test .taken) (step-split (a .g .now) (l .i) (l .last .hi) ∙ sym (c .before .before .split-step .ensures) ∙ c .enum-told .given .1))
 
 enum-told-2 : tie.Need-enum-told-2 Inv-loop μ-loop
 enum-told-2 c = search needs
@@ -71,19 +71,19 @@ returns-3 : tie.Need-returns-3 Inv-loop μ-loop
 returns-3 c =
     let a = c .before .before .before .before .before .before .args in
     let l = c .before .before .before .before .loop in
-    sym (check-shape false (a .g .now) (a .at) (a .degree) (l .i) (l .k) (l .last .hi) (floorOf (l .k) (l .last)) (l .inv .1) (omega arith) (step-split (a .g .now) (l .i) (l .last .hi) ∙ sym (c .before .before .split-step .ensures) ∙ c .enum-told2 .given .1))
+    sym (check-shape false (a .g .now) (a .at) (a .degree) (l .i) (l .k) (l .last .hi) (floorOf (l .k) (l .last)) (l .inv .1) (c .before .before .before .loop-test .taken) (step-split (a .g .now) (l .i) (l .last .hi) ∙ sym (c .before .before .split-step .ensures) ∙ c .enum-told2 .given .1))
 
 returns-4 : tie.Need-returns-4 Inv-loop μ-loop
 returns-4 c =
     let a = c .before .before .before .before .args in
     let l = c .before .before .loop in
-    sym (check-end false (a .g .now) (a .at) (a .degree) (l .i) (l .k) (l .last .hi) (floorOf (l .k) (l .last)) (l .inv .1) (omega arith) (omega arith) (omega arith))
+    sym (check-end false (a .g .now) (a .at) (a .degree) (l .i) (l .k) (l .last .hi) (floorOf (l .k) (l .last)) (l .inv .1) (c .before .loop-test .left) (l .inv .0) (c .if2 .taken))
 
 returns-5 : tie.Need-returns-5 Inv-loop μ-loop
 returns-5 c =
     let a = c .before .before .before .before .args in
     let l = c .before .before .loop in
-    sym (check-over false (a .g .now) (a .at) (a .degree) (l .i) (l .k) (l .last .hi) (floorOf (l .k) (l .last)) (l .inv .1) (omega arith) (λ q. omega arith))
+    sym (check-over false (a .g .now) (a .at) (a .degree) (l .i) (l .k) (l .last .hi) (floorOf (l .k) (l .last)) (l .inv .1) (c .before .loop-test .left) (c .if2 .left))
 
 pub check-split-spec : {M : Type 1} → statement M
 check-split-spec =

@@ -1,5 +1,5 @@
 -- `group::split::difference` meets its contract: one byte is the whole number, and more are left to `varint_at`.
-use mathlib.Core.Path.{_≡_, sym, _∙_}
+use mathlib.Core.Path.{sym}
 use native.Mathlib.Omega.{arith}
 use Rattle.group.specs.Group.Laws.{varint-none, varint-short}
 use borrow.Author.Needs.{needs}

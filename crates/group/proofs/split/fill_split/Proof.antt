@@ -1,19 +1,16 @@
 -- `group::split::fill_split` meets its contract. Invariant: the rest is good, and written over what is there it is the whole.
-use mathlib.Core.Path.{_≡_, sym, ap, ap₂, refl, _∙_}
+use mathlib.Core.Path.{_≡_, sym, ap, _∙_}
 use Prim.Native.Nat.{ℕ, suc, _+_, _-_, _*_, _≤_}
 use native.Mathlib.Nat.{sub-zero}
 use native.Mathlib.Omega.{arith}
-use mathlib.Core.List.{List, []}
+use mathlib.Core.List.{List}
 use mathlib.Core.Bool.{true, false}
-use lib.ListN.{length}
 use lib.Seq.{sets}
 use Rattle.base.specs.Over.{over, sets-over}
 use Rattle.base.specs.Put.{Put, Left, start, is, put, end}
 use Rattle.codes.specs.declared.ids.Id.{Id}
-use Rattle.codes.specs.declared.varint.Varint.the-variants.{Value}
 use Rattle.codes.specs.Ids.{beBytes, idBytes, numberOf}
 use Rattle.codes.specs.Ids.Laws.{put-halves, length-idBytes}
-use Rattle.codes.specs.Varint.{varintAt}
 use Rattle.group.specs.Group.{walkFrom, isGood, partnersOf, bytesOf}
 use Rattle.group.specs.Group.Laws.{Filled, fill-turn, fill-cut, fill-long, fill-large, fill-end}
 use borrow.Author.Needs.{needs}

@@ -1,13 +1,28 @@
 -- `group::split::split_step` meets its contract: each way out is a case of splitStep.
-use mathlib.Core.Path.{_≡_, sym, _∙_}
+use mathlib.Core.Path.{_≡_, sym, ap, _∙_}
+use Prim.Native.Nat.{ℕ, _+_, _-_, _^_, _≤_, _<_}
 use native.Mathlib.Omega.{arith}
 use Rattle.codes.specs.declared.varint.Varint.the-variants.{Value}
 use Rattle.codes.specs.Varint.{varintAt}
 use Rattle.codes.specs.Varint.Laws.{varint-next}
+use Rattle.group.specs.declared.split.Step.{Step}
 use Rattle.group.specs.Group.Laws.{split-cut, split-long, split-large, split-over, split-short, split-good}
 use borrow.Author.Needs.{needs}
 use Rattle.group.proofs.split.split_step.Statement.{statement}
 use Rattle.group.proofs.split.split_step.Tie as tie
+
+-- whether a sum fits, and whether eight bytes are left
+passes : (hi v : ℕ) → hi < 2 ^ 64 → 18446744073709551615 - hi < v → 2 ^ 64 ≤ hi + v
+passes hi v b h = omega arith
+
+keeps : (hi v : ℕ) → hi < 2 ^ 64 → v ≤ 18446744073709551615 - hi → hi + v < 2 ^ 64
+keeps hi v b h = omega arith
+
+short : (len n : ℕ) → n ≤ len → len - n < 8 → len < n + 8
+short len n b h = omega arith
+
+long : (len n : ℕ) → n ≤ len → 8 ≤ len - n → n + 8 ≤ len
+long len n b h = omega arith
 
 -- the difference that was read
 got : (p : tie.After-known-told) → varintAt (p .before .before .before .before .before .args .g .now) (p .before .before .before .before .before .args .i) ≡ Value (p .before .value .given .0 .0) (p .before .value .given .0 .1 .0)
@@ -28,7 +43,7 @@ returns c =
     let a = p .before .before .before .before .before .args in
     let v = p .before .value .given .0 .0 in
     let n = p .before .value .given .0 .1 .0 in
-    sym (split-over (a .g .now) (a .i) (a .hi) v n (got p) (omega arith))
+    sym (split-over (a .g .now) (a .i) (a .hi) v n (got p) (passes (a .hi) v (p .before .before .before .before .before .fits .hi .fits) (c .if1 .taken)))
 
 sub-if2 : tie.Need-sub-if2
 sub-if2 c =
@@ -44,8 +59,8 @@ returns-2 c =
     let a = p .before .before .before .before .before .args in
     let v = p .before .value .given .0 .0 in
     let n = p .before .value .given .0 .1 .0 in
-    let next = varint-next (a .g .now) (a .i) v n (got p) in
-    sym (split-short (a .g .now) (a .i) (a .hi) v n (got p) (omega arith) (omega arith))
+    let next = varint-next (a .g .now) (a .i) v n (got p) .1 in
+    sym (split-short (a .g .now) (a .i) (a .hi) v n (got p) (keeps (a .hi) v (p .before .before .before .before .before .fits .hi .fits) (c .before .if1 .left)) (short _ n next (c .if2 .taken)))
 
 le64-requires : tie.Need-le64-requires
 le64-requires c κs = search needs
@@ -71,8 +86,9 @@ returns-3 c =
     let a = p .before .before .before .before .before .args in
     let v = p .before .value .given .0 .0 in
     let n = p .before .value .given .0 .1 .0 in
-    let next = varint-next (a .g .now) (a .i) v n (got p) in
-    cc (split-good (a .g .now) (a .i) (a .hi) v n (got p) (omega arith) (omega arith))
+    let next = varint-next (a .g .now) (a .i) v n (got p) .1 in
+    ap (λ (t : ℕ). Step.Partner (record { hi = a .hi + v; lo = t }) (n + 8)) (c .le64 .ensures)
+    ∙ sym (split-good (a .g .now) (a .i) (a .hi) v n (got p) (keeps (a .hi) v (p .before .before .before .before .before .fits .hi .fits) (c .before .before .if1 .left)) (long _ n next (c .before .if2 .left)))
 
 returns-4 : tie.Need-returns-4
 returns-4 c = let a = c .before .before .before .before .args in sym (split-cut (a .g .now) (a .i) (a .hi) (sym (c .before .before .difference .ensures) ∙ c .enum-told .given .1))

@@ -1,0 +1,132 @@
+// Looking up a key: the workbench's calls. Partners alone, or with log numbers and dead marks; from a file, or from an
+// opened record of earlier, whoever filled it. A refusal or absence writes nothing; what lies past the answer stays.
+ghost use mathlib.Core.Path.{_≡_};
+ghost use mathlib.Core.Bool.{true, false, not, _||_};
+ghost use Prim.Native.Nat.{_+_};
+ghost use lib.Dec.{leb};
+ghost use lib.ListN.{length};
+ghost use Rattle.codes.specs.Ids.{idAt};
+ghost use Rattle.frame.specs.Open.{recordGood};
+ghost use Rattle.lookup.specs.declared.Looked.{Looked};
+ghost use Rattle.lookup.specs.Lookup.{lookOf, lookWith};
+ghost use Rattle.lookup.specs.Calls.{alone, lent, Alone, Whole};
+use super::open::open;
+use codes::ids::Id;
+use codes::ids::id_at;
+use counts::sizes_good;
+use frame::Opened;
+use frame::Opening;
+use frame::Range;
+use lookup::Looked;
+use lookup::partners::partners_of;
+use lookup::whole::edges_of_key;
+use refusal::Refusal;
+
+// Does a range lie within so many bytes? Its start and length may be any numbers.
+fn inside(size: u64, r: Range) -> bool
+    ensures { λ ok. ⌜ ok ≡ leb (r .start + r .len) size ⌝ }
+{
+    if size < r.start {
+        return false;
+    }
+    r.len <= size - r.start
+}
+
+fn dead_inside(size: u64, o: Opened) -> bool
+    ensures { λ ok. ⌜ ok ≡ (not (o .marked) || leb (o .dead .start + o .dead .len) size) ⌝ }
+{
+    if !o.marked {
+        return true;
+    }
+    let dead = o.dead;
+    inside(size, dead)
+}
+
+// Rule 21.
+fn record_good(file: &[u8], o: Opened) -> bool
+    ensures { λ ok. ⌜ ok ≡ recordGood (now (file .entry)) o ⌝ }
+{
+    let size = file.len() as u64;
+    if 1073741824 < size {
+        return false;
+    }
+    let keys = o.keys;
+    if !inside(size, keys) {
+        return false;
+    }
+    let offsets = o.offsets;
+    if !inside(size, offsets) {
+        return false;
+    }
+    let partners = o.partners;
+    if !inside(size, partners) {
+        return false;
+    }
+    let logs = o.logs;
+    if !inside(size, logs) {
+        return false;
+    }
+    if !dead_inside(size, o) {
+        return false;
+    }
+    sizes_good(o)
+}
+
+fn refused(refusal: Refusal) -> Looked
+    ensures { λ r. ⌜ r ≡ Looked.Refused refusal ⌝ }
+{
+    Looked::Refused { refusal }
+}
+
+// The partners of a key, by an opened record: 16 bytes each over the start of `out`.
+pub fn partners_with(file: &[u8], o: Opened, key: &[u8; 16], out: &mut [u8]) -> Looked
+    ensures { λ r. ⌜ Alone (lookWith false (alone (length (now (out .entry)))) (idAt (now (key .entry)) 0) (now (file .entry)) o) r (now (out .entry)) (now (out .exit)) ⌝ }
+{
+    if !record_good(file, o) {
+        return refused(Refusal::Record);
+    }
+    partners_of(file, o, id_at(key, 0), out)
+}
+
+// The partners of a key of a file.
+pub fn partners(file: &[u8], key: &[u8; 16], out: &mut [u8]) -> Looked
+    ensures { λ r. ⌜ Alone (lookOf false (alone (length (now (out .entry)))) (idAt (now (key .entry)) 0) (now (file .entry))) r (now (out .entry)) (now (out .exit)) ⌝ }
+{
+    match open(file) {
+        Opening::Refused { refusal } => refused(refusal),
+        Opening::Good { opened } => partners_of(file, opened, id_at(key, 0), out),
+    }
+}
+
+// The partners of a key with their log numbers and dead marks (0 live, 1 dead), by an opened record.
+pub fn lookup_with(
+    file: &[u8],
+    o: Opened,
+    key: &[u8; 16],
+    out: &mut [u8],
+    logs: &mut [u64],
+    marks: &mut [u8],
+) -> Looked
+    ensures { λ r. ⌜ Whole (lookWith true (lent (length (now (out .entry))) (length (now (logs .entry))) (length (now (marks .entry)))) (idAt (now (key .entry)) 0) (now (file .entry)) o) r (now (out .entry)) (now (out .exit)) (now (logs .entry)) (now (logs .exit)) (now (marks .entry)) (now (marks .exit)) ⌝ }
+{
+    if !record_good(file, o) {
+        return refused(Refusal::Record);
+    }
+    edges_of_key(file, o, id_at(key, 0), out, logs, marks)
+}
+
+// The same of a file.
+pub fn lookup(
+    file: &[u8],
+    key: &[u8; 16],
+    out: &mut [u8],
+    logs: &mut [u64],
+    marks: &mut [u8],
+) -> Looked
+    ensures { λ r. ⌜ Whole (lookOf true (lent (length (now (out .entry))) (length (now (logs .entry))) (length (now (marks .entry)))) (idAt (now (key .entry)) 0) (now (file .entry))) r (now (out .entry)) (now (out .exit)) (now (logs .entry)) (now (logs .exit)) (now (marks .entry)) (now (marks .exit)) ⌝ }
+{
+    match open(file) {
+        Opening::Refused { refusal } => refused(refusal),
+        Opening::Good { opened } => edges_of_key(file, opened, id_at(key, 0), out, logs, marks),
+    }
+}
