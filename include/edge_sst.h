@@ -27,6 +27,24 @@ typedef struct {
  * bytes may be lent; p is not null, also where n is 0. */
 EdgeSstOpened edge_sst_open(const uint8_t *p, size_t n);
 
+/* What a lookup gives. number is 0 or the refusal's number with its place; where
+ * it is 0, found is 1 if the key is there, with its count of partners and its
+ * index among the keys, and compared is the count of keys that were compared.
+ * What does not apply is 0. */
+typedef struct {
+    uint64_t number, place;
+    uint64_t found, degree, index, compared;
+} EdgeSstLooked;
+
+/* Writes the partners of the key of 16 bytes, 16 bytes each, over the start of
+ * the m bytes at out. o is what edge_sst_open gave for these n bytes, or any
+ * numbers: number and place are not looked at, a mark other than 0 is 1, and
+ * numbers that cannot be of this file are refusal 21. A refusal or absence leaves
+ * out as it was; refusal 20 has the count of partners as its place. out overlaps
+ * nothing else that is lent, and no pointer is null. */
+EdgeSstLooked edge_sst_partners_with(const uint8_t *p, size_t n, const EdgeSstOpened *o,
+                                     const uint8_t key[16], uint8_t *out, size_t m);
+
 #ifdef __cplusplus
 }
 #endif

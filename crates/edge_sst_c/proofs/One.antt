@@ -1,8 +1,16 @@
--- Each exported contract leaves one result.
-use mathlib.Core.Path.{_≡_, refl, sym, _∙_}
+-- Each exported contract leaves one result and one content of lent memory.
+use mathlib.Core.Path.{_≡_, refl, sym, ap, _∙_}
+use mathlib.Core.List.{List}
+use Prim.Native.Nat.{ℕ}
 use Rattle.base.proofs.Determined.{Determined}
 use Rattle.edge_sst_c.proofs.edge_sst_open as edge-sst-open
 use Rattle.edge_sst_c.proofs.edge_sst_open.Reads as edge-sst-open-reads
+use Rattle.edge_sst_c.proofs.look.edge_sst_partners_with as partners-with
+use Rattle.edge_sst_c.proofs.look.edge_sst_partners_with.Reads as partners-with-reads
 
 pub edge-sst-open-determined : Determined edge-sst-open.ended edge-sst-open-reads.Pre edge-sst-open-reads.Post
 edge-sst-open-determined κs a pre r₁ r₂ w₁ w₂ p q = (p ∙ sym q, refl)
+
+pub edge-sst-partners-with-determined : Determined partners-with.ended partners-with-reads.Pre partners-with-reads.Post
+edge-sst-partners-with-determined κs a pre r₁ r₂ w₁ w₂ p q =
+    (p .answer ∙ sym (q .answer), ap (λ (l : List ℕ). (tt {0}, (tt {0}, (tt {0}, (l, tt {0}))))) (p .partners ∙ sym (q .partners)))

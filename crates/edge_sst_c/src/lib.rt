@@ -3,6 +3,9 @@ ghost use mathlib.Core.Path.{_≡_};
 ghost use Rattle.frame.specs.Open.{openOf};
 ghost use Rattle.refusal.specs.Refusal.{numberOf, placeOf};
 ghost use Rattle.edge_sst_c.specs.Told.{truth, recordWith, refusalWith, openedTold};
+
+pub mod look;
+
 use frame::Opened;
 use frame::Opening;
 use reader::open::open;

@@ -1,0 +1,18 @@
+-- `edge_sst_c::look::refused_told` meets its contract.
+use mathlib.Core.Path.{ap₂}
+use Rattle.edge_sst_c.specs.Look.{refusedTold}
+use borrow.Author.Needs.{needs}
+use Rattle.edge_sst_c.proofs.look.refused_told.Statement.{statement}
+use Rattle.edge_sst_c.proofs.look.refused_told.Tie as tie
+
+told-of-requires : tie.Need-told-of-requires
+told-of-requires c κs = search needs
+
+cast-t3 : tie.Need-cast-t3
+cast-t3 c = search needs
+
+returns : tie.Need-returns
+returns c = ap₂ refusedTold (c .before .told-of .ensures .0) (c .before .told-of .ensures .1)
+
+pub refused-told-spec : {M : Type 1} → statement M
+refused-told-spec = tie.close (tie.spec told-of-requires cast-t3 returns)

@@ -1,0 +1,126 @@
+// Lookups for C, by an opened record that the caller lends.
+ghost use mathlib.Core.Path.{_≡_};
+ghost use mathlib.Core.Bool.{false};
+ghost use lib.ListN.{length};
+ghost use lib.Dec.{ltb};
+ghost use Rattle.base.specs.Pick.{pick};
+ghost use Rattle.codes.specs.Ids.{idAt};
+ghost use Rattle.lookup.specs.Lookup.{lookWith};
+ghost use Rattle.lookup.specs.Calls.{alone};
+ghost use Rattle.edge_sst_c.specs.Look.{lookedTold, refusedTold, byteOr, recordFrom, PartnersTold};
+ghost use Rattle.refusal.specs.Refusal.{numberOf, placeOf};
+use frame::Opened;
+use frame::Range;
+use lookup::Looked;
+use reader::look::partners_with;
+use refusal::Refusal;
+use refusal::told_of;
+
+// A lookup's answer: number 0 is no refusal, and then found is 1 where the key is there; what does not apply is 0.
+#[repr(C)]
+pub struct EdgeSstLooked {
+    pub number: u64,
+    pub place: u64,
+    pub found: u64,
+    pub degree: u64,
+    pub index: u64,
+    pub compared: u64,
+}
+
+fn refused_told(r: Refusal) -> EdgeSstLooked
+    ensures { λ x. ⌜ x ≡ refusedTold (numberOf r) (placeOf r) ⌝ }
+{
+    let t = told_of(r);
+    EdgeSstLooked {
+        number: t.number as u64,
+        place: t.place,
+        found: 0,
+        degree: 0,
+        index: 0,
+        compared: 0,
+    }
+}
+
+fn looked_told(l: Looked) -> EdgeSstLooked
+    ensures { λ x. ⌜ x ≡ lookedTold l ⌝ }
+{
+    match l {
+        Looked::Found {
+            degree,
+            index,
+            compared,
+        } => EdgeSstLooked {
+            number: 0,
+            place: 0,
+            found: 1,
+            degree,
+            index,
+            compared,
+        },
+        Looked::Absent { compared } => EdgeSstLooked {
+            number: 0,
+            place: 0,
+            found: 0,
+            degree: 0,
+            index: 0,
+            compared,
+        },
+        Looked::Refused { refusal } => refused_told(refusal),
+    }
+}
+
+// Offset bits above 255 are none: rule 21 refuses them as it refuses 0.
+fn byte_or(x: u64) -> u8
+    ensures { λ r. ⌜ r ≡ byteOr x ⌝ }
+{
+    if x < 256 {
+        return x as u8;
+    }
+    0
+}
+
+// The record that C lends, an EdgeSstOpened seen as its numbers in order; a mark other than 0 says that there are
+// tombstones.
+fn record_from(c: &[u64; 16]) -> Opened
+    ensures { λ r. ⌜ r ≡ recordFrom (now (c .entry)) ⌝ }
+{
+    Opened {
+        keys: Range {
+            start: c[2],
+            len: c[3],
+        },
+        offsets: Range {
+            start: c[4],
+            len: c[5],
+        },
+        partners: Range {
+            start: c[6],
+            len: c[7],
+        },
+        logs: Range {
+            start: c[8],
+            len: c[9],
+        },
+        marked: 0 < c[12],
+        dead: Range {
+            start: c[10],
+            len: c[11],
+        },
+        keycount: c[13],
+        edgecount: c[14],
+        bits: byte_or(c[15]),
+    }
+}
+
+// The partners of a key, by an opened record: 16 bytes each over the start of `out`.
+#[no_mangle]
+pub extern "C" fn edge_sst_partners_with(
+    file: &[u8],
+    o: &[u64; 16],
+    key: &[u8; 16],
+    out: &mut [u8],
+) -> EdgeSstLooked
+    ensures { λ r. ⌜ PartnersTold (lookWith false (alone (length (now (out .entry)))) (idAt (now (key .entry)) 0) (now (file .entry)) (recordFrom (now (o .entry)))) r (now (out .entry)) (now (out .exit)) ⌝ }
+{
+    looked_told(partners_with(file, record_from(o), key, out))
+}
