@@ -1,0 +1,172 @@
+/* A record lookup in plain C: the same rules, the same order of refusals and the
+ * same answer as edge_sst_partners_with, written as one would without proofs. */
+#include <string.h>
+
+#include "../../include/edge_sst.h"
+
+EdgeSstLooked plain_partners_with(const uint8_t *p, size_t n, const EdgeSstOpened *o,
+                                  const uint8_t key[16], uint8_t *out, size_t m);
+
+static uint64_t le64(const uint8_t *p) {
+    uint64_t x;
+    memcpy(&x, p, 8);
+    return x;
+}
+
+static uint64_t be64(const uint8_t *p) { return __builtin_bswap64(le64(p)); }
+
+static void put_be64(uint8_t *p, uint64_t x) {
+    x = __builtin_bswap64(x);
+    memcpy(p, &x, 8);
+}
+
+static uint64_t offset_at(const uint8_t *p, size_t width) {
+    uint64_t x = 0;
+    switch (width) {
+    case 3:
+        return p[0] | (uint64_t)p[1] << 8 | (uint64_t)p[2] << 16;
+    case 4:
+        memcpy(&x, p, 4);
+        return x;
+    case 5:
+        memcpy(&x, p, 5);
+        return x;
+    default:
+        memcpy(&x, p, 6);
+        return x;
+    }
+}
+
+/* The varint at *p: 1 and *p behind it, or 0. */
+static inline int varint(const uint8_t **p, const uint8_t *end, uint64_t *x) {
+    const uint8_t *q = *p;
+    if (q < end && *q < 128) {
+        *x = *q;
+        *p = q + 1;
+        return 1;
+    }
+    uint64_t v = 0;
+    for (int shift = 0;; shift += 7) {
+        if (q == end)
+            return 0;
+        uint64_t b = *q++;
+        if (shift == 63 && b > 1)
+            return 0;
+        v |= (b & 127) << shift;
+        if (b < 128) {
+            if (b == 0 && shift > 0)
+                return 0;
+            *x = v;
+            *p = q;
+            return 1;
+        }
+    }
+}
+
+static int inside(uint64_t size, uint64_t start, uint64_t len) {
+    return start <= size && len <= size - start;
+}
+
+static int record_good(size_t n, const EdgeSstOpened *o) {
+    return n <= 1u << 30 && inside(n, o->keystart, o->keylen) && inside(n, o->offsetstart, o->offsetlen) &&
+           inside(n, o->partnerstart, o->partnerlen) && inside(n, o->logstart, o->loglen) &&
+           (!o->marked || inside(n, o->deadstart, o->deadlen)) && o->keycount <= 1u << 24 &&
+           o->edgecount <= 1u << 26 &&
+           (o->bits == 24 || o->bits == 32 || o->bits == 40 || o->bits == 48) &&
+           o->keylen == 16 * o->keycount && o->offsetlen == (o->keycount + 1) * (o->bits / 8) &&
+           o->loglen == 8 * o->edgecount && (!o->marked || o->deadlen == (o->edgecount + 7) / 8);
+}
+
+/* Do the partners of 16 bytes each from p to end, at least one, strictly increase? */
+__attribute__((noinline)) static int dense_rise(const uint8_t *p, const uint8_t *end) {
+    uint64_t hi = be64(p), lo = be64(p + 8);
+    for (p += 16; p != end; p += 16) {
+        uint64_t h = be64(p), l = be64(p + 8);
+        if (h < hi || (h == hi && l <= lo))
+            return 0;
+        hi = h;
+        lo = l;
+    }
+    return 1;
+}
+
+/* 0 and the degree and whether it is dense, or the refusal. */
+static int check_group(const uint8_t *p, const uint8_t *end, uint64_t *degree, int *dense) {
+    uint64_t d, v, hi = 0, lo = 0;
+    if (!varint(&p, end, &d))
+        return 17;
+    if (d == 0 || p == end)
+        return 18;
+    uint8_t tag = *p++;
+    *degree = d;
+    if (tag == 0x10) {
+        *dense = 1;
+        if ((uint64_t)(end - p) / 16 != d || (end - p) % 16 != 0)
+            return 18;
+        return dense_rise(p, end) ? 0 : 18;
+    }
+    if (tag != 0x01)
+        return 16;
+    *dense = 0;
+    for (uint64_t k = 0; k < d; k++) {
+        if (!varint(&p, end, &v))
+            return 17;
+        if (hi + v < hi || end - p < 8)
+            return 18;
+        uint64_t l = le64(p);
+        if (k > 0 && v == 0 && l <= lo)
+            return 18;
+        hi += v;
+        lo = l;
+        p += 8;
+    }
+    return p == end ? 0 : 18;
+}
+
+static void fill_group(const uint8_t *p, const uint8_t *end, int dense, uint8_t *out) {
+    uint64_t d = 0, v = 0, hi = 0;
+    varint(&p, end, &d);
+    p++;
+    if (dense) {
+        memcpy(out, p, 16 * d);
+        return;
+    }
+    for (; d > 0; d--, p += 8, out += 16) {
+        varint(&p, end, &v);
+        hi += v;
+        put_be64(out, hi);
+        put_be64(out + 8, le64(p));
+    }
+}
+
+EdgeSstLooked plain_partners_with(const uint8_t *p, size_t n, const EdgeSstOpened *o,
+                                  const uint8_t key[16], uint8_t *out, size_t m) {
+    if (!record_good(n, o))
+        return (EdgeSstLooked){.number = 21};
+    const uint8_t *keys = p + o->keystart;
+    uint64_t hi = be64(key), lo = be64(key + 8), low = 0, high = o->keycount, compared = 0;
+    while (low < high) {
+        uint64_t i = low + (high - low) / 2, h = be64(keys + 16 * i), l = be64(keys + 16 * i + 8);
+        compared++;
+        if (h == hi && l == lo) {
+            size_t width = o->bits / 8;
+            const uint8_t *at = p + o->offsetstart + width * i, *partners = p + o->partnerstart;
+            uint64_t a = offset_at(at, width), e = offset_at(at + width, width), d;
+            int dense;
+            if (e < a || o->partnerlen < e)
+                return (EdgeSstLooked){.number = 14, .place = i};
+            int fault = check_group(partners + a, partners + e, &d, &dense);
+            if (fault)
+                return (EdgeSstLooked){.number = (uint64_t)fault, .place = i};
+            if (m / 16 < d)
+                return (EdgeSstLooked){.number = 20, .place = d};
+            fill_group(partners + a, partners + e, dense, out);
+            return (EdgeSstLooked){.found = 1, .degree = d, .index = i, .compared = compared};
+        }
+        if (h < hi || (h == hi && l < lo))
+            low = i + 1;
+        else
+            high = i;
+    }
+    return (EdgeSstLooked){.compared = compared};
+}
