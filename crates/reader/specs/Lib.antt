@@ -3,3 +3,4 @@ pub mod Rows
 pub mod Opened
 pub mod Inside
 pub mod Look
+pub mod Compared
