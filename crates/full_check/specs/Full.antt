@@ -11,11 +11,13 @@ use Rattle.refusal.specs.declared.Check.{Check}
 use Rattle.refusal.specs.Check.{_⊳_, refuse}
 use Rattle.frame.specs.declared.Row.{Row}
 use Rattle.frame.specs.Frame.{rangeOf, rowsOf, flag, flagsOf, bodyOf}
-use Rattle.frame.specs.Open.{Known, knownOf, recordOf, bytesAt, fileCheck}
+use Rattle.frame.specs.declared.Opening.{Opening}
+use Rattle.frame.specs.Open.{Known, knownOf, recordOf, bytesAt, fileCheck, opening}
 use Rattle.degrees.specs.Degrees.{groupAt}
 use Rattle.group.specs.Group.{Partners, good, badTag, badVarint, badShape, groupOf, partnersOf}
 use Rattle.lookup.specs.Lookup.{groupCheck, markAt}
 use Rattle.full_check.specs.declared.groups.Groups.{Groups}
+use Rattle.full_check.specs.declared.marks.Marks.{Marks}
 pub mod Laws
 
 -- ---- 22: "a section's checksum, skipped kinds too", at the "first entry"
@@ -63,11 +65,15 @@ unfoldable pub deadFrom : ℕ → List ℕ → ℕ → Bool
 deadFrom zero s e = false
 deadFrom (suc d) s e = eqb (markAt s e) 1 || deadFrom d s (e + 1)
 
+-- what the tombstones say of so many edges: one is dead; a bit past the last edge is set
+abbrev pub marksOf : List ℕ → ℕ → Marks
+marksOf s edges = record { dead = deadFrom edges s 0; unused = deadFrom (8 * length s - edges) s edges }
+
 -- flags, edge count, tombstones; the groups' degree sum and whether one is dense
 unfoldable pub dataGood : ℕ → ℕ → List ℕ → ℕ → Bool → Bool
 dataGood flags edges s sum dense =
     eqb sum edges
-    && (Bool·beq (flag 1 flags) (deadFrom edges s 0) && (Bool·beq (flag 2 flags) dense && not (deadFrom (8 * length s - edges) s edges)))
+    && (Bool·beq (flag 1 flags) (marksOf s edges .dead) && (Bool·beq (flag 2 flags) dense && not (marksOf s edges .unused)))
 
 -- ---- the check
 
@@ -92,3 +98,7 @@ groupsTold (Check.Bad r) sum dense = Groups.Refused r
 
 unfoldable pub groupsOf : List ℕ → List ℕ → ℕ → ℕ → Groups
 groupsOf p o w n = groupsTold (groupsFrom p o w n 0) (degreesFrom p o w n 0) (denseFrom p o w n 0)
+
+-- the record of a file that passes
+unfoldable pub checkedOf : List ℕ → Opening
+checkedOf f = opening (fullCheck f) (recordOf f)

@@ -1,9 +1,8 @@
 // The dead marks of a file, as rule 23 asks of them. s holds the tombstones.
 ghost use mathlib.Core.Path.{_≡_};
-ghost use Prim.Native.Nat.{_+_, _-_, _*_, _/_, _≤_};
+ghost use Prim.Native.Nat.{_+_, _*_, _/_, _≤_};
 ghost use lib.ListN.{length};
-ghost use Rattle.full_check.specs.declared.marks.Marks.{Marks};
-ghost use Rattle.full_check.specs.Full.{deadFrom};
+ghost use Rattle.full_check.specs.Full.{deadFrom, marksOf};
 use lookup::known::mark_at;
 
 // Whether an edge is dead, and whether a bit past the last edge is set.
@@ -56,7 +55,7 @@ fn edges_dead(s: &[u8], n: usize) -> bool
 // The marks of n edges, which fill s but for unused bits.
 pub fn marks_of(s: &[u8], n: usize) -> Marks
     requires { ⌜ (n ≤ 67108864) × (length (now s) ≡ (n + 7) / 8) ⌝ }
-    ensures { λ r. ⌜ r ≡ record { dead = deadFrom n (now (s .entry)) 0; unused = deadFrom (8 * length (now (s .entry)) - n) (now (s .entry)) n } ⌝ }
+    ensures { λ r. ⌜ r ≡ marksOf (now (s .entry)) n ⌝ }
 {
     let dead = edges_dead(s, n);
     let unused = some_dead(s, n, 8 * s.len() - n);
