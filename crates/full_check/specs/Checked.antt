@@ -12,7 +12,7 @@ use Rattle.base.specs.Over.{length-part}
 use Rattle.refusal.specs.declared.Refusal.{Refusal}
 use Rattle.refusal.specs.declared.Check.{Check}
 use Rattle.refusal.specs.Check.{_⊳_, refuse}
-use Rattle.refusal.specs.Check.Laws.{and-parts, or-cases, bad-then, fine-then}
+use Rattle.refusal.specs.Check.Laws.{and-parts, or-cases, fine-parts, bad-then, fine-then}
 use Rattle.frame.specs.declared.Opened.{Opened}
 use Rattle.frame.specs.declared.Opening.{Opening}
 use Rattle.frame.specs.Frame.{rowsOf, flag, flagsOf, bodyOf}
@@ -141,3 +141,12 @@ module _ (f : List ℕ) where
   pub checked-fine : (o : Opened) → checkedOf f ≡ Opening.Good o → fullCheck f ≡ Check.Fine
   unfolding checkedOf
   checked-fine o e = open-fine (fullCheck f) (recordOf f) o e
+
+  -- a file that passes opens to the same record
+  pub checked-opened : (o : Opened) → checkedOf f ≡ Opening.Good o → openOf f ≡ Opening.Good o
+  unfolding checkedOf openOf opening fullCheck
+  checked-opened o e =
+      let all = checked-fine o e in
+      let file = fine-parts (fileCheck f) _ all .0 in
+      let good : Opening.Good (recordOf f) ≡ Opening.Good o = sym (rw all) ∙ e in
+      rw file good
