@@ -150,3 +150,7 @@ module _ (f : List ℕ) where
       let file = fine-parts (fileCheck f) _ all .0 in
       let good : Opening.Good (recordOf f) ≡ Opening.Good o = sym (rw all) ∙ e in
       rw file good
+
+  pub fine-checked : fullCheck f ≡ Check.Fine → checkedOf f ≡ Opening.Good (recordOf f)
+  unfolding checkedOf opening
+  fine-checked e = rw e
