@@ -1,1 +1,2 @@
 pub mod SameEdges
+pub mod Changed
