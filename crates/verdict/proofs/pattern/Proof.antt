@@ -1,11 +1,11 @@
--- `lookup_corpus::pattern_bytes` meets its contract.
+-- `verdict::pattern` meets its contract.
 use Prim.Native.Nat.{_-_, _≤_, _<_}
 use lib.ListN.{length, length-set}
 use mathlib.Core.Path.{_≡_}
 use borrow.Author.Needs.{needs}
 use native.Mathlib.Omega.{arith}
-use Rattle.lookup_corpus.proofs.pattern_bytes.Statement.{statement}
-use Rattle.lookup_corpus.proofs.pattern_bytes.Tie as tie
+use Rattle.verdict.proofs.pattern.Statement.{statement}
+use Rattle.verdict.proofs.pattern.Tie as tie
 
 abbrev Inv-loop : tie.InvT-loop
 Inv-loop out₀ x₀ i₀ out x i = (i ≤ length out₀) × (length out ≡ length out₀) × (x < 256)
@@ -40,8 +40,8 @@ same-length c = search needs
 returns : tie.Need-returns Inv-loop μ-loop
 returns c = search needs
 
-pub pattern-bytes-spec : {M : Type 1} → statement M
-pattern-bytes-spec =
+pub pattern-spec : {M : Type 1} → statement M
+pattern-spec =
     tie.close
     (tie.spec
     Inv-loop
