@@ -5,10 +5,11 @@ use native.Mathlib.Nat.{add-zero}
 use native.Mathlib.Omega.{arith}
 use mathlib.Core.List.{List, [], _∷_, _++_, append-assoc}
 use mathlib.Core.Bool.{Bool, true, false, not}
-use lib.ListN.{length, getD, length-append}
-use lib.Seq.{getD-at, getD-append-add}
+use lib.ListN.{length, getD, take, length-append}
+use lib.Seq.{getD-at, getD-append-add, drop-append-add, take-at}
 use lib.Dec.{leb}
 use borrow.Author.Tests.{le-leb}
+use Rattle.base.specs.Over.{part}
 use Rattle.codes.specs.Little.{leAt, leBytes}
 use Rattle.codes.specs.Little.Laws.{leAt-back, leAt-same, length-leBytes}
 use Rattle.refusal.specs.declared.Refusal.{Refusal}
@@ -92,15 +93,23 @@ module _ (s : Section) (ss : List Section) (at : ℕ) (p r : List ℕ) where
   unfolding entries
   open-first = ap (λ (t : List ℕ). p ++ t) (append-assoc (entry at s) (entries (at + length (s .bytes)) ss) r)
 
-  past-first : p ++ (entries at (s ∷ ss) ++ r) ≡ (p ++ entry at s) ++ left
+  pub past-first : p ++ (entries at (s ∷ ss) ++ r) ≡ (p ++ entry at s) ++ left
   past-first = open-first ∙ sym (append-assoc p (entry at s) left)
 
-  length-first : length (p ++ entry at s) ≡ length p + 28 + length (s .name)
+  pub length-first : length (p ++ entry at s) ≡ length p + 28 + length (s .name)
   length-first = simp (length-append, length-entry) (omega arith)
 
   name-first : getD (p ++ (entries at (s ∷ ss) ++ r)) (length p + 3) 0 ≡ length (s .name)
   unfolding entry leBytes
   name-first = rw open-first (getD-append-add p (entry at s ++ left) 3 0)
+
+  -- its name
+  pub name-back : part (p ++ (entries at (s ∷ ss) ++ r)) (length p + 28) (length p + 28 + length (s .name)) ≡ s .name
+  unfolding entry leBytes
+  name-back =
+      let n : length p + 28 + length (s .name) - (length p + 28) ≡ length (s .name) = omega arith in
+      ap (λ (t : List ℕ). part t (length p + 28) (length p + 28 + length (s .name))) open-first
+      ∙ ap₂ take n (drop-append-add p (entry at s ++ left) 28) ∙ take-at (s .name) left (length (s .name)) refl
 
   row-at : Fits at s → rowAt (p ++ (entries at (s ∷ ss) ++ r)) (length p)
       ≡ record { kind = s .kind; codec = s .codec; namelen = length (s .name); nameat = length p + 28; start = at; len = length (s .bytes); sum = s .sum }
