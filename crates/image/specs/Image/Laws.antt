@@ -12,7 +12,7 @@ use lib.Seq.{drop-cons, drop-length, drop-drop, take-nil}
 use lib.Dec.{ltb, leb}
 use borrow.Author.Tests.{lt-ltb, le-ltb, le-leb, lt-leb}
 use Rattle.base.specs.Pick.{pick}
-use Rattle.base.specs.Over.{part}
+use Rattle.base.specs.Over.{part, length-part}
 use Rattle.codes.specs.declared.ids.Id.{Id}
 use Rattle.codes.specs.Little.{leBytes}
 use Rattle.codes.specs.Little.Laws.{length-leBytes}
@@ -51,6 +51,9 @@ unfolding partnersIn
 length-partners [] = refl
 length-partners (e ∷ es) = ap suc (length-partners es)
 
+pub length-partners-in : (es : List Edge) (i j : ℕ) → j ≤ length es → length (partnersIn (part es i j)) ≡ j - i
+length-partners-in es i j h = length-partners (part es i j) ∙ length-part es i j h
+
 -- ---- upper halves
 
 -- that do not fall from hi on
@@ -61,6 +64,14 @@ Rise hi (p ∷ ps) = (hi ≤ p .hi) × Rise (p .hi) ps
 pub rise-on : (hi : ℕ) (p : Id) (ps : List Id) → Rise hi (p ∷ ps) → (hi ≤ p .hi) × Rise (p .hi) ps
 unfolding Rise
 rise-on hi p ps r = r
+
+-- edge k, the first of a part
+module _ (es : List Edge) (k j : ℕ) (h : k < j) (l : k < length es) (x : Edge) (e : x ≡ getD es k none) where
+  pub partner-first : partnersIn (part es k j) ≡ x .partner ∷ partnersIn (part es (k + 1) j)
+  partner-first = partners-on es k j h l ∙ ap (λ (t : Edge). t .partner ∷ partnersIn (part es (k + 1) j)) (sym e)
+
+  pub rise-first : (hi : ℕ) → Rise hi (partnersIn (part es k j)) → (hi ≤ x .partner .hi) × Rise (x .partner .hi) (partnersIn (part es (k + 1) j))
+  rise-first hi r = rise-on hi (x .partner) (partnersIn (part es (k + 1) j)) (subst (Rise hi) partner-first r)
 
 upper-from : (hi up lo floor : ℕ) → hi * 2 ^ 64 ≤ floor → floor ≤ up * 2 ^ 64 + lo → lo < 2 ^ 64 → hi ≤ up
 upper-from hi up lo floor a b c = omega arith
