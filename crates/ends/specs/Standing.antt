@@ -2,11 +2,12 @@
 use mathlib.Core.Path.{_≡_, refl, sym, ap, ap₂, subst, _∙_}
 use Prim.Native.Nat.{ℕ, zero, suc, _+_, _-_, _≤_, _<_}
 use native.Mathlib.Omega.{arith}
+use native.Mathlib.Nat.{add-zero, add-assoc}
 use native.Mathlib.Decide.{decLt}
 use mathlib.Core.List.{List, [], _∷_, _++_, append-assoc}
 use lib.ListN.{length, take, drop, set, length-append, take-append-drop}
 use lib.Seq.{sets, sets-eq, take-at, drop-append-seam, take-append-seam, length-take-le, drop-set-add, take-set-le}
-use Rattle.base.specs.Over.{over, part, sets-over}
+use Rattle.base.specs.Over.{part}
 use Rattle.base.specs.Put.{Left}
 use Rattle.frame.specs.Layout.{Section, rawSection, payload, entry, entries}
 
@@ -40,18 +41,28 @@ pub part-below : {out : List ℕ} {to : ℕ} {xs : List ℕ} {o : List ℕ} {at 
 part-below {out} {to} {xs} {o} {at} {ys} l a e h g =
     sym (part-sets xs out to a e (omega arith)) ∙ ap (λ (t : List ℕ). part t a e) (l .whole) ∙ part-sets ys o at a e h
 
--- where p is written from the first byte on and xs is left, the output begins with p
-pub front : {out : List ℕ} {to : ℕ} {o : List ℕ} (p xs : List ℕ) → Left out to xs o 0 (p ++ xs) → to ≡ length p → length (p ++ xs) ≤ length o → out ≡ p ++ drop to out
-front {out} {to} {o} p xs l e h =
+-- where p is written at `at` and xs is left, p stands there
+pub stands : {out : List ℕ} {to : ℕ} {o : List ℕ} {at : ℕ} (p xs : List ℕ) → Left out to xs o at (p ++ xs) → to ≡ at + length p → at + length (p ++ xs) ≤ length o
+    → out ≡ take at o ++ (p ++ drop to out)
+stands {out} {to} {o} {at} p xs l e h =
     let n = length-append p xs in
     let same = l .same in
     let mine : length (take to out) ≡ to = length-take-le to out (omega arith) in
+    let old : length (take at o) ≡ at = length-take-le at o (omega arith) in
     let rest : List ℕ = drop (to + length xs) out in
+    let after : List ℕ = drop (at + length (p ++ xs)) o in
     let one : take to (sets out to xs) ≡ take to out =
     ap (take to) (sets-eq xs out to (omega arith) ∙ append-assoc (take to out) xs rest) ∙ take-at (take to out) (xs ++ rest) to mine in
-    let two : take to (sets o 0 (p ++ xs)) ≡ p =
-    ap (take to) (sets-over (p ++ xs) o h ∙ append-assoc p xs (drop (length (p ++ xs)) o)) ∙ take-at p (xs ++ drop (length (p ++ xs)) o) to (sym e) in
-    sym (take-append-drop to out) ∙ ap (λ (t : List ℕ). t ++ drop to out) (sym one ∙ ap (take to) (l .whole) ∙ two)
+    let split : sets o at (p ++ xs) ≡ (take at o ++ p) ++ (xs ++ after) =
+    sets-eq (p ++ xs) o at h
+    ∙ append-assoc (take at o) (p ++ xs) after
+    ∙ ap (λ (t : List ℕ). take at o ++ t) (append-assoc p xs after)
+    ∙ sym (append-assoc (take at o) p (xs ++ after)) in
+    let long : length (take at o ++ p) ≡ to = length-append (take at o) p ∙ omega arith in
+    let two : take to (sets o at (p ++ xs)) ≡ take at o ++ p = ap (take to) split ∙ take-at (take at o ++ p) (xs ++ after) to long in
+    sym (take-append-drop to out)
+    ∙ ap (λ (t : List ℕ). t ++ drop to out) (sym one ∙ ap (take to) (l .whole) ∙ two)
+    ∙ append-assoc (take at o) p (drop to out)
 
 -- ---- entries
 
@@ -76,6 +87,28 @@ entries-none s at = refl
 pub entries-on : (s : List ℕ) (at : ℕ) (x : Extent) (xs : List Extent) → entriesIn s at (x ∷ xs) ≡ entryIn s (x .kind) at (x .len) ++ entriesIn s (at + x .len) xs
 unfolding entriesIn
 entries-on s at x xs = refl
+
+-- how long they are together
+unfoldable pub total : List Extent → ℕ
+total [] = 0
+total (x ∷ xs) = x .len + total xs
+
+pub entries-append : (s : List ℕ) (at : ℕ) (xs ys : List Extent) → entriesIn s at (xs ++ ys) ≡ entriesIn s at xs ++ entriesIn s (at + total xs) ys
+unfolding entriesIn total
+entries-append s at [] ys = ap (λ (t : ℕ). entriesIn s t ys) (sym (add-zero at))
+entries-append s at (x ∷ xs) ys =
+    ap (λ (t : List ℕ). entryIn s (x .kind) at (x .len) ++ t)
+    (entries-append s (at + x .len) xs ys ∙ ap (λ (t : ℕ). entriesIn s (at + x .len) xs ++ entriesIn s t ys) (add-assoc at (x .len) (total xs)))
+    ∙ sym (append-assoc (entryIn s (x .kind) at (x .len)) (entriesIn s (at + x .len) xs) (entriesIn s (at + (x .len + total xs)) ys))
+
+-- entries of sections below what is written stay
+pub entries-below : {out : List ℕ} {to : ℕ} {ws : List ℕ} {o : List ℕ} {at : ℕ} {ys : List ℕ} → Left out to ws o at ys → (xs : List Extent) (i : ℕ) → i + total xs ≤ at → at ≤ to → entriesIn out i xs ≡ entriesIn o i xs
+unfolding entriesIn total
+entries-below l [] i h g = refl
+entries-below l (x ∷ xs) i h g =
+    ap₂ (λ (u v : List ℕ). u ++ v)
+    (ap (λ (t : List ℕ). entry i (rawSection (x .kind) t)) (part-below l i (i + x .len) (omega arith) g))
+    (entries-below l xs (i + x .len) (omega arith) g)
 
 unfoldable pub extents : List Section → List Extent
 extents [] = []

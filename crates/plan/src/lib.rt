@@ -1,0 +1,1 @@
+// What is counted before a file is written.
