@@ -234,8 +234,7 @@ module _ (h : Heading) (es : List Edge) (n keys w bytes : ℕ) (dense dead : Boo
       let b = length-append (payload ss) (body ++ trailer body) in
       let c = length-append body (trailer body) in
       let whole : length (fileOf h es) ≡ length (head ++ (payload ss ++ (body ++ trailer body))) = ap length (sym file-is ∙ file-parts (layoutBy h keys w dense dead es (groupsOf es))) in
-      omega
-      (
+      omega (
         arith,
         length-head [] (flagsBy (h .direction) dense dead) (h .ids),
         length-payload es n keys w bytes dense dead f,
