@@ -1,0 +1,95 @@
+use mathlib.Core.Path.{_≡_, sym, _∙_}
+use Prim.Native.Nat.{_<_}
+use native.Mathlib.Omega.{arith}
+use mathlib.Core.Bool.{true, false}
+use lib.Dec.{ltb}
+use borrow.Author.Tests.{lt-ltb, le-ltb}
+use Rattle.codes.specs.declared.ids.Order.{Order}
+use Rattle.codes.specs.Ids.{numberOf, order}
+use Rattle.batch.specs.declared.Edge.{Edge}
+use Rattle.batch.specs.Batch.{before}
+use Rattle.groups.specs.Order.{less-back, equal-back, greater-back, before-less, before-greater, before-equal}
+use borrow.Author.Needs.{needs}
+use Rattle.faults.proofs.before.Statement.{statement}
+use Rattle.faults.proofs.before.Tie as tie
+
+module _ (a b : Edge) where
+  key-less : order (numberOf (a .key)) (numberOf (b .key)) ≡ Order.Less → true ≡ before a b
+  key-less q = sym (before-less a b (less-back _ _ q))
+
+  key-greater : order (numberOf (a .key)) (numberOf (b .key)) ≡ Order.Greater → false ≡ before a b
+  key-greater q = sym (before-greater a b (greater-back _ _ q))
+
+  module _ (q : order (numberOf (a .key)) (numberOf (b .key)) ≡ Order.Equal) where
+    equal : before a b ≡ ltb (numberOf (a .partner)) (numberOf (b .partner))
+    equal = before-equal a b (equal-back _ _ q)
+
+    partner-less : order (numberOf (a .partner)) (numberOf (b .partner)) ≡ Order.Less → true ≡ before a b
+    partner-less r = sym (equal ∙ lt-ltb _ _ (less-back _ _ r))
+
+    partner-equal : order (numberOf (a .partner)) (numberOf (b .partner)) ≡ Order.Equal → false ≡ before a b
+    partner-equal r =
+        let z : numberOf (a .partner) ≡ numberOf (b .partner) = equal-back _ _ r in
+        sym (equal ∙ le-ltb (numberOf (a .partner)) (numberOf (b .partner)) (omega arith))
+
+    partner-greater : order (numberOf (a .partner)) (numberOf (b .partner)) ≡ Order.Greater → false ≡ before a b
+    partner-greater r =
+        let z : numberOf (b .partner) < numberOf (a .partner) = greater-back _ _ r in
+        sym (equal ∙ le-ltb (numberOf (a .partner)) (numberOf (b .partner)) (omega arith))
+
+compare-requires : tie.Need-compare-requires
+compare-requires c κs = search needs
+
+enum-told : tie.Need-enum-told
+enum-told c = search needs
+
+enum-told-2 : tie.Need-enum-told-2
+enum-told-2 c = search needs
+
+enum-told-3 : tie.Need-enum-told-3
+enum-told-3 c = search needs
+
+compare-requires-2 : tie.Need-compare-requires-2
+compare-requires-2 c κs = search needs
+
+enum-told-4 : tie.Need-enum-told-4
+enum-told-4 c = search needs
+
+enum-told-5 : tie.Need-enum-told-5
+enum-told-5 c = search needs
+
+enum-told-6 : tie.Need-enum-told-6
+enum-told-6 c = search needs
+
+returns : tie.Need-returns
+returns c = key-less (c .before .before .before .before .before .args .a) (c .before .before .before .before .before .args .b) (sym (c .before .before .compare .ensures) ∙ c .enum-told .given .1)
+
+returns-2 : tie.Need-returns-2
+returns-2 c = key-greater (c .before .before .before .before .before .args .a) (c .before .before .before .before .before .args .b) (sym (c .before .before .compare .ensures) ∙ c .enum-told2 .given .1)
+
+returns-3 : tie.Need-returns-3
+returns-3 c = partner-less (c .before .before .before .before .before .before .before .before .args .a) (c .before .before .before .before .before .before .before .before .args .b) (sym (c .before .before .before .before .before .compare .ensures) ∙ c .before .before .before .enum-told3 .given .1) (sym (c .before .before .compare2 .ensures) ∙ c .enum-told4 .given .1)
+
+returns-4 : tie.Need-returns-4
+returns-4 c = partner-equal (c .before .before .before .before .before .before .before .before .args .a) (c .before .before .before .before .before .before .before .before .args .b) (sym (c .before .before .before .before .before .compare .ensures) ∙ c .before .before .before .enum-told3 .given .1) (sym (c .before .before .compare2 .ensures) ∙ c .enum-told5 .given .1)
+
+returns-5 : tie.Need-returns-5
+returns-5 c = partner-greater (c .before .before .before .before .before .before .before .before .args .a) (c .before .before .before .before .before .before .before .before .args .b) (sym (c .before .before .before .before .before .compare .ensures) ∙ c .before .before .before .enum-told3 .given .1) (sym (c .before .before .compare2 .ensures) ∙ c .enum-told6 .given .1)
+
+pub before-spec : {M : Type 1} → statement M
+before-spec =
+    tie.close
+    (tie.spec
+    compare-requires
+    enum-told
+    enum-told-2
+    enum-told-3
+    compare-requires-2
+    enum-told-4
+    enum-told-5
+    enum-told-6
+    returns
+    returns-2
+    returns-3
+    returns-4
+    returns-5)

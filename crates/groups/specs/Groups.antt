@@ -1,0 +1,79 @@
+-- Edges in order, and their groups: the edges of one key, which a file keeps together.
+use mathlib.Core.Path.{_≡_}
+use mathlib.Core.Logic.{_⊎_}
+use Prim.Native.Nat.{ℕ, zero, suc, _+_, _-_, _^_, _≤_, _<_}
+use mathlib.Core.List.{List, [], _∷_, _++_}
+use mathlib.Core.Bool.{Bool, true, false}
+use lib.ListN.{length, getD, take, drop}
+use lib.Dec.{eqb}
+use Rattle.base.specs.Pick.{pick}
+use Rattle.codes.specs.declared.ids.Id.{Id}
+use Rattle.codes.specs.Ids.{numberOf}
+use Rattle.batch.specs.declared.Edge.{Edge}
+pub mod Laws
+
+-- what `getD` gives past the last edge
+abbrev pub none : Edge
+none = record { key = record { hi = 0; lo = 0 }; partner = record { hi = 0; lo = 0 }; log = 0; dead = false }
+
+-- ---- groups
+
+pub record Group : Type 0 where
+  pub key : Id
+  pub edges : List Edge
+
+-- an edge before groups: in the first one if that has its key, otherwise in one of its own
+unfoldable pub join : Edge → List Group → List Group
+join e [] = record { key = e .key; edges = e ∷ [] } ∷ []
+join e (g ∷ gs) =
+    pick (eqb (numberOf (e .key)) (numberOf (g .key)))
+    (record { key = e .key; edges = e ∷ (g .edges) } ∷ gs)
+    (record { key = e .key; edges = e ∷ [] } ∷ g ∷ gs)
+
+unfoldable pub groupsOf : List Edge → List Group
+groupsOf [] = []
+groupsOf (e ∷ es) = join e (groupsOf es)
+
+-- the edges of groups, in order
+unfoldable pub flat : List Group → List Edge
+flat [] = []
+flat (g ∷ gs) = g .edges ++ flat gs
+
+-- of the edges es, the group that begins at edge i ends before edge j
+pub record GroupEnd (es : List Edge) (i j : ℕ) : Type 0 where
+  pub above : i < j
+  pub within : j ≤ length es
+  pub groups : groupsOf (drop i es) ≡ record { key = getD es i none .key; edges = take (j - i) (drop i es) } ∷ groupsOf (drop j es)
+
+-- ---- "Edges strictly increase by key, then partner"
+
+-- halves of 64 bits
+abbrev pub Fits : Id → Type 0
+Fits d = (d .hi < 2 ^ 64) × (d .lo < 2 ^ 64)
+
+abbrev pub Before : Edge → Edge → Type 0
+Before a b =
+    (numberOf (a .key) < numberOf (b .key)) ⊎ ((numberOf (a .key) ≡ numberOf (b .key)) × (numberOf (a .partner) < numberOf (b .partner)))
+
+-- e is before the first of them
+unfoldable pub First : Edge → List Edge → Type 0
+First e [] = Unit {0}
+First e (f ∷ es) = Before e f
+
+unfoldable pub Ordered : List Edge → Type 0
+Ordered [] = Unit {0}
+Ordered (e ∷ es) = Fits (e .key) × Fits (e .partner) × (e .log < 2 ^ 64) × First e es × Ordered es
+
+-- ---- the same of groups
+
+-- edges of the key k whose partners strictly increase from the floor on
+unfoldable pub Run : Id → ℕ → List Edge → Type 0
+Run k floor [] = Unit {0}
+Run k floor (e ∷ es) =
+    (e .key ≡ k) × Fits (e .partner) × (e .log < 2 ^ 64) × (floor ≤ numberOf (e .partner)) × Run k (suc (numberOf (e .partner))) es
+
+-- groups, none of them empty, whose keys strictly increase from the floor on
+unfoldable pub Grouped : ℕ → List Group → Type 0
+Grouped floor [] = Unit {0}
+Grouped floor (g ∷ gs) =
+    (floor ≤ numberOf (g .key)) × Fits (g .key) × (length (g .edges) ≡ 0 → ⊥) × Run (g .key) 0 (g .edges) × Grouped (suc (numberOf (g .key))) gs
