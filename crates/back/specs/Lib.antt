@@ -1,0 +1,4 @@
+pub mod Rows
+pub mod Contents
+pub mod Rules
+pub mod Fences
