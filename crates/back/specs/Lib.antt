@@ -2,3 +2,5 @@ pub mod Rows
 pub mod Contents
 pub mod Rules
 pub mod Fences
+pub mod Sections
+pub mod File
