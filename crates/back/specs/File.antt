@@ -6,6 +6,7 @@ use native.Mathlib.Decide.{decLe}
 use mathlib.Core.List.{List, [], _∷_, _++_, append-assoc}
 use mathlib.Core.Bool.{Bool, true, false, not, _&&_, _||_, Bool·beq}
 use lib.ListN.{length, getD, length-append}
+use lib.Seq.{take-at}
 use lib.Dec.{ltb, leb, eqb}
 use borrow.Author.Tests.{eq-eqb, ne-eqb, le-leb, lt-leb, lt-ltb, le-ltb}
 use Rattle.base.specs.Pick.{pick}
@@ -22,7 +23,7 @@ use Rattle.frame.specs.declared.Opening.{Opening}
 use Rattle.frame.specs.Kind as kind
 use Rattle.frame.specs.Frame.{rowsOf, countOf, keyCount, edgeCount, bitsOf, has, twice, sectionOf, kindsGood, flag, flagsOf, widthGood, sizesGood, presenceGood, countsGood, bodyOf, headCheck, footLen}
 use Rattle.frame.specs.Frame.Laws.{Table}
-use Rattle.frame.specs.Open.{Known, knownOf, bytesAt, recordFrom, recordOf, framedFrom, framedOf, contentCheck, fencesGood, fileCheck, opening, openOf}
+use Rattle.frame.specs.Open.{Known, knownOf, bytesAt, recordFrom, recordOf, framedFrom, framedOf, contentCheck, offsetsFrom, fencesGood, fileCheck, opening, openOf}
 use Rattle.frame.specs.Open.Laws.{Frames, frames-made}
 use Rattle.frame.specs.Layout.{Section, Layout, rawSection, headBytes, payload, bodyBytes, trailer, layOut}
 use Rattle.laid_out.specs.Rows.{rowsIn, Small, leAt-at, count-back, body-end, keys-back, edges-back, bits-back, length-body}
@@ -34,13 +35,13 @@ use Rattle.groups.specs.Groups.Laws.{flat-groups, groups-count}
 use Rattle.image.specs.Image.{anyDead, anyDense, keysIn, keyBytes, partnerBytes, widthOf, offsetBytes, logBytes, tombBytes, fencesOf, fenced, bit, flagsBy, lastSections, sectionsBy, layoutBy, layoutOf, fileOf}
 use Rattle.image.specs.Image.Laws.{length-keys, length-offsets, length-logs, length-tombs, width-most}
 use Rattle.full_check.specs.Full.{sumsFrom, groupsFrom, degreesFrom, denseFrom, deadFrom, dataGood, edgesCheck, fullCheck}
-use Rattle.readout.specs.Edges.{edgesIn}
+use Rattle.readout.specs.Edges.{readFrom, edgesIn}
 use Rattle.readout.specs.ReadOut.{headingIn, batchIn}
 use Rattle.back.specs.Rows.{width-fits, bit-is}
 use Rattle.back.specs.Contents.{keys-fine, tombs, Read, read-back}
 use Rattle.back.specs.Rules.{offsets-fine, dead-back, unused-back}
 use Rattle.back.specs.Fences.{fences-fine}
-use Rattle.back.specs.Sections.{AllRaw, raw-is, contentOf, hasKind, twiceKind, has-is, twice-is, names-fine, codecs-fine, all-fit, content-is, len-is, sums-fine}
+use Rattle.back.specs.Sections.{AllRaw, raw-is, contentOf, hasKind, twiceKind, has-is, twice-is, names-fine, codecs-fine, all-fit, content-is, len-is, sums-fine, length-content}
 
 -- ---- the sections, whichever are there
 
@@ -224,3 +225,211 @@ module _ (h : Heading) (es : List Edge) (q : Written h es) where
       (fine-both (ap (λ (s : List ℕ). refuse Refusal.Major (not (eqb (getD s 8 0) 1))) parts)
       (fine-both (ap (λ (s : List ℕ). refuse Refusal.HeaderSize (not (eqb (leAt s 10 2) 64))) parts)
       (ap (refuse Refusal.Flags) (le-ltb 15 (flagsOf f) (omega arith)))))
+
+  -- ---- the table
+
+  table : Table (bodyOf f)
+  unfolding kindsGood
+  table =
+      let count : countOf (bodyOf f) ≡ length ss = ap countOf body-is ∙ count-back ss n (length es) (8 * w) small in
+      let some = t .some in
+      let few = t .few in
+      record {
+        some = omega arith;
+        most = omega arith;
+        filled = rw body-is (body-end ss n (length es) (8 * w) small);
+        names = rw rows (names-fine ss 64 2 raw);
+        kinds = rw rows ((λ j.
+            (has-is kind.keys ss 64 2 j && not (twice-is kind.keys ss 64 2 j))
+            && ((has-is kind.offsets ss 64 2 j && not (twice-is kind.offsets ss 64 2 j))
+            && ((has-is kind.partners ss 64 2 j && not (twice-is kind.partners ss 64 2 j))
+            && ((has-is kind.logs ss 64 2 j && not (twice-is kind.logs ss 64 2 j))
+            && (not (twice-is kind.tombstones ss 64 2 j) && not (twice-is kind.fences ss 64 2 j)))))) ∙ t .kinds);
+      }
+
+  -- a section's bytes and length, and whether it is there
+  content : (k : ℕ) → bytesAt f (sectionOf k (rowsOf (bodyOf f))) ≡ contentOf k ss
+  content k = ap (λ (r : List Row). bytesAt f (sectionOf k r)) rows ∙ content-is k ss f head (body ++ trailer body) 64 2 parts h64
+
+  len : (k : ℕ) → sectionOf k (rowsOf (bodyOf f)) .len ≡ length (contentOf k ss)
+  len k = ap (λ (r : List Row). sectionOf k r .len) rows ∙ len-is k ss 64 2
+
+  there : (k : ℕ) → has k (rowsOf (bodyOf f)) ≡ hasKind k ss
+  there k = ap (has k) rows ∙ has-is k ss 64 2
+
+  -- ---- the counts
+
+  width-good : widthGood (8 * w) ≡ true
+  unfolding widthOf
+  width-good = go (ltb (length ps) (2 ^ 24))
+    where
+      go : (b : Bool) → widthGood (8 * pick b 3 4) ≡ true
+      go true = refl
+      go false = refl
+
+  tomb-len : (b : Bool) → (not b || eqb (length (pick b (tombBytes es) [])) ((length es + 7) / 8)) ≡ true
+  tomb-len true = eq-eqb _ _ (length-tombs es)
+  tomb-len false = refl
+
+  sizes : sizesGood n (length es) (8 * w) (length (keyBytes gs)) (length os) (length (logBytes es)) dead (length (pick dead (tombBytes es) [])) ≡ true
+  unfolding sizesGood
+  sizes =
+      let eight : 8 * w / 8 ≡ w = omega arith in
+      let ll = length-logs es in
+      and-both (le-leb n kind.mostKeys (q .keys)) (and-both (le-leb (length es) kind.mostEdges (q .edges)) (and-both width-good
+      (and-both (eq-eqb _ _ (length-keys gs)) (and-both (eq-eqb _ _ (length-offsets w n 0 gs ∙ ap (λ (z : ℕ). (n + 1) * z) (sym eight)))
+      (and-both (eq-eqb (length (logBytes es)) (8 * length es) (omega arith)) (tomb-len dead))))))
+
+  -- no keys, no edges
+  none-none : (not (eqb n 0) || eqb (length es) 0) ≡ true
+  unfolding flat
+  none-none = go gs (flat-groups es)
+    where
+      go : (gs : List Group) → flat gs ≡ es → (not (eqb (length gs) 0) || eqb (length es) 0) ≡ true
+      go [] e = eq-eqb (length es) 0 (ap length (sym e))
+      go (g ∷ gs) e = ap (λ (b : Bool). not b || eqb (length es) 0) (ne-eqb (suc (length gs)) 0 (λ z. omega arith))
+
+  fences-there : (m : ℕ) → (leb m kind.mostUnfenced || ltb kind.mostUnfenced m) ≡ true
+  fences-there m = elim (decLe m kind.mostUnfenced) [
+    | yes a ↦ ap (λ (b : Bool). b || ltb kind.mostUnfenced m) (le-leb m kind.mostUnfenced a)
+    | no a ↦ ap₂ (λ (b c : Bool). b || c) (lt-leb m kind.mostUnfenced (omega arith)) (lt-ltb kind.mostUnfenced m (omega arith))
+  ]
+
+  implied : (b : Bool) → (not b || b) ≡ true
+  implied true = refl
+  implied false = refl
+
+  presence : presenceGood flags n (length es) dead fence false ≡ true
+  unfolding presenceGood
+  presence =
+      and-both (le-leb n (length es) (groups-count es)) (and-both none-none (and-both (fences-there n)
+      (and-both (ap (λ (b : Bool). Bool·beq b false) (fl .properties)) (ap (λ (b : Bool). not b || dead) (fl .marked) ∙ implied dead))))
+
+  counts : countsGood (flagsOf f) (keyCount (bodyOf f)) (edgeCount (bodyOf f)) (bitsOf (bodyOf f)) (rowsOf (bodyOf f)) ≡ true
+  unfolding countsGood
+  counts =
+      (λ j. sizesGood (keycount-is j) (edgecount-is j) (bits-is j) ((len kind.keys ∙ ap length (t .keys-are)) j) ((len kind.offsets ∙ ap length (t .offsets-are)) j)
+      ((len kind.logs ∙ ap length (t .logs-are)) j) ((there kind.tombstones ∙ t .marked) j) ((len kind.tombstones ∙ ap length (t .tombs-are)) j)
+      && presenceGood (flags-is j) (keycount-is j) (edgecount-is j) ((there kind.tombstones ∙ t .marked) j) ((there kind.fences ∙ t .fences) j) ((there kind.properties ∙ t .streams) j))
+      ∙ and-both sizes presence
+
+  frames : Frames f
+  unfolding fileOf layoutOf layoutBy
+  frames = record {
+    size = size-fine x h64 small (q .size);
+    head = head-fine;
+    tail = tail-fine x h64 small (q .size);
+    sum = sum-fine x h64 small (q .size);
+    table = table;
+    raw = rw rows (codecs-fine ss 64 2 0 raw);
+    apart = ranges-fine x h64 small (q .size);
+    counts = counts;
+  }
+
+  -- ---- what is known of it
+
+  pub known : Known
+  known = record {
+    keys = keyBytes gs;
+    offsets = os;
+    partners = ps;
+    logs = logBytes es;
+    dead = tombs es;
+    keycount = n;
+    edgecount = length es;
+    bits = 8 * w;
+  }
+
+  pick-same : (b : Bool) (l : List ℕ) → pick b (pick b l []) [] ≡ pick b l []
+  pick-same true l = refl
+  pick-same false l = refl
+
+  pub known-is : knownOf f (recordOf f) ≡ known
+  unfolding knownOf recordOf recordFrom known
+  known-is = λ j. record {
+    keys = (content kind.keys ∙ t .keys-are) j;
+    offsets = (content kind.offsets ∙ t .offsets-are) j;
+    partners = (content kind.partners ∙ t .partners-are) j;
+    logs = (content kind.logs ∙ t .logs-are) j;
+    dead = (ap₂ (λ (b : Bool) (l : List ℕ). pick b l []) (there kind.tombstones ∙ t .marked) (content kind.tombstones ∙ t .tombs-are) ∙ pick-same dead (tombBytes es)) j;
+    keycount = keycount-is j;
+    edgecount = edgecount-is j;
+    bits = bits-is j;
+  }
+
+  partners-small : length ps < 2 ^ (8 * w)
+  partners-small = width-fits (length ps) (few-bytes (t .partners-are))
+    where
+      few-bytes : contentOf kind.partners ss ≡ ps → length ps < 2 ^ 32
+      few-bytes e = let bound = q .size in let l = length-content kind.partners ss in let p = size-is in omega (arith, ap length e)
+
+  eight : 8 * w / 8 ≡ w
+  eight = omega arith
+
+  content-fine : contentCheck (knownOf f (recordOf f)) (framedOf f .fenced) (bytesAt f (framedOf f .fences)) ≡ Check.Fine
+  unfolding contentCheck framedOf framedFrom known
+  content-fine =
+      (λ j. contentCheck (known-is j) ((there kind.fences ∙ t .fences) j) ((content kind.fences ∙ t .fences-are) j))
+      ∙ fine-both (keys-fine gs (q .order))
+      (fine-both (ap (λ (v : ℕ). offsetsFrom (n + 1) os v n (length ps) 0) eight ∙ offsets-fine gs w partners-small) (ap (refuse Refusal.Fences) (fences-good fence)))
+    where
+      fences-good : (b : Bool) → (b && not (fencesGood (pick b (fencesOf (keysIn gs)) []) (keyBytes gs) n)) ≡ false
+      fences-good true = ap not (fences-fine gs (q .order) (q .keys))
+      fences-good false = refl
+
+  pub file-opens : openOf f ≡ Opening.Good (recordOf f)
+  unfolding openOf opening fileCheck
+  file-opens = rw (fine-both (frames-made f frames) content-fine)
+
+  -- ---- the full check
+
+  edges-few : length es < 2 ^ 64
+  edges-few = let e = q .edges in omega arith
+
+  reads : Read gs w partners-small es (sym (flat-groups es)) edges-few [] gs
+  reads = read-back gs w partners-small es (sym (flat-groups es)) edges-few gs [] 0 refl (q .order)
+
+  same-bool : (b : Bool) → Bool·beq b b ≡ true
+  same-bool true = refl
+  same-bool false = refl
+
+  data-fine : dataGood flags (length es) (tombs es) (degreesFrom ps os w n 0) (denseFrom ps os w n 0) ≡ true
+  unfolding dataGood
+  data-fine =
+      and-both (eq-eqb _ _ (reads .degrees ∙ ap length (flat-groups es)))
+      (and-both (ap₂ Bool·beq (fl .marked) (dead-back es) ∙ same-bool dead)
+      (and-both (ap₂ Bool·beq (fl .thick) (reads .dense) ∙ same-bool dense) (ap not (unused-back es))))
+
+  edges-fine : edgesCheck (flagsOf f) (knownOf f (recordOf f)) ≡ Check.Fine
+  unfolding edgesCheck known
+  edges-fine =
+      (λ j. edgesCheck (flags-is j) (known-is j))
+      ∙ ap (λ (v : ℕ). groupsFrom ps os v n 0 ⊳ refuse Refusal.Data (not (dataGood flags (length es) (tombs es) (degreesFrom ps os v n 0) (denseFrom ps os v n 0)))) eight
+      ∙ fine-both (reads .good) (good-fine Refusal.Data data-fine)
+
+  -- the file that we write passes the full check
+  pub passes : fullCheck f ≡ Check.Fine
+  unfolding fullCheck fileCheck
+  passes =
+      fine-both (fine-both (frames-made f frames) content-fine)
+      (fine-both (ap (λ (r : List Row). sumsFrom f r 0) rows ∙ sums-fine ss f head (body ++ trailer body) 64 2 0 raw parts h64) edges-fine)
+
+  -- ---- the read-out
+
+  pub edges-again : edgesIn (knownOf f (recordOf f)) ≡ es
+  unfolding edgesIn known flat
+  edges-again =
+      ap edgesIn known-is
+      ∙ ap (λ (v : ℕ). readFrom (keyBytes gs) ps os v (logBytes es) (tombs es) n 0 0) eight
+      ∙ reads .edges ∙ flat-groups es
+
+  ids-back : part f 16 64 ≡ h .ids
+  unfolding headBytes leBytes
+  ids-back =
+      let i = q .ids in
+      ap (λ (s : List ℕ). part s 16 64) parts ∙ take-at (h .ids) (payload ss ++ (body ++ trailer body)) 48 i
+
+  -- heading and edges come back, byte for byte
+  pub batch-back : batchIn f ≡ batchBytes h es
+  unfolding batchIn headingIn
+  batch-back = λ j. batchBytes (record { direction = (ap (λ (v : ℕ). v / 8 % 2) flags-is ∙ fl .way) j; ids = ids-back j }) (edges-again j)

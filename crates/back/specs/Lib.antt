@@ -4,3 +4,4 @@ pub mod Rules
 pub mod Fences
 pub mod Sections
 pub mod File
+pub mod Demand2

@@ -134,6 +134,16 @@ len-is k (s ∷ ss) at i = go (eqb (s .kind) k) (len-is k ss (at + length (s .by
     go true y = refl
     go false y = y
 
+-- no section is longer than all of them
+pub length-content : (k : ℕ) (ss : List Section) → length (contentOf k ss) ≤ length (payload ss)
+unfolding contentOf payload
+length-content k [] = omega arith
+length-content k (s ∷ ss) = go (eqb (s .kind) k) (length-content k ss)
+  where
+    go : (b : Bool) → length (contentOf k ss) ≤ length (payload ss) → length (pick b (s .bytes) (contentOf k ss)) ≤ length (s .bytes ++ payload ss)
+    go true h = omega (arith, length-append (s .bytes) (payload ss))
+    go false h = omega (arith, length-append (s .bytes) (payload ss))
+
 -- every checksum is right
 pub sums-fine : (ss : List Section) (f p q : List ℕ) (at i k : ℕ) → AllRaw ss → f ≡ p ++ (payload ss ++ q) → length p ≡ at → sumsFrom f (rowsIn at i ss) k ≡ Check.Fine
 unfolding sumsFrom rowsIn AllRaw
