@@ -1,0 +1,16 @@
+-- Each public call leaves one result and one content of lent memory.
+use mathlib.Core.Path.{_≡_, refl, sym, ap, _∙_}
+use mathlib.Core.List.{List}
+use Prim.Native.Nat.{ℕ}
+use Rattle.base.proofs.Determined.{Determined}
+use Rattle.writer.proofs.needed as needed
+use Rattle.writer.proofs.needed.Reads as needed-reads
+use Rattle.writer.proofs.write as write
+use Rattle.writer.proofs.write.Reads as write-reads
+
+pub needed-determined : Determined needed.ended needed-reads.Pre needed-reads.Post
+needed-determined κs a pre r₁ r₂ w₁ w₂ p q = (p ∙ sym q, refl)
+
+pub write-determined : Determined write.ended write-reads.Pre write-reads.Post
+write-determined κs a pre r₁ r₂ w₁ w₂ p q =
+    (p .answer ∙ sym (q .answer), ap (λ (l : List ℕ). (tt {0}, (l, tt {0}))) (p .output ∙ sym (q .output)))
