@@ -1,0 +1,4 @@
+pub mod Refusals
+pub mod Later
+pub mod Marked
+pub mod Fakes
