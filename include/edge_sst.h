@@ -45,6 +45,32 @@ typedef struct {
 EdgeSstLooked edge_sst_partners_with(const uint8_t *p, size_t n, const EdgeSstOpened *o,
                                      const uint8_t key[16], uint8_t *out, size_t m);
 
+/* What a check gives: the refusal's number with its place, 0 and 0 where there
+ * is none. */
+typedef struct {
+    uint64_t number, place;
+} EdgeSstTold;
+
+/* Checks the n bytes at p in full: opening, the checksum of every section, every
+ * group, and what they say together. Where the file passes, number is 0; the
+ * refusals are 1 to 18, 22 and 23. Any bytes may be lent; p is not null, also
+ * where n is 0. */
+EdgeSstTold edge_sst_check(const uint8_t *p, size_t n);
+
+/* What a read-out gives: the refusal's number with its place, or 0 and 0 and how
+ * many bytes were written. What does not apply is 0. */
+typedef struct {
+    uint64_t number, place, bytes;
+} EdgeSstDone;
+
+/* Writes the batch of the n bytes at p, a heading of 50 bytes and 41 bytes for
+ * each edge, over the start of the m bytes at out. The file is checked in full
+ * before; the refusals are those of edge_sst_check, and then 20, which has the
+ * bytes needed as its place. A refusal leaves out as it was, and what lies past
+ * the batch stays. Any bytes may be lent; out does not overlap them, and no
+ * pointer is null. */
+EdgeSstDone edge_sst_read_out(const uint8_t *p, size_t n, uint8_t *out, size_t m);
+
 #ifdef __cplusplus
 }
 #endif

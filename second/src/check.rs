@@ -1,8 +1,11 @@
 //! The program's checks of itself: against outside values where there are
 //! any, against a second way to the same result where there are none.
 
+mod checking;
 mod lookups;
 mod opening;
+mod printing;
+mod writing;
 
 use crate::corpus::{self, Record};
 use crate::family;
@@ -11,6 +14,7 @@ use crate::random::Random;
 use crate::varint::{self, Read};
 use crate::xxh3::xxh3_64;
 use std::cmp::Ordering;
+use std::collections::BTreeSet;
 use std::fmt::Debug;
 
 /// Sums of the reference program; the head of the file says how they were had.
@@ -46,6 +50,9 @@ pub fn all() -> Tally {
     check_corpus(&mut tally);
     opening::check(&mut tally);
     lookups::check(&mut tally);
+    checking::check(&mut tally);
+    printing::check(&mut tally);
+    writing::check(&mut tally);
     tally
 }
 
@@ -232,6 +239,41 @@ fn check_corpus(tally: &mut Tally) {
             .any(|line| line.split(' ').next() == Some(word));
         tally.same(&format!("an answer {word}"), found, true);
     }
+}
+
+/// A file or a batch of a corpus, and its name.
+type Named = (String, Vec<u8>);
+
+/// Each name has the right form and tells one item.
+fn check_names(tally: &mut Tally, items: &[Named]) {
+    let mut seen = BTreeSet::new();
+    for (name, _) in items {
+        let words = name.split('-').all(|word| {
+            let letter = |c: char| c.is_ascii_lowercase() || c.is_ascii_digit();
+            !word.is_empty() && word.chars().all(letter)
+        });
+        let good = words && name.len() <= 60;
+        tally.same(&format!("form of the name {name}"), good, true);
+        tally.same(&format!("only one {name}"), seen.insert(name), true);
+    }
+}
+
+/// An input of framed items falls apart into them again.
+fn check_framed(tally: &mut Tally, input: &[u8], items: &[Named]) {
+    let mut rest = input;
+    let mut take = |count: usize| {
+        let (taken, after) = rest.split_at_checked(count).unwrap_or((rest, &[]));
+        rest = after;
+        taken
+    };
+    for (name, bytes) in items {
+        let name_length = take(1).first().copied().unwrap_or_default();
+        let found_name = take(usize::from(name_length));
+        let length = u32::from_le_bytes(take(4).try_into().unwrap_or_default());
+        let same = found_name == name.as_bytes() && take(length as usize) == *bytes;
+        tally.same(&format!("input of {name}"), same, true);
+    }
+    tally.same("input read to its end", rest.len(), 0);
 }
 
 /// Both sides of every power of two, and a pseudo-random number of every size.

@@ -1,10 +1,15 @@
 //! The vector files: inputs and expected outputs for the programs under test.
 
+pub mod check_files;
 mod codes_vectors;
 pub mod lookup_calls;
 pub mod open_files;
+pub mod print_files;
 mod record;
+pub mod write_batches;
 mod xxh3_vectors;
+
+use crate::print::print;
 
 pub use codes_vectors::records as code_records;
 pub use record::Record;
@@ -16,9 +21,16 @@ pub struct VectorFile {
 }
 
 pub fn files() -> Vec<VectorFile> {
+    let mut files = code_vectors();
+    files.extend(reader_vectors());
+    files.extend(check_vectors());
+    files.extend(sample_vectors());
+    files.extend(write_vectors());
+    files
+}
+
+fn code_vectors() -> Vec<VectorFile> {
     let records = code_records();
-    let opened = open_files::small();
-    let looked_up = lookup_calls::files();
     vec![
         VectorFile {
             path: "xxh3_sum/stdin",
@@ -43,6 +55,13 @@ pub fn files() -> Vec<VectorFile> {
                 .flat_map(|record| format!("{}\n", record.line()).into_bytes())
                 .collect(),
         },
+    ]
+}
+
+fn reader_vectors() -> Vec<VectorFile> {
+    let opened = open_files::small();
+    let looked_up = lookup_calls::files();
+    vec![
         VectorFile {
             path: "open_corpus/stdin",
             bytes: open_files::stdin(&opened),
@@ -62,9 +81,86 @@ pub fn files() -> Vec<VectorFile> {
     ]
 }
 
+fn check_vectors() -> Vec<VectorFile> {
+    let checked = check_files::files();
+    let printed = print_files::files();
+    vec![
+        VectorFile {
+            path: "check_corpus/stdin",
+            bytes: check_files::stdin(&checked),
+        },
+        VectorFile {
+            path: "check_corpus/stdout",
+            bytes: check_files::stdout(&checked),
+        },
+        VectorFile {
+            path: "print_corpus/stdin",
+            bytes: check_files::stdin(&printed),
+        },
+        VectorFile {
+            path: "print_corpus/stdout",
+            bytes: print_files::stdout(&printed),
+        },
+    ]
+}
+
+/// The printed example as the input of the printing program, and the samples.
+/// These lie beside the folder of vectors.
+fn sample_vectors() -> Vec<VectorFile> {
+    let example = check_files::samples::example().bytes();
+    vec![
+        VectorFile {
+            path: "edge_sst/stdout",
+            bytes: print(&example).into_bytes(),
+        },
+        VectorFile {
+            path: "edge_sst/stdin",
+            bytes: example.clone(),
+        },
+        VectorFile {
+            path: "../samples/example.edges",
+            bytes: example,
+        },
+        VectorFile {
+            path: "../samples/board.edges",
+            bytes: check_files::samples::board().bytes(),
+        },
+    ]
+}
+
+fn write_vectors() -> Vec<VectorFile> {
+    let batches = write_batches::small();
+    vec![
+        VectorFile {
+            path: "write_corpus/stdin",
+            bytes: write_batches::stdin(&batches),
+        },
+        VectorFile {
+            path: "write_corpus/stdout",
+            bytes: write_batches::stdout(&batches),
+        },
+    ]
+}
+
+/// A named file or batch in an input: the length of the name in one byte, the
+/// name, the length of the bytes in four, the bytes.
+fn framed(name: &str, bytes: &[u8]) -> Vec<u8> {
+    let mut input = vec![name.len() as u8];
+    input.extend(name.bytes());
+    input.extend((bytes.len() as u32).to_le_bytes());
+    input.extend(bytes);
+    input
+}
+
+/// What each call finds in an output of bytes.
+pub fn fresh_output(length: usize) -> Vec<u8> {
+    (0..length).map(|i| (7 * i + 3) as u8).collect()
+}
+
 /// The vector files too large to be kept beside the library.
 pub fn large_files() -> Vec<VectorFile> {
     let opened = open_files::large();
+    let batches = write_batches::large();
     vec![
         VectorFile {
             path: "open_large/stdin",
@@ -73,6 +169,14 @@ pub fn large_files() -> Vec<VectorFile> {
         VectorFile {
             path: "open_large/stdout",
             bytes: open_files::stdout(&opened),
+        },
+        VectorFile {
+            path: "write_large/stdin",
+            bytes: write_batches::stdin(&batches),
+        },
+        VectorFile {
+            path: "write_large/stdout",
+            bytes: write_batches::large_stdout(&batches),
         },
     ]
 }

@@ -5,7 +5,7 @@ use crate::layout::{Header, Layout, Section};
 use crate::numbers::{id_number, write_le, Id};
 use crate::varint;
 
-#[derive(Clone, Copy)]
+#[derive(Clone, Copy, Debug, PartialEq, Eq)]
 pub struct Edge {
     pub partner: Id,
     pub log: u64,
@@ -13,7 +13,7 @@ pub struct Edge {
 }
 
 /// How the partners of a group are written.
-#[derive(Clone, Copy, PartialEq, Eq)]
+#[derive(Clone, Copy, Debug, PartialEq, Eq)]
 pub enum Form {
     /// Tag 0x01: upper halves as differences, lower halves as they are.
     Split,
@@ -22,7 +22,7 @@ pub enum Form {
 }
 
 /// The edges of one key. Their partners increase.
-#[derive(Clone)]
+#[derive(Clone, Debug, PartialEq, Eq)]
 pub struct Group {
     pub key: Id,
     pub form: Form,
@@ -55,7 +55,7 @@ impl Group {
     }
 }
 
-fn edges(groups: &[Group]) -> impl Iterator<Item = &Edge> {
+pub fn edges(groups: &[Group]) -> impl Iterator<Item = &Edge> {
     groups.iter().flat_map(|group| &group.edges)
 }
 

@@ -3,7 +3,7 @@
 //! edge, and the room in the outputs. The first of these that fails gives the
 //! refusal, and nothing is written before all have passed.
 
-mod group;
+pub mod group;
 mod record;
 mod search;
 
@@ -72,8 +72,8 @@ fn refuse<T>(number: u8, place: u64) -> Result<T, Refusal> {
     Err(Refusal { number, place })
 }
 
-/// The bytes of a file that a record says a lookup has to read.
-struct Sections<'a> {
+/// The bytes of a file that a record says are to be read for its edges.
+pub struct Sections<'a> {
     keys: &'a [u8],
     offsets: &'a [u8],
     offset_width: usize,
@@ -85,7 +85,7 @@ struct Sections<'a> {
 
 impl<'a> Sections<'a> {
     /// The record is that of opening or has passed the check of records.
-    fn new(file: &'a [u8], record: &OpenedRecord) -> Self {
+    pub fn new(file: &'a [u8], record: &OpenedRecord) -> Self {
         Sections {
             keys: bytes_of(file, record.keys),
             offsets: bytes_of(file, record.offsets),
@@ -108,7 +108,7 @@ impl<'a> Sections<'a> {
             }
             write_partners(partners, outputs.partners)?;
             for (i, edge) in (first_edge..first_edge + degree).enumerate() {
-                outputs.logs[i] = read_le(&self.logs[8 * edge..][..8]);
+                outputs.logs[i] = self.log(edge);
                 outputs.marks[i] = self.mark(edge);
             }
             Ok(())
@@ -152,7 +152,7 @@ impl<'a> Sections<'a> {
 
     /// The bytes of a group. Nothing if its two offsets fall or pass the
     /// partner range; equal ones below that make an empty group.
-    fn group(&self, index: usize) -> Option<&'a [u8]> {
+    pub fn group(&self, index: usize) -> Option<&'a [u8]> {
         self.partners
             .get(self.offset(index)..self.offset(index + 1))
     }
@@ -171,8 +171,16 @@ impl<'a> Sections<'a> {
         (end <= u128::from(self.edge_count)).then_some(sum as usize)
     }
 
+    pub fn key(&self, index: usize) -> Id {
+        id_at(self.keys, index).to_be_bytes()
+    }
+
+    pub fn log(&self, edge: usize) -> u64 {
+        read_le(&self.logs[8 * edge..][..8])
+    }
+
     /// Edge e is bit e mod 8 of byte e/8; without tombstones all are live.
-    fn mark(&self, edge: usize) -> u8 {
+    pub fn mark(&self, edge: usize) -> u8 {
         match self.tombstones {
             None => 0,
             Some(bytes) => bytes[edge / 8] >> (edge % 8) & 1,

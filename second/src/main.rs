@@ -1,28 +1,34 @@
 //! The second program: an independent opinion on checksums, number codes, the
-//! opening of files and the lookup of keys.
+//! opening of files, the lookup of keys, the full check, read-out and writing.
 //! See README.md.
 
+mod batch;
 mod check;
 mod corpus;
 mod family;
 mod format;
+mod full_check;
 mod groups;
 mod layout;
 mod lookup;
 mod numbers;
 mod open;
+mod print;
 mod random;
+mod read_out;
 mod varint;
+mod write;
 mod xxh3;
 
 use corpus::VectorFile;
 use std::fs;
-use std::io::{self, Write};
+use std::io::{self, Read, Write};
 use std::path::Path;
 use std::process::ExitCode;
 
 const USAGE: &str =
-    "usage: second check | make DIR | make-large DIR | compare DIR | bytes NAME | family N";
+    "usage: second check | make DIR | make-large DIR | compare DIR | bytes NAME | family N
+       second write | read-out | print, each with its input on standard input";
 
 fn main() -> ExitCode {
     let arguments: Vec<String> = std::env::args().skip(1).collect();
@@ -34,6 +40,9 @@ fn main() -> ExitCode {
         ["compare", dir] => compare(Path::new(dir)),
         ["bytes", name] => bytes(name),
         ["family", count] => family(count),
+        ["write"] => write(),
+        ["read-out"] => read_out(),
+        ["print"] => print(),
         _ => Err(USAGE.to_string()),
     };
     match done {
@@ -90,7 +99,7 @@ fn compare(dir: &Path) -> Result<(), String> {
     }
 }
 
-/// One file of the corpora, as it is.
+/// One file or batch of the corpora, as it is.
 fn bytes(name: &str) -> Result<(), String> {
     let opened = corpus::open_files::small()
         .into_iter()
@@ -99,16 +108,56 @@ fn bytes(name: &str) -> Result<(), String> {
     let looked_up = corpus::lookup_calls::files()
         .into_iter()
         .map(|file| (file.name, file.bytes));
+    let checked = corpus::check_files::files()
+        .into_iter()
+        .map(|file| (file.name, file.bytes));
+    let written = corpus::write_batches::small()
+        .into_iter()
+        .chain(corpus::write_batches::large())
+        .map(|batch| (batch.name, batch.bytes));
     let (_, bytes) = opened
         .chain(looked_up)
-        .find(|file| file.0 == name)
-        .ok_or_else(|| format!("{name}: no such file in the corpora"))?;
+        .chain(checked)
+        .chain(written)
+        .find(|item| item.0 == name)
+        .ok_or_else(|| format!("{name}: no such name in the corpora"))?;
     write_out(&bytes)
+}
+
+/// From a batch to its file.
+fn write() -> Result<(), String> {
+    let batch = standard_input()?;
+    let size = write::needed(&batch).map_err(|refusal| refusal.to_string())?;
+    let mut file = vec![0; size as usize];
+    write::write(&batch, &mut file).map_err(|refusal| refusal.to_string())?;
+    write_out(&file)
+}
+
+/// From a file to its batch. No edge has less than 17 bytes in a file, so three
+/// times the file and a heading is room enough.
+fn read_out() -> Result<(), String> {
+    let file = standard_input()?;
+    let mut batch = vec![0; 3 * file.len() + batch::HEADING];
+    let size = read_out::read_out(&file, &mut batch).map_err(|refusal| refusal.to_string())?;
+    write_out(&batch[..size as usize])
+}
+
+fn print() -> Result<(), String> {
+    let file = standard_input()?;
+    write_out(print::print(&file).as_bytes())
 }
 
 fn family(count: &str) -> Result<(), String> {
     let count = count.parse().map_err(|_| USAGE.to_string())?;
     write_out(&family::bytes(count))
+}
+
+fn standard_input() -> Result<Vec<u8>, String> {
+    let mut bytes = Vec::new();
+    io::stdin()
+        .read_to_end(&mut bytes)
+        .map_err(|error| format!("standard input: {error}"))?;
+    Ok(bytes)
 }
 
 fn write_out(bytes: &[u8]) -> Result<(), String> {

@@ -6,11 +6,18 @@ use crate::format::{
 };
 use crate::numbers::{id_number, read_le, Id};
 use crate::xxh3::xxh3_64;
+use std::fmt;
 
 #[derive(Clone, Copy, Debug, PartialEq, Eq)]
 pub struct Refusal {
     pub number: u8,
     pub place: u64,
+}
+
+impl fmt::Display for Refusal {
+    fn fmt(&self, f: &mut fmt::Formatter) -> fmt::Result {
+        write!(f, "refused {} at {}", self.number, self.place)
+    }
 }
 
 #[derive(Clone, Copy, Debug, PartialEq, Eq)]
@@ -90,12 +97,12 @@ pub fn open(file: &[u8]) -> Result<Opened, Refusal> {
     Ok(Opened { record, rows })
 }
 
-fn refuse_if(number: u8, fault: bool) -> Result<(), Refusal> {
+pub fn refuse_if(number: u8, fault: bool) -> Result<(), Refusal> {
     refuse_at(number, fault.then_some(0))
 }
 
 /// Refuses if there is a faulty entry or index, and there.
-fn refuse_at(number: u8, faulty: Option<usize>) -> Result<(), Refusal> {
+pub fn refuse_at(number: u8, faulty: Option<usize>) -> Result<(), Refusal> {
     match faulty {
         None => Ok(()),
         Some(place) => Err(Refusal {

@@ -77,14 +77,15 @@ fn fences_there(n: u64, fenced: bool) -> bool
 }
 
 // The flag bit whose value is `by`.
-fn flag_of(flags: u64, by: u64) -> bool
+pub fn flag_of(flags: u64, by: u64) -> bool
     requires { ⌜ 0 < by ⌝ }
     ensures { λ r. ⌜ r ≡ eqb (flags / by % 2) 1 ⌝ }
 {
     flags / by % 2 == 1
 }
 
-fn alike(a: bool, b: bool) -> bool
+// Are both true, or neither?
+pub fn alike(a: bool, b: bool) -> bool
     ensures { λ r. ⌜ r ≡ Bool·beq a b ⌝ }
 {
     if a {

@@ -3,6 +3,10 @@ use mathlib.Core.Path.{_≡_, refl, sym, ap, _∙_}
 use mathlib.Core.List.{List}
 use Prim.Native.Nat.{ℕ}
 use Rattle.base.proofs.Determined.{Determined}
+use Rattle.edge_sst_c.proofs.desk.edge_sst_check as check
+use Rattle.edge_sst_c.proofs.desk.edge_sst_check.Reads as check-reads
+use Rattle.edge_sst_c.proofs.desk.edge_sst_read_out as read-out
+use Rattle.edge_sst_c.proofs.desk.edge_sst_read_out.Reads as read-out-reads
 use Rattle.edge_sst_c.proofs.edge_sst_open as edge-sst-open
 use Rattle.edge_sst_c.proofs.edge_sst_open.Reads as edge-sst-open-reads
 use Rattle.edge_sst_c.proofs.look.edge_sst_partners_with as partners-with
@@ -14,3 +18,9 @@ edge-sst-open-determined κs a pre r₁ r₂ w₁ w₂ p q = (p ∙ sym q, refl)
 pub edge-sst-partners-with-determined : Determined partners-with.ended partners-with-reads.Pre partners-with-reads.Post
 edge-sst-partners-with-determined κs a pre r₁ r₂ w₁ w₂ p q =
     (p .answer ∙ sym (q .answer), ap (λ (l : List ℕ). (tt {0}, (tt {0}, (tt {0}, (l, tt {0}))))) (p .partners ∙ sym (q .partners)))
+
+pub edge-sst-check-determined : Determined check.ended check-reads.Pre check-reads.Post
+edge-sst-check-determined κs a pre r₁ r₂ w₁ w₂ p q = (p ∙ sym q, refl)
+
+pub edge-sst-read-out-determined : Determined read-out.ended read-out-reads.Pre read-out-reads.Post
+edge-sst-read-out-determined κs a pre r₁ r₂ w₁ w₂ p q = (p .0 ∙ sym (q .0), ap (λ (l : List ℕ). (tt {0}, (l, tt {0}))) (p .1 ∙ sym (q .1)))

@@ -1,2 +1,3 @@
 pub mod Told
 pub mod Look
+pub mod Desk

@@ -4,6 +4,7 @@ ghost use Rattle.frame.specs.Open.{openOf};
 ghost use Rattle.refusal.specs.Refusal.{numberOf, placeOf};
 ghost use Rattle.edge_sst_c.specs.Told.{truth, recordWith, refusalWith, openedTold};
 
+pub mod desk;
 pub mod look;
 
 use frame::Opened;

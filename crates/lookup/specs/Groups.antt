@@ -59,7 +59,7 @@ unfolding seen
 seen-bad Check.Fine m r e = let z : _≡_ {A = ℕ} 0 1 = cc in absurd (omega arith)
 seen-bad (Check.Bad q) m r e = cc
 
-check-good : (i : ℕ) (w : Partners) → groupCheck i w ≡ Check.Fine → isGood w ≡ true
+pub check-good : (i : ℕ) (w : Partners) → groupCheck i w ≡ Check.Fine → isGood w ≡ true
 unfolding groupCheck isGood
 check-good i (good dense ps) e = refl
 check-good i badTag e = let z : _≡_ {A = ℕ} 0 1 = cc in absurd (omega arith)

@@ -67,7 +67,7 @@ pub fn fill_logs(s: &[u8], first: usize, d: usize, out: &mut [u64])
 }
 
 // The dead mark of edge e, 0 where the tombstones do not reach it.
-fn mark_at(s: &[u8], e: usize) -> u8
+pub fn mark_at(s: &[u8], e: usize) -> u8
     ensures { λ r. ⌜ r ≡ markAt (now (s .entry)) e ⌝ }
 {
     let at = e / 8;

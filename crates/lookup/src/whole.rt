@@ -33,7 +33,7 @@ use index::keys::Found;
 use refusal::Refusal;
 
 // The tombstones, none where there is no such section.
-fn dead_of<'a>(file: &'a [u8], o: Opened) -> &'a [u8]
+pub fn dead_of<'a>(file: &'a [u8], o: Opened) -> &'a [u8]
     requires { ⌜ Holds (now file) o ⌝ }
     ensures { λ s. ⌜ now s ≡ pick (o .marked) (bytesAt (now (file .entry)) (o .dead)) [] ⌝ }
 {

@@ -12,6 +12,7 @@ use reader::look::lookup_with;
 use reader::look::partners;
 use reader::look::partners_with;
 use verdict::number;
+use verdict::pattern;
 use verdict::read_byte;
 use verdict::read_front;
 use verdict::read_number;
@@ -20,16 +21,6 @@ use xxh3::xxh3;
 const OUT: i32 = 1;
 
 // ---- what stands in the outputs before a call
-
-fn pattern_bytes(out: &mut [u8]) {
-    let mut x: u64 = 3;
-    let mut i: usize = 0;
-    while i < out.len() {
-        out[i] = (x % 256) as u8;
-        x = (x + 7) % 256;
-        i += 1;
-    }
-}
 
 fn pattern_marks(out: &mut [u8]) {
     let mut i: usize = 0;
@@ -219,7 +210,7 @@ fn call(
     logs: &mut [u64],
     marks: &mut [u8],
 ) {
-    pattern_bytes(out);
+    pattern(out);
     pattern_logs(logs);
     pattern_marks(marks);
     if by {

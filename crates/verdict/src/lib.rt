@@ -1,4 +1,4 @@
-// Prints what opening says of a file, for the programs over corpora.
+// Prints what opening says of a file, and reads corpora: for the programs over them.
 use frame::Opened;
 use frame::Opening;
 use frame::Range;
@@ -104,6 +104,17 @@ pub fn verdict(name: &[u8], file: &[u8]) {
             io::write_all(OUT, b"\n");
             rows(file);
         }
+    }
+}
+
+// What stands in an output before a call, so that each byte that a call leaves or writes shows in the output's sum.
+pub fn pattern(out: &mut [u8]) {
+    let mut x: u64 = 3;
+    let mut i: usize = 0;
+    while i < out.len() {
+        out[i] = (x % 256) as u8;
+        x = (x + 7) % 256;
+        i += 1;
     }
 }
 

@@ -1,6 +1,6 @@
 //! Checks of opening and of its corpus.
 
-use super::Tally;
+use super::{check_framed, check_names, Named, Tally};
 use crate::corpus::open_files::{self, OpenFile, Verdict};
 use crate::format::{bound, kind, HEADER, MAGIC, TRAILER};
 use crate::groups::{self, Edge, Form, Group};
@@ -13,9 +13,11 @@ pub fn check(tally: &mut Tally) {
     let small = open_files::small();
     let large = open_files::large();
     check_marked_cases(tally, &small);
-    check_names(tally, &small, &large);
+    let named = |file: &OpenFile| (file.name.clone(), file.bytes.clone());
+    let items: Vec<Named> = small.iter().chain(&large).map(named).collect();
+    check_names(tally, &items);
     check_sizes(tally, &small, &large);
-    check_input(tally, &small);
+    check_framed(tally, &open_files::stdin(&small), &items[..small.len()]);
     for file in small.iter().chain(&large) {
         check_intended(tally, file);
         check_relaid(tally, file);
@@ -49,19 +51,6 @@ fn check_marked_cases(tally: &mut Tally, files: &[OpenFile]) {
     );
 }
 
-fn check_names(tally: &mut Tally, small: &[OpenFile], large: &[OpenFile]) {
-    let mut seen = BTreeSet::new();
-    for name in small.iter().chain(large).map(|file| &file.name) {
-        let words = name.split('-').all(|word| {
-            let letter = |c: char| c.is_ascii_lowercase() || c.is_ascii_digit();
-            !word.is_empty() && word.chars().all(letter)
-        });
-        let good = words && name.len() <= 60;
-        tally.same(&format!("form of the name {name}"), good, true);
-        tally.same(&format!("only one {name}"), seen.insert(name), true);
-    }
-}
-
 fn check_sizes(tally: &mut Tally, small: &[OpenFile], large: &[OpenFile]) {
     let size = open_files::stdin(small).len();
     tally.same("small corpus at most 600000", size <= 600_000, true);
@@ -74,26 +63,6 @@ fn check_sizes(tally: &mut Tally, small: &[OpenFile], large: &[OpenFile]) {
         small.len(),
         large.len()
     ));
-}
-
-/// The input falls apart into its files again.
-fn check_input(tally: &mut Tally, files: &[OpenFile]) {
-    let input = open_files::stdin(files);
-    let mut rest = &input[..];
-    let mut take = |count: usize| {
-        let (taken, after) = rest.split_at_checked(count).unwrap_or((rest, &[]));
-        rest = after;
-        taken
-    };
-    for file in files {
-        let name_length = take(1).first().copied().unwrap_or_default();
-        let name = take(usize::from(name_length));
-        let length = u32::from_le_bytes(take(4).try_into().unwrap_or_default());
-        let bytes = take(length as usize);
-        let same = name == file.name.as_bytes() && bytes == file.bytes;
-        tally.same(&format!("input of {}", file.name), same, true);
-    }
-    tally.same("input read to its end", rest.len(), 0);
 }
 
 fn check_intended(tally: &mut Tally, file: &OpenFile) {

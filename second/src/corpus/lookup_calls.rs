@@ -7,7 +7,7 @@ mod fields;
 mod group_faults;
 mod openings;
 mod ranges;
-mod raw;
+pub(super) mod raw;
 mod records;
 mod rooms;
 mod searches;

@@ -16,6 +16,7 @@ mod sound;
 mod table;
 mod unread;
 
+use super::framed;
 use crate::layout::Layout;
 use crate::open::{open, Opened, Range, Refusal};
 
@@ -93,22 +94,12 @@ impl OpenFile {
         }
     }
 
-    /// The length of the name in one byte, the name, the length of the file in
-    /// four bytes, the file.
-    fn input(&self) -> Vec<u8> {
-        let mut input = vec![self.name.len() as u8];
-        input.extend(self.name.bytes());
-        input.extend((self.bytes.len() as u32).to_le_bytes());
-        input.extend(&self.bytes);
-        input
-    }
-
     /// One line for a refused file; for an opened one the line of its record
     /// and a line for each section.
     fn lines(&self) -> String {
         let name = &self.name;
         match open(&self.bytes) {
-            Err(Refusal { number, place }) => format!("{name}: refused {number} at {place}\n"),
+            Err(refusal) => format!("{name}: {refusal}\n"),
             Ok(opened) => format!("{name}: opens {}\n", opened_text(&opened)),
         }
     }
@@ -146,7 +137,10 @@ fn opened_text(opened: &Opened) -> String {
 }
 
 pub fn stdin(files: &[OpenFile]) -> Vec<u8> {
-    files.iter().flat_map(OpenFile::input).collect()
+    files
+        .iter()
+        .flat_map(|file| framed(&file.name, &file.bytes))
+        .collect()
 }
 
 pub fn stdout(files: &[OpenFile]) -> Vec<u8> {

@@ -1,6 +1,7 @@
 //! Reading a group: its degree, its tag, its partners. Faults are told in the
 //! order in which the bytes are read.
 
+use crate::groups::Form;
 use crate::numbers::read_le;
 use crate::varint;
 
@@ -38,15 +39,21 @@ pub fn degree(group: &[u8]) -> Result<u64, Fault> {
 
 /// All partners of a group that is right to its end.
 pub fn partners(group: &[u8]) -> Result<Vec<u128>, Fault> {
+    let (_, partners) = read(group)?;
+    Ok(partners)
+}
+
+/// The form of a group that is right to its end, and all its partners.
+pub fn read(group: &[u8]) -> Result<(Form, Vec<u128>), Fault> {
     let mut reader = Reader { rest: group };
     let degree = reader.degree()?;
-    let partners = match reader.take(1)?[0] {
-        tag::SPLIT => split(&mut reader, degree)?,
-        tag::DENSE => dense(&mut reader, degree)?,
+    let read = match reader.take(1)?[0] {
+        tag::SPLIT => (Form::Split, split(&mut reader, degree)?),
+        tag::DENSE => (Form::Dense, dense(&mut reader, degree)?),
         _ => return Err(Fault::Tag),
     };
     if reader.rest.is_empty() {
-        Ok(partners)
+        Ok(read)
     } else {
         Err(Fault::Shape)
     }

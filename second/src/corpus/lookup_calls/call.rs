@@ -1,6 +1,7 @@
 //! One call: its bytes on standard input, its outcome, and the lines that tell
 //! it.
 
+use crate::corpus::fresh_output;
 use crate::format::kind;
 use crate::layout::Layout;
 use crate::lookup::{self, Answer, Outputs};
@@ -106,7 +107,7 @@ impl Rooms {
     /// Outputs of these lengths, filled with what each call finds in them.
     pub fn fresh(self) -> Buffers {
         Buffers {
-            partners: (0..self.partners).map(|i| (7 * i + 3) as u8).collect(),
+            partners: fresh_output(self.partners as usize),
             logs: (0..u64::from(self.logs))
                 .map(|i| 1_000_003 * i + 11)
                 .collect(),
@@ -257,7 +258,7 @@ impl Call {
         let Outcome { answer, buffers } = self.outcome(file);
         let mut partners = 0;
         let text = match answer {
-            Err(Refusal { number, place }) => format!("refused {number} at {place}"),
+            Err(refusal) => refusal.to_string(),
             Ok(Answer::Absent { compared }) => format!("absent compared {compared}"),
             Ok(Answer::Found {
                 degree,

@@ -1,0 +1,2 @@
+pub mod SameEdges
+pub mod Changed

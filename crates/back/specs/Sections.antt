@@ -1,0 +1,153 @@
+-- Sections without a name, raw, with their checksums, as the writer lays them out: what their table says.
+use mathlib.Core.Path.{_≡_, refl, sym, ap, ap₂, _∙_}
+use Prim.Native.Nat.{ℕ, zero, suc, _+_, _-_, _*_, _^_, _≤_, _<_}
+use native.Mathlib.Omega.{arith}
+use mathlib.Core.List.{List, [], _∷_, _++_, append-assoc}
+use mathlib.Core.Bool.{Bool, true, false, not, _&&_, _||_}
+use lib.ListN.{length, length-append}
+use lib.Dec.{leb, eqb}
+use borrow.Author.Tests.{eq-eqb}
+use Rattle.base.specs.Pick.{pick}
+use Rattle.xxh3_spec.specs.Xxh3.{xxh3}
+use Rattle.refusal.specs.declared.Refusal.{Refusal}
+use Rattle.refusal.specs.declared.Check.{Check}
+use Rattle.refusal.specs.Check.Laws.{fine-pick, and-both}
+use Rattle.frame.specs.declared.Row.{Row}
+use Rattle.frame.specs.Kind as kind
+use Rattle.frame.specs.Frame.{rangeOf, has, twice, sectionOf, all, nameGood, codecGood, codecs}
+use Rattle.frame.specs.Open.{bytesAt}
+use Rattle.frame.specs.Layout.{Section, rawSection, payload}
+use Rattle.laid_out.specs.Sum.{xxh3-lt}
+use Rattle.laid_out.specs.Rows.{rowsIn, Fits, AllFit}
+use Rattle.laid_out.specs.Laid.{bytes-first}
+use Rattle.full_check.specs.Full.{sumsFrom}
+
+-- kinds 1 to 6, and their contents
+pub record Raw (s : Section) : Type 0 where
+  pub known : s .kind < 2 ^ 16
+  pub codec : s .codec ≡ 0
+  pub name : s .name ≡ []
+  pub sum : s .sum ≡ xxh3 (s .bytes)
+
+unfoldable pub AllRaw : List Section → Type 0
+AllRaw [] = Unit {0}
+AllRaw (s ∷ ss) = Raw s × AllRaw ss
+
+pub raw-is : (k : ℕ) (bytes : List ℕ) → k < 2 ^ 16 → Raw (rawSection k bytes)
+raw-is k bytes h = record { known = h; codec = refl; name = refl; sum = refl }
+
+-- the bytes of the first section of kind k; none: none
+unfoldable pub contentOf : ℕ → List Section → List ℕ
+contentOf k [] = []
+contentOf k (s ∷ ss) = pick (eqb (s .kind) k) (s .bytes) (contentOf k ss)
+
+-- it stands there; more than once
+unfoldable pub hasKind : ℕ → List Section → Bool
+hasKind k [] = false
+hasKind k (s ∷ ss) = eqb (s .kind) k || hasKind k ss
+
+unfoldable pub twiceKind : ℕ → List Section → Bool
+twiceKind k [] = false
+twiceKind k (s ∷ ss) = pick (eqb (s .kind) k) (hasKind k ss) (twiceKind k ss)
+
+-- ---- of the table
+
+pub has-is : (k : ℕ) (ss : List Section) (at i : ℕ) → has k (rowsIn at i ss) ≡ hasKind k ss
+unfolding has rowsIn hasKind
+has-is k [] at i = refl
+has-is k (s ∷ ss) at i = ap (λ (t : Bool). eqb (s .kind) k || t) (has-is k ss _ _)
+
+pub twice-is : (k : ℕ) (ss : List Section) (at i : ℕ) → twice k (rowsIn at i ss) ≡ twiceKind k ss
+unfolding twice rowsIn twiceKind
+twice-is k [] at i = refl
+twice-is k (s ∷ ss) at i = ap₂ (λ (t u : Bool). pick (eqb (s .kind) k) t u) (has-is k ss _ _) (twice-is k ss _ _)
+
+pub names-fine : (ss : List Section) (at i : ℕ) → AllRaw ss → all nameGood (rowsIn at i ss) ≡ true
+unfolding all rowsIn AllRaw
+names-fine [] at i r = refl
+names-fine (s ∷ ss) at i r =
+    let z : length (s .name) ≡ 0 = ap length (r .0 .name) in
+    and-both (short (s .kind) (length (s .name)) z) (names-fine ss _ _ (r .1))
+  where
+    short : (k n : ℕ) → n ≡ 0 → (leb n kind.longestName && (not (kind.fixed k) || eqb n 0)) ≡ true
+    short k n z = rw z (go (kind.fixed k))
+      where
+        go : (b : Bool) → (not b || true) ≡ true
+        go true = refl
+        go false = refl
+
+pub codecs-fine : (ss : List Section) (at i k : ℕ) → AllRaw ss → codecs (rowsIn at i ss) k ≡ Check.Fine
+unfolding codecs rowsIn AllRaw
+codecs-fine [] at i k r = refl
+codecs-fine (s ∷ ss) at i k r = fine-pick (Check.Bad (Refusal.Codec k)) (raw (kind.fixed (s .kind)) (s .codec) (r .0 .codec)) (codecs-fine ss _ _ (k + 1) (r .1))
+  where
+    raw : (b : Bool) (c : ℕ) → c ≡ 0 → (not b || eqb c 0) ≡ true
+    raw true c z = eq-eqb c 0 z
+    raw false c z = refl
+
+pub all-fit : (ss : List Section) (at : ℕ) → AllRaw ss → at + length (payload ss) < 2 ^ 64 → AllFit at ss
+unfolding AllFit AllRaw payload
+all-fit [] at r h = tt
+all-fit (s ∷ ss) at r h =
+    let l = length-append (s .bytes) (payload ss) in
+    let sum : s .sum < 2 ^ 64 = rw (r .0 .sum) (xxh3-lt (s .bytes)) in
+    (record { kind = r .0 .known; start = omega arith; len = omega arith; sum = sum }, all-fit ss (at + length (s .bytes)) (r .1) (omega arith))
+
+-- ---- of the file f in which they lie after p
+
+-- one section, and what follows it
+after : (f p : List ℕ) (s : Section) (ss : List Section) (q : List ℕ) → f ≡ p ++ (payload (s ∷ ss) ++ q) → f ≡ (p ++ s .bytes) ++ (payload ss ++ q)
+unfolding payload
+after f p s ss q e =
+    e ∙ ap (λ (t : List ℕ). p ++ t) (append-assoc (s .bytes) (payload ss) q) ∙ sym (append-assoc p (s .bytes) (payload ss ++ q))
+
+first : (f p : List ℕ) (s : Section) (ss : List Section) (q : List ℕ) (at : ℕ) → f ≡ p ++ (payload (s ∷ ss) ++ q) → length p ≡ at
+    → bytesAt f (record { start = at; len = length (s .bytes) }) ≡ s .bytes
+first f p s ss q at e l = ap₂ (λ (t : List ℕ) (a : ℕ). bytesAt t (record { start = a; len = length (s .bytes) })) e (sym l) ∙ bytes-first p s ss q
+
+pub content-is : (k : ℕ) (ss : List Section) (f p q : List ℕ) (at i : ℕ) → f ≡ p ++ (payload ss ++ q) → length p ≡ at
+    → bytesAt f (sectionOf k (rowsIn at i ss)) ≡ contentOf k ss
+unfolding sectionOf rowsIn contentOf
+content-is k [] f p q at i e l = refl
+content-is k (s ∷ ss) f p q at i e l =
+    go (eqb (s .kind) k) (first f p s ss q at e l)
+    (content-is k ss f (p ++ s .bytes) q (at + length (s .bytes)) (i + 28 + length (s .name)) (after f p s ss q e) (length-append p (s .bytes) ∙ ap (λ (t : ℕ). t + length (s .bytes)) l))
+  where
+    rest : List Row
+    rest = rowsIn (at + length (s .bytes)) (i + 28 + length (s .name)) ss
+
+    go : (b : Bool) → bytesAt f (record { start = at; len = length (s .bytes) }) ≡ s .bytes → bytesAt f (sectionOf k rest) ≡ contentOf k ss
+        → bytesAt f (pick b (record { start = at; len = length (s .bytes) }) (sectionOf k rest)) ≡ pick b (s .bytes) (contentOf k ss)
+    go true x y = x
+    go false x y = y
+
+pub len-is : (k : ℕ) (ss : List Section) (at i : ℕ) → sectionOf k (rowsIn at i ss) .len ≡ length (contentOf k ss)
+unfolding sectionOf rowsIn contentOf
+len-is k [] at i = refl
+len-is k (s ∷ ss) at i = go (eqb (s .kind) k) (len-is k ss (at + length (s .bytes)) (i + 28 + length (s .name)))
+  where
+    rest : List Row
+    rest = rowsIn (at + length (s .bytes)) (i + 28 + length (s .name)) ss
+
+    go : (b : Bool) → sectionOf k rest .len ≡ length (contentOf k ss)
+        → pick b (record { start = at; len = length (s .bytes) }) (sectionOf k rest) .len ≡ length (pick b (s .bytes) (contentOf k ss))
+    go true y = refl
+    go false y = y
+
+-- no section is longer than all of them
+pub length-content : (k : ℕ) (ss : List Section) → length (contentOf k ss) ≤ length (payload ss)
+unfolding contentOf payload
+length-content k [] = omega arith
+length-content k (s ∷ ss) = go (eqb (s .kind) k) (length-content k ss)
+  where
+    go : (b : Bool) → length (contentOf k ss) ≤ length (payload ss) → length (pick b (s .bytes) (contentOf k ss)) ≤ length (s .bytes ++ payload ss)
+    go true h = omega (arith, length-append (s .bytes) (payload ss))
+    go false h = omega (arith, length-append (s .bytes) (payload ss))
+
+-- every checksum is right
+pub sums-fine : (ss : List Section) (f p q : List ℕ) (at i k : ℕ) → AllRaw ss → f ≡ p ++ (payload ss ++ q) → length p ≡ at → sumsFrom f (rowsIn at i ss) k ≡ Check.Fine
+unfolding sumsFrom rowsIn AllRaw
+sums-fine [] f p q at i k r e l = refl
+sums-fine (s ∷ ss) f p q at i k r e l =
+    fine-pick (Check.Bad (Refusal.Sum k)) (eq-eqb _ _ (ap xxh3 (first f p s ss q at e l) ∙ sym (r .0 .sum)))
+    (sums-fine ss f (p ++ s .bytes) q (at + length (s .bytes)) (i + 28 + length (s .name)) (k + 1) (r .1) (after f p s ss q e) (length-append p (s .bytes) ∙ ap (λ (t : ℕ). t + length (s .bytes)) l))

@@ -1,0 +1,4 @@
+pub mod Stripped
+pub mod Strip
+pub mod Whole
+pub mod Demand3

@@ -1,0 +1,152 @@
+-- `full_check::groups::groups_of` meets its contract. Invariant: `Walk`, of the groups that are passed.
+use mathlib.Core.Path.{_≡_, refl, sym, _∙_}
+use mathlib.Core.Bool.{false}
+use Prim.Native.Nat.{_+_, _-_, _*_, _≤_}
+use native.Mathlib.Nat.{mul-le-mul-right}
+use Rattle.refusal.specs.declared.Refusal.{Refusal}
+use Rattle.group.specs.declared.Group.{Group}
+use Rattle.full_check.specs.Full.Laws.{faultOf, Walk, walk-start, walk-rises, walk-bad, walk-few, walk-on, walk-end}
+use borrow.Author.Needs.{needs}
+use native.Mathlib.Omega.{arith}
+use Rattle.full_check.proofs.groups.groups_of.Statement.{statement}
+use Rattle.full_check.proofs.groups.groups_of.Tie as tie
+use Rattle.full_check.proofs.groups.groups_of.Reads as reads
+use Rattle.full_check.proofs.groups.groups_of.Lts as lts
+use Rattle.full_check.proofs.groups.either.Reads as either-reads
+use Rattle.full_check.proofs.groups.refused.Reads as refused-reads
+use Rattle.group.proofs.check_group.Reads as check-group-reads
+use Rattle.index.proofs.offsets.offset_at.Reads as offset-at-reads
+
+abbrev Inv-loop : tie.InvT-loop
+Inv-loop partners offs w n edges₀ dense₀ a₀ i₀ edges dense a i = Walk partners offs w n i a edges dense
+
+abbrev μ-loop : tie.MeasureT-loop
+μ-loop partners offs w n edges₀ dense₀ a₀ i₀ edges dense a i = n - i
+
+loop-holds : tie.Need-loop-holds Inv-loop μ-loop
+loop-holds c = let a = c .before .before .args in walk-start (a .partners .now) (a .offs .now) (a .w) (a .n) (c .before .before .pre .4)
+
+add-offset-at : tie.Need-add-offset-at Inv-loop μ-loop
+add-offset-at c = let h = c .before .loop .inv .most in omega arith
+
+offset-at-requires : tie.Need-offset-at-requires Inv-loop μ-loop
+offset-at-requires c κs = let a = c .before .before .before .before .args in
+    let l = c .before .loop in
+    let m : (l .i + 1 + 1) * a .w ≤ (a .n + 1) * a .w = mul-le-mul-right (a .w) (omega arith) in
+    (search needs, search needs, omega arith, omega arith)
+
+sub-check-group : tie.Need-sub-check-group Inv-loop μ-loop
+sub-check-group c = let a = c .before .before .before .before .before .args in
+    let l = c .before .before .loop in
+    let r = walk-rises (a .partners .now) (a .offs .now) (a .w) (a .n) (c .before .before .before .before .before .pre .4) (l .i) (l .a) (l .edges) (l .dense) (l .inv) (omega arith) (c .offset-at .ensures .0) in
+    omega arith
+
+part-check-group-start : tie.Need-part-check-group-start Inv-loop μ-loop
+part-check-group-start c = let a = c .before .before .before .before .before .args in
+    let l = c .before .before .loop in
+    let r = walk-rises (a .partners .now) (a .offs .now) (a .w) (a .n) (c .before .before .before .before .before .pre .4) (l .i) (l .a) (l .edges) (l .dense) (l .inv) (omega arith) (c .offset-at .ensures .0) in
+    omega arith
+
+part-check-group-end : tie.Need-part-check-group-end Inv-loop μ-loop
+part-check-group-end c = let a = c .before .before .before .before .before .args in
+    let l = c .before .before .loop in
+    let r = walk-rises (a .partners .now) (a .offs .now) (a .w) (a .n) (c .before .before .before .before .before .pre .4) (l .i) (l .a) (l .edges) (l .dense) (l .inv) (omega arith) (c .offset-at .ensures .0) in
+    omega arith
+
+check-group-requires : tie.Need-check-group-requires Inv-loop μ-loop
+check-group-requires c κs = search needs
+
+enum-known-degree : tie.Need-enum-known-degree Inv-loop μ-loop
+enum-known-degree c = search needs
+
+add-edges : tie.Need-add-edges Inv-loop μ-loop
+add-edges c = let a = c .before .before .before .before .before .before .before .before .before .before .args in
+    let l = c .before .before .before .before .before .before .before .loop in
+    let r = walk-few (a .partners .now) (a .offs .now) (a .w) (a .n) (c .before .before .before .before .before .before .before .before .before .before .pre .4) (l .i) (l .a) (l .edges) (l .dense) (l .inv) (omega arith) (c .before .before .before .before .before .offset-at .ensures .0) _ _ (sym (c .before .before .before .check-group .ensures) ∙ c .before .degree .given .1) in
+    let s = c .before .before .before .before .before .offset-at .ensures .1 in
+    omega arith
+
+either-requires : tie.Need-either-requires Inv-loop μ-loop
+either-requires c κs = search needs
+
+add-i : tie.Need-add-i Inv-loop μ-loop
+add-i c = let h = c .before .before .before .before .before .before .before .before .loop .inv .most in omega arith
+
+loop-less : tie.Need-loop-less Inv-loop μ-loop
+loop-less c = let h = c .before .before .before .before .before .before .before .before .loop .inv .most in omega arith
+
+loop-again : tie.Need-loop-again Inv-loop μ-loop
+loop-again c = let a = c .before .before .before .before .before .before .before .before .before .before .before .args in
+    let l = c .before .before .before .before .before .before .before .before .loop in
+    walk-on (a .partners .now) (a .offs .now) (a .w) (a .n) (c .before .before .before .before .before .before .before .before .before .before .before .pre .4) (l .i) (l .a) (l .edges) (l .dense) (l .inv) (omega arith) (c .before .before .before .before .before .before .offset-at .ensures .0) _ _ (sym (c .before .before .before .before .check-group .ensures) ∙ c .before .before .degree .given .1) (c .either .ensures)
+
+enum-told : tie.Need-enum-told Inv-loop μ-loop
+enum-told c = search needs
+
+refused-requires : tie.Need-refused-requires Inv-loop μ-loop
+refused-requires c κs = search needs
+
+returns : tie.Need-returns Inv-loop μ-loop
+unfolding faultOf
+returns c = let a = c .before .before .before .before .before .before .before .before .before .before .args in
+    let l = c .before .before .before .before .before .before .before .loop in
+    c .refused .ensures ∙ sym (walk-bad (a .partners .now) (a .offs .now) (a .w) (a .n) (c .before .before .before .before .before .before .before .before .before .before .pre .4) (l .i) (l .a) (l .edges) (l .dense) (l .inv) (omega arith) (c .before .before .before .before .before .offset-at .ensures .0) Group.BadTag (Refusal.Tag (l .i)) (sym (c .before .before .before .check-group .ensures) ∙ c .before .enum-told .given .1) refl)
+
+enum-told-2 : tie.Need-enum-told-2 Inv-loop μ-loop
+enum-told-2 c = search needs
+
+refused-requires-2 : tie.Need-refused-requires-2 Inv-loop μ-loop
+refused-requires-2 c κs = search needs
+
+returns-2 : tie.Need-returns-2 Inv-loop μ-loop
+unfolding faultOf
+returns-2 c = let a = c .before .before .before .before .before .before .before .before .before .before .args in
+    let l = c .before .before .before .before .before .before .before .loop in
+    c .refused2 .ensures ∙ sym (walk-bad (a .partners .now) (a .offs .now) (a .w) (a .n) (c .before .before .before .before .before .before .before .before .before .before .pre .4) (l .i) (l .a) (l .edges) (l .dense) (l .inv) (omega arith) (c .before .before .before .before .before .offset-at .ensures .0) Group.BadVarint (Refusal.Varint (l .i)) (sym (c .before .before .before .check-group .ensures) ∙ c .before .enum-told2 .given .1) refl)
+
+enum-told-3 : tie.Need-enum-told-3 Inv-loop μ-loop
+enum-told-3 c = search needs
+
+refused-requires-3 : tie.Need-refused-requires-3 Inv-loop μ-loop
+refused-requires-3 c κs = search needs
+
+returns-3 : tie.Need-returns-3 Inv-loop μ-loop
+unfolding faultOf
+returns-3 c = let a = c .before .before .before .before .before .before .before .before .before .before .args in
+    let l = c .before .before .before .before .before .before .before .loop in
+    c .refused3 .ensures ∙ sym (walk-bad (a .partners .now) (a .offs .now) (a .w) (a .n) (c .before .before .before .before .before .before .before .before .before .before .pre .4) (l .i) (l .a) (l .edges) (l .dense) (l .inv) (omega arith) (c .before .before .before .before .before .offset-at .ensures .0) Group.BadShape (Refusal.Group (l .i)) (sym (c .before .before .before .check-group .ensures) ∙ c .before .enum-told3 .given .1) refl)
+
+returns-4 : tie.Need-returns-4 Inv-loop μ-loop
+returns-4 c = let a = c .before .before .before .before .args in
+    let l = c .before .loop in
+    walk-end (a .partners .now) (a .offs .now) (a .w) (a .n) (l .i) (l .a) (l .edges) (l .dense) (l .inv) (omega arith)
+
+pub groups-of-spec : {M : Type 1} → statement M
+groups-of-spec =
+    tie.close
+    (tie.spec
+    Inv-loop
+    μ-loop
+    loop-holds
+    add-offset-at
+    offset-at-requires
+    sub-check-group
+    part-check-group-start
+    part-check-group-end
+    check-group-requires
+    enum-known-degree
+    add-edges
+    either-requires
+    add-i
+    loop-less
+    loop-again
+    enum-told
+    refused-requires
+    returns
+    enum-told-2
+    refused-requires-2
+    returns-2
+    enum-told-3
+    refused-requires-3
+    returns-3
+    returns-4)

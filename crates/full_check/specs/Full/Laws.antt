@@ -1,0 +1,252 @@
+-- The full check by its ways out, as the code meets them.
+use mathlib.Core.Path.{_≡_, refl, sym, ap, ap₂, _∙_}
+use Prim.Native.Nat.{ℕ, zero, suc, _+_, _-_, _*_, _≤_, _<_}
+use native.Mathlib.Nat.{sub-zero, add-zero, zero-add}
+use native.Mathlib.Numerals.{add-one}
+use native.Mathlib.Omega.{arith}
+use mathlib.Core.List.{List, [], _∷_}
+use mathlib.Core.Bool.{Bool, true, false, not, _&&_, _||_, Bool·beq}
+use lib.ListN.{length}
+use lib.Dec.{eqb, leb}
+use borrow.Author.Tests.{eq-eqb, ne-eqb, leb-true}
+use Rattle.base.specs.Pick.{pick}
+use Rattle.xxh3_spec.specs.Xxh3.{xxh3}
+use Rattle.refusal.specs.Check.Laws.{pick-fine, and-parts}
+use Rattle.frame.specs.declared.Row.{Row}
+use Rattle.frame.specs.Frame.{rowAt, rowsFrom, endFrom, rowsOf, footLen, bodyOf, rangeOf, rangeGood, ranges}
+use Rattle.frame.specs.Frame.Laws.{Table, rows-on, end-on, rows-none}
+use Rattle.frame.specs.Open.Laws.{Frames, size-parts, tail-parts}
+use Rattle.base.specs.Over.{part, length-part}
+use Rattle.codes.specs.declared.ids.Id.{Id}
+use Rattle.refusal.specs.declared.Refusal.{Refusal}
+use Rattle.refusal.specs.declared.Check.{Check}
+use Rattle.refusal.specs.Check.{_⊳_, refuse}
+use Rattle.frame.specs.Open.{bytesAt, offsetAt}
+use Rattle.index.specs.Order.{Offsets}
+use Rattle.degrees.specs.Degrees.{groupAt}
+use Rattle.group.specs.declared.Group.{Group}
+use Rattle.group.specs.Group.{Partners, good, badTag, badVarint, badShape, groupOf, partnersOf, answerOf}
+use Rattle.group.specs.Good.{group-length}
+use Rattle.lookup.specs.Lookup.{groupCheck}
+use Rattle.full_check.specs.declared.groups.Groups.{Groups}
+use Rattle.full_check.specs.Full.{sumGood, sumsFrom, denseOf, groupIn, groupsFrom, degreesFrom, denseFrom, groupsTold, groupsOf}
+
+-- ---- the sums: k entries are passed, the next is at i of the footer body b
+
+-- each section ends within so many bytes
+unfoldable pub Within : ℕ → List Row → Type 0
+Within size [] = Unit {0}
+Within size (r ∷ rs) = (r .start + r .len ≤ size) × Within size rs
+
+pub ranges-within : (size limit : ℕ) (rs : List Row) (floor k : ℕ) → limit ≤ size → ranges limit rs floor k ≡ Check.Fine → Within size rs
+unfolding ranges Within
+ranges-within size limit [] floor k h e = tt
+ranges-within size limit (r ∷ rs) floor k h e =
+    let p = pick-fine (rangeGood limit floor r) (ranges limit rs (r .start + r .len) (k + 1)) (Refusal.Range k) e in
+    let w = and-parts (leb floor (r .start)) (leb (r .start + r .len) limit) (p .0) in
+    let end = leb-true (r .start + r .len) limit (w .1) in
+    (omega arith, ranges-within size limit rs (r .start + r .len) (k + 1) h (p .1))
+
+module _ (f b : List ℕ) (count : ℕ) where
+  pub record Summed (i k : ℕ) : Type 0 where
+    pub most : k ≤ count
+    pub end : endFrom (count - k) b i ≡ endFrom count b 2
+    pub within : Within (length f) (rowsFrom (count - k) b i)
+    pub check : sumsFrom f (rowsFrom (count - k) b i) k ≡ sumsFrom f (rowsFrom count b 2) 0
+
+  pub summed-start : Within (length f) (rowsFrom count b 2) → Summed 2 0
+  summed-start w = record { most = omega arith; end = rw sub-zero refl; within = rw sub-zero w; check = rw sub-zero refl }
+
+  module _ (i k : ℕ) (h : Summed i k) (lt : k < count) (r : Row) (e : r ≡ rowAt b i) where
+    rows : rowsFrom (count - k) b i ≡ r ∷ rowsFrom (count - (k + 1)) b (i + 28 + r .namelen)
+    rows = rows-on b count i k lt r e
+
+    pub summed-within : r .start + r .len ≤ length f
+    unfolding Within
+    summed-within = (rw rows at (h .within)) .0
+
+    others : Within (length f) (rowsFrom (count - (k + 1)) b (i + 28 + r .namelen))
+    unfolding Within
+    others = (rw rows at (h .within)) .1
+
+    sums-here : sumsFrom f (rowsFrom count b 2) 0 ≡ pick (sumGood f r) (sumsFrom f (rowsFrom (count - (k + 1)) b (i + 28 + r .namelen)) (k + 1)) (Check.Bad (Refusal.Sum k))
+    unfolding sumsFrom
+    sums-here = sym (h .check) ∙ ap (λ (t : List Row). sumsFrom f t k) rows
+
+    module _ {s : ℕ} (g : s ≡ xxh3 (bytesAt f (rangeOf r))) where
+      pub summed-bad : (s ≡ r .sum → ⊥) → Check.Bad (Refusal.Sum k) ≡ sumsFrom f (rowsFrom count b 2) 0
+      summed-bad n = sym (sums-here ∙ rw (ne-eqb (xxh3 (bytesAt f (rangeOf r))) (r .sum) (λ q. n (g ∙ q))))
+
+      pub summed-on : s ≡ r .sum → Summed (i + 28 + r .namelen) (k + 1)
+      summed-on n = record {
+        most = omega arith;
+        end = sym (end-on b count i k lt r e) ∙ h .end;
+        within = others;
+        check = sym (sums-here ∙ rw (eq-eqb (xxh3 (bytesAt f (rangeOf r))) (r .sum) (sym g ∙ n)));
+      }
+
+  pub summed-end : (i k : ℕ) → Summed i k → count ≤ k → Check.Fine ≡ sumsFrom f (rowsFrom count b 2) 0
+  unfolding sumsFrom
+  summed-end i k h le = ap (λ (t : List Row). sumsFrom f t k) (sym (rows-none b count i k le)) ∙ h .check
+
+-- what is asked of the table of a file whose frame is good
+pub record Footed (f : List ℕ) (foot : ℕ) : Type 0 where
+  pub size : 84 ≤ length f
+  pub some : 39 ≤ foot
+  pub most : foot ≤ length f - 64
+  pub body : part f (length f - foot) (length f - 20) ≡ bodyOf f
+  pub few : length (bodyOf f) ≤ 1073741824
+  pub table : Table (bodyOf f)
+  pub within : Within (length f) (rowsOf (bodyOf f))
+
+pub footed : (f : List ℕ) (foot : ℕ) → foot ≡ footLen f → Frames f → Footed f foot
+unfolding bodyOf
+footed f foot e s =
+    let size = size-parts (length f) (s .size) in
+    let tail = tail-parts (length f) f (s .tail) in
+    let long = length-part f (length f - footLen f) (length f - 20) (omega arith) in
+    record {
+      size = size .0;
+      some = omega arith;
+      most = omega arith;
+      body = ap (λ (t : ℕ). part f (length f - t) (length f - 20)) e;
+      few = omega arith;
+      table = s .table;
+      within = ranges-within (length f) (length f - footLen f) (rowsOf (bodyOf f)) 64 0 (omega arith) (s .apart);
+    }
+
+-- ---- a group by its answer
+
+-- the fault that an answer tells of group i
+unfoldable pub faultOf : ℕ → Group → Check
+faultOf i (Group.Good d dense) = Check.Fine
+faultOf i Group.BadTag = Check.Bad (Refusal.Tag i)
+faultOf i Group.BadVarint = Check.Bad (Refusal.Varint i)
+faultOf i Group.BadShape = Check.Bad (Refusal.Group i)
+
+fault-is : (i : ℕ) (g : Partners) → groupCheck i g ≡ faultOf i (answerOf g)
+unfolding groupCheck faultOf answerOf
+fault-is i (good dense ps) = refl
+fault-is i badTag = refl
+fault-is i badVarint = refl
+fault-is i badShape = refl
+
+-- a good answer is that of partners
+pub record Answered (g : Partners) (d : ℕ) (dense : Bool) : Type 0 where
+  pub partners : List Id
+  pub is : g ≡ good dense partners
+  pub count : length partners ≡ d
+  pub degree : length (partnersOf g) ≡ d
+  pub kind : denseOf g ≡ dense
+
+pub answered : (g : Partners) (d : ℕ) (dense : Bool) → answerOf g ≡ Group.Good d dense → Answered g d dense
+unfolding answerOf partnersOf denseOf
+answered (good b ps) d dense e =
+    let same : b ≡ dense = cc in
+    record { partners = ps; is = ap (λ (t : Bool). good t ps) same; count = cc; degree = cc; kind = same }
+answered badTag d dense e = let z : _≡_ {A = ℕ} 0 1 = cc in absurd (omega arith)
+answered badVarint d dense e = let z : _≡_ {A = ℕ} 0 1 = cc in absurd (omega arith)
+answered badShape d dense e = let z : _≡_ {A = ℕ} 0 1 = cc in absurd (omega arith)
+
+-- ---- the pass over n groups: i of them are passed, the next begins at a
+
+module _ (p o : List ℕ) (w n : ℕ) where
+  pub record Walk (i a edges : ℕ) (dense : Bool) : Type 0 where
+    pub most : i ≤ n
+    pub place : a ≡ offsetAt o w i
+    pub few : edges ≤ a
+    pub check : groupsFrom p o w (n - i) i ≡ groupsFrom p o w n 0
+    pub sum : edges + degreesFrom p o w (n - i) i ≡ degreesFrom p o w n 0
+    pub thick : (dense || denseFrom p o w (n - i) i) ≡ denseFrom p o w n 0
+
+  pub walk-start : Offsets o w n (length p) → Walk 0 0 0 false
+  walk-start z = record {
+    most = omega arith;
+    place = sym (z .first);
+    few = omega arith;
+    check = ap (λ (t : ℕ). groupsFrom p o w t 0) (sub-zero n);
+    sum = zero-add _ ∙ ap (λ (t : ℕ). degreesFrom p o w t 0) (sub-zero n);
+    thick = ap (λ (t : ℕ). denseFrom p o w t 0) (sub-zero n);
+  }
+
+  module _ (z : Offsets o w n (length p)) (i a edges : ℕ) (dense : Bool) (h : Walk i a edges dense) (lt : i < n) where
+    left : n - i ≡ suc (n - (i + 1))
+    left = omega arith
+
+    -- there is room for a group
+    pub walk-rises : {e : ℕ} → e ≡ offsetAt o w (i + 1) → (a ≤ e) × (e ≤ length p)
+    walk-rises q = let place = h .place in let up = z .above i lt in let end = z .within (i + 1) (omega arith) in (omega arith, omega arith)
+
+    module _ {e : ℕ} (q : e ≡ offsetAt o w (i + 1)) where
+      here : groupIn p o w i ≡ groupOf (part p a e)
+      here = ap₂ (λ (x y : ℕ). groupOf (part p x y)) (sym (h .place)) (sym q)
+
+      check-here : groupsFrom p o w n 0 ≡ groupCheck i (groupOf (part p a e)) ⊳ groupsFrom p o w (n - (i + 1)) (i + 1)
+      unfolding groupsFrom
+      check-here =
+          sym (h .check) ∙ ap (λ (t : ℕ). groupsFrom p o w t i) left
+          ∙ ap (λ (t : Partners). groupCheck i t ⊳ groupsFrom p o w (n - (i + 1)) (i + 1)) here
+
+      sum-here : degreesFrom p o w n 0 ≡ edges + (length (partnersOf (groupOf (part p a e))) + degreesFrom p o w (n - (i + 1)) (i + 1))
+      unfolding degreesFrom
+      sum-here =
+          sym (h .sum) ∙ ap (λ (t : ℕ). edges + degreesFrom p o w t i) left
+          ∙ ap (λ (t : Partners). edges + (length (partnersOf t) + degreesFrom p o w (n - (i + 1)) (i + 1))) here
+
+      thick-here : denseFrom p o w n 0 ≡ (dense || (denseOf (groupOf (part p a e)) || denseFrom p o w (n - (i + 1)) (i + 1)))
+      unfolding denseFrom
+      thick-here =
+          sym (h .thick) ∙ ap (λ (t : ℕ). dense || denseFrom p o w t i) left
+          ∙ ap (λ (t : Partners). dense || (denseOf t || denseFrom p o w (n - (i + 1)) (i + 1))) here
+
+      pub walk-bad : (x : Group) (r : Refusal) → answerOf (groupOf (part p a e)) ≡ x → faultOf i x ≡ Check.Bad r → groupsOf p o w n ≡ Groups.Refused r
+      unfolding groupsOf groupsTold
+      walk-bad x r g b = rw (check-here, fault-is i (groupOf (part p a e)), g, b)
+
+      module _ (d : ℕ) (b : Bool) (g : answerOf (groupOf (part p a e)) ≡ Group.Good d b) where
+        -- each partner has nine bytes or more
+        pub walk-few : edges + d ≤ e
+        walk-few =
+            let s = answered (groupOf (part p a e)) d b g in
+            let long = group-length (part p a e) b (s .partners) (s .is) in
+            let count = s .count in
+            let room = walk-rises q in
+            let size = length-part p a e (room .1) in
+            let few = h .few in
+            omega arith
+
+        pub walk-on : {c : Bool} → c ≡ (dense || b) → Walk (i + 1) e (edges + d) c
+        unfolding faultOf
+        walk-on k =
+            let s = answered (groupOf (part p a e)) d b g in
+            let sums = sum-here in
+            let degree = s .degree in
+            record {
+              most = omega arith;
+              place = q;
+              few = walk-few;
+              check = sym (check-here ∙ ap (λ (t : Check). t ⊳ groupsFrom p o w (n - (i + 1)) (i + 1)) (fault-is i (groupOf (part p a e)) ∙ ap (faultOf i) g));
+              sum = omega arith;
+              thick = sym
+                  (thick-here
+                  ∙ ap (λ (t : Bool). dense || (t || denseFrom p o w (n - (i + 1)) (i + 1))) (s .kind)
+                  ∙ either-assoc dense b (denseFrom p o w (n - (i + 1)) (i + 1))
+                  ∙ ap (λ (t : Bool). t || denseFrom p o w (n - (i + 1)) (i + 1)) (sym k));
+            }
+          where
+            either-assoc : (x y v : Bool) → (x || (y || v)) ≡ ((x || y) || v)
+            either-assoc true y v = refl
+            either-assoc false y v = refl
+
+  pub walk-end : (i a edges : ℕ) (dense : Bool) → Walk i a edges dense → n ≤ i → Groups.Good edges dense ≡ groupsOf p o w n
+  unfolding groupsOf groupsTold groupsFrom degreesFrom denseFrom
+  walk-end i a edges dense h le =
+      let none : n - i ≡ 0 = omega arith in
+      let c : groupsFrom p o w n 0 ≡ Check.Fine = sym (h .check) ∙ ap (λ (t : ℕ). groupsFrom p o w t i) none in
+      let s : degreesFrom p o w n 0 ≡ edges = sym (h .sum) ∙ ap (λ (t : ℕ). edges + degreesFrom p o w t i) none ∙ add-zero edges in
+      let t : denseFrom p o w n 0 ≡ dense = sym (h .thick) ∙ ap (λ (u : ℕ). dense || denseFrom p o w u i) none ∙ or-false dense in
+      rw (c, s, t)
+    where
+      or-false : (b : Bool) → (b || false) ≡ b
+      or-false true = refl
+      or-false false = refl

@@ -1,0 +1,3 @@
+pub mod Full
+pub mod Marks
+pub mod Checked

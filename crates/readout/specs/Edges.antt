@@ -1,0 +1,42 @@
+-- The edges of a file, "in file order".
+use Prim.Native.Nat.{ℕ, zero, suc, _+_, _*_, _/_}
+use mathlib.Core.List.{List, [], _∷_, _++_}
+use lib.ListN.{length}
+use lib.Dec.{eqb}
+use Rattle.codes.specs.declared.ids.Id.{Id}
+use Rattle.codes.specs.Little.{leAt}
+use Rattle.codes.specs.Ids.{halvesAt}
+use Rattle.frame.specs.Kind as kind
+use Rattle.frame.specs.Open.{Known}
+use Rattle.group.specs.Group.{partnersOf}
+use Rattle.lookup.specs.Lookup.{markAt}
+use Rattle.batch.specs.declared.Edge.{Edge}
+use Rattle.full_check.specs.Full.{groupIn}
+pub mod Laws
+
+-- edge e of a file, of a key and a partner
+abbrev pub edgeOf : List ℕ → List ℕ → Id → Id → ℕ → Edge
+edgeOf logs dead key partner e = record { key = key; partner = partner; log = leAt logs (kind.logSize * e) 8; dead = eqb (markAt dead e) 1 }
+
+-- the edges of a key and its partners, of which the first is edge e of the file
+unfoldable pub edgesFrom : List ℕ → List ℕ → Id → ℕ → List Id → List Edge
+edgesFrom logs dead key e [] = []
+edgesFrom logs dead key e (p ∷ ps) = edgeOf logs dead key p e ∷ edgesFrom logs dead key (e + 1) ps
+
+-- p the partners, o the offsets of w bytes each
+module _ (keys p o : List ℕ) (w : ℕ) (logs dead : List ℕ) where
+  abbrev pub degreeIn : ℕ → ℕ
+  degreeIn i = length (partnersOf (groupIn p o w i))
+
+  -- the edges of key i
+  abbrev pub keyEdges : ℕ → ℕ → List Edge
+  keyEdges i e = edgesFrom logs dead (halvesAt keys (i * kind.keySize)) e (partnersOf (groupIn p o w i))
+
+  -- those of d keys from key i on
+  unfoldable pub readFrom : ℕ → ℕ → ℕ → List Edge
+  readFrom zero i e = []
+  readFrom (suc d) i e = keyEdges i e ++ readFrom d (i + 1) (e + degreeIn i)
+
+-- all of them
+unfoldable pub edgesIn : Known → List Edge
+edgesIn k = readFrom (k .keys) (k .partners) (k .offsets) (k .bits / 8) (k .logs) (k .dead) (k .keycount) 0 0

@@ -1,0 +1,124 @@
+//! Two faults in one file: opening comes first, then the sums, then the groups,
+//! then the totals.
+
+use super::samples::of_bytes;
+use super::Files;
+use crate::corpus::lookup_calls::raw::{group, halves, single, DENSE, SPLIT};
+use crate::corpus::open_files::samples::{set_key, set_offset};
+use crate::format::{flag, kind};
+use crate::layout::{Layout, Section};
+use crate::numbers::id_of;
+
+pub fn add(files: &mut Files) {
+    for (word, bytes, number) in [
+        ("16", group(1, &[&[0x03], &halves(5, 1)]), 16),
+        ("17", group(1, &[SPLIT, &[0x80; 12]]), 17),
+        ("18", group(1, &[DENSE, &[7; 15]]), 18),
+    ] {
+        let faulty = |index: usize| {
+            let mut groups = vec![single(1, 1), single(2, 2), single(3, 3)];
+            groups[index] = bytes.clone();
+            of_bytes(&groups, 3)
+        };
+        sum_before_group(files, word, &faulty);
+        group_before_totals(files, word, number, &faulty);
+        opening_before_group(files, word, &faulty);
+    }
+    sum_before_totals(files);
+    opening_before_sum(files);
+}
+
+fn three() -> Layout {
+    of_bytes(&[single(1, 1), single(2, 2), single(3, 3)], 3)
+}
+
+fn wrong_sum(layout: Layout, index: usize) -> Layout {
+    layout.with(|l| l.sections[index].stated.checksum = Some(5))
+}
+
+/// Even the sum of the last entry, which is skipped, comes before the first
+/// group.
+fn sum_before_group(files: &mut Files, word: &str, faulty: &impl Fn(usize) -> Layout) {
+    for index in [0, 2] {
+        for entry in [0, 2, 4] {
+            let layout = faulty(index).with(|l| l.sections.push(Section::new(99, *b"skipped")));
+            let layout = wrong_sum(layout, entry);
+            let name = format!("check-sum-{entry}-before-{word}-at-{index}");
+            files.refused(name, layout, 22, entry as u64);
+        }
+    }
+}
+
+fn group_before_totals(
+    files: &mut Files,
+    word: &str,
+    number: u8,
+    faulty: &impl Fn(usize) -> Layout,
+) {
+    let tombstones = |byte: u8| Section::new(kind::TOMBSTONES, [byte]);
+    for index in [0, 2] {
+        let mut add = |what: &str, change: &dyn Fn(&mut Layout)| {
+            let name = format!("check-{word}-at-{index}-before-{what}");
+            files.refused(name, faulty(index).with(change), number, index as u64);
+        };
+        add("edge-count", &|l| {
+            l.edge_count = 4;
+            l.section(kind::LOGS).bytes.extend([9; 8]);
+        });
+        add("bit-1", &|l| l.sections.push(tombstones(0b010)));
+        add("unused-bit", &|l| l.sections.push(tombstones(0x80)));
+        add("bit-2", &|l| l.header.flags ^= flag::DENSE);
+    }
+}
+
+fn opening_before_group(files: &mut Files, word: &str, faulty: &impl Fn(usize) -> Layout) {
+    let keys = faulty(0).with(|l| set_key(l, 2, id_of(0, 1)));
+    files.refused(format!("check-13-before-{word}"), keys, 13, 2);
+    let offsets = faulty(0).with(|l| set_offset(l, 3, 1));
+    files.refused(format!("check-14-before-{word}"), offsets, 14, 3);
+    let fences = faulty(0).with(|l| l.sections.push(Section::new(kind::FENCES, [0; 8])));
+    files.refused(format!("check-15-before-{word}"), fences, 15, 0);
+}
+
+fn sum_before_totals(files: &mut Files) {
+    let mut add = |what: &str, change: &dyn Fn(&mut Layout)| {
+        files.refused(format!("check-{what}"), three().with(change), 23, 0);
+        for entry in [1, 3] {
+            let layout = wrong_sum(three().with(change), entry);
+            let name = format!("check-sum-{entry}-before-{what}");
+            files.refused(name, layout, 22, entry as u64);
+        }
+    };
+    add("four-edges-of-three", &|l| {
+        l.edge_count = 4;
+        l.section(kind::LOGS).bytes.extend([9; 8]);
+    });
+    add("dead-edge-no-bit-1", &|l| {
+        l.sections.push(Section::new(kind::TOMBSTONES, [0b001]));
+    });
+    add("bit-2-no-dense-group", &|l| l.header.flags |= flag::DENSE);
+    add("unused-bit-3", &|l| {
+        l.sections.push(Section::new(kind::TOMBSTONES, [0b1000]));
+    });
+}
+
+fn opening_before_sum(files: &mut Files) {
+    let mut add = |number: u8, place: u64, change: &dyn Fn(&mut Layout)| {
+        let layout = wrong_sum(three().with(change), 0);
+        files.refused(format!("check-{number}-before-sum"), layout, number, place);
+    };
+    add(2, 0, &|l| l.header.magic[0] = b'X');
+    add(3, 0, &|l| l.header.major = 2);
+    add(4, 0, &|l| l.header.size = 65);
+    add(5, 0, &|l| l.header.flags |= 1 << 4);
+    add(6, 0, &|l| l.tail_magic[7] = 1);
+    add(7, 0, &|l| l.footer_length = Some(38));
+    add(8, 0, &|l| l.footer_checksum = Some(0));
+    add(9, 0, &|l| l.sections[3].kind = 99);
+    add(10, 2, &|l| l.sections[2].codec = 1);
+    add(11, 0, &|l| l.sections[0].stated.offset = Some(63));
+    add(12, 0, &|l| l.header.flags |= flag::PROPERTIES);
+    add(13, 1, &|l| set_key(l, 1, id_of(0, 0)));
+    add(14, 0, &|l| set_offset(l, 0, 1));
+    add(15, 0, &|l| l.sections.push(Section::new(kind::FENCES, [])));
+}
