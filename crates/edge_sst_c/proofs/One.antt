@@ -3,6 +3,18 @@ use mathlib.Core.Path.{_≡_, refl, sym, ap, _∙_}
 use mathlib.Core.List.{List}
 use Prim.Native.Nat.{ℕ}
 use Rattle.base.proofs.Determined.{Determined}
+use Rattle.edge_sst_c.proofs.look.edge_sst_partners as c-partners
+use Rattle.edge_sst_c.proofs.look.edge_sst_partners.Reads as c-partners-reads
+use Rattle.edge_sst_c.proofs.look.edge_sst_lookup as c-lookup
+use Rattle.edge_sst_c.proofs.look.edge_sst_lookup.Reads as c-lookup-reads
+use Rattle.edge_sst_c.proofs.look.edge_sst_lookup_with as c-lookup-with
+use Rattle.edge_sst_c.proofs.look.edge_sst_lookup_with.Reads as c-lookup-with-reads
+use Rattle.edge_sst_c.proofs.write.edge_sst_needed as c-needed
+use Rattle.edge_sst_c.proofs.write.edge_sst_needed.Reads as c-needed-reads
+use Rattle.edge_sst_c.proofs.write.edge_sst_write as c-write
+use Rattle.edge_sst_c.proofs.write.edge_sst_write.Reads as c-write-reads
+use Rattle.edge_sst_c.proofs.write.edge_sst_sum as c-sum
+use Rattle.edge_sst_c.proofs.write.edge_sst_sum.Reads as c-sum-reads
 use Rattle.edge_sst_c.proofs.desk.edge_sst_check as check
 use Rattle.edge_sst_c.proofs.desk.edge_sst_check.Reads as check-reads
 use Rattle.edge_sst_c.proofs.desk.edge_sst_read_out as read-out
@@ -24,3 +36,21 @@ edge-sst-check-determined κs a pre r₁ r₂ w₁ w₂ p q = (p ∙ sym q, refl
 
 pub edge-sst-read-out-determined : Determined read-out.ended read-out-reads.Pre read-out-reads.Post
 edge-sst-read-out-determined κs a pre r₁ r₂ w₁ w₂ p q = (p .0 ∙ sym (q .0), ap (λ (l : List ℕ). (tt {0}, (l, tt {0}))) (p .1 ∙ sym (q .1)))
+
+pub edge-sst-partners-determined : Determined c-partners.ended c-partners-reads.Pre c-partners-reads.Post
+edge-sst-partners-determined κs a pre r₁ r₂ w₁ w₂ p q = (p .answer ∙ sym (q .answer), ap (λ (l : List ℕ). (tt {0}, (tt {0}, (l, tt {0})))) (p .partners ∙ sym (q .partners)))
+
+pub edge-sst-lookup-determined : Determined c-lookup.ended c-lookup-reads.Pre c-lookup-reads.Post
+edge-sst-lookup-determined κs a pre r₁ r₂ w₁ w₂ p q = (p .answer ∙ sym (q .answer), (λ i. (tt {0}, (tt {0}, ((p .partners ∙ sym (q .partners)) i, ((p .numbers ∙ sym (q .numbers)) i, ((p .dead ∙ sym (q .dead)) i, tt {0})))))))
+
+pub edge-sst-lookup-with-determined : Determined c-lookup-with.ended c-lookup-with-reads.Pre c-lookup-with-reads.Post
+edge-sst-lookup-with-determined κs a pre r₁ r₂ w₁ w₂ p q = (p .answer ∙ sym (q .answer), (λ i. (tt {0}, (tt {0}, (tt {0}, ((p .partners ∙ sym (q .partners)) i, ((p .numbers ∙ sym (q .numbers)) i, ((p .dead ∙ sym (q .dead)) i, tt {0}))))))))
+
+pub edge-sst-needed-determined : Determined c-needed.ended c-needed-reads.Pre c-needed-reads.Post
+edge-sst-needed-determined κs a pre r₁ r₂ w₁ w₂ p q = (p ∙ sym q, refl)
+
+pub edge-sst-write-determined : Determined c-write.ended c-write-reads.Pre c-write-reads.Post
+edge-sst-write-determined κs a pre r₁ r₂ w₁ w₂ p q = (p .answer ∙ sym (q .answer), ap (λ (l : List ℕ). (tt {0}, (l, tt {0}))) (p .output ∙ sym (q .output)))
+
+pub edge-sst-sum-determined : Determined c-sum.ended c-sum-reads.Pre c-sum-reads.Post
+edge-sst-sum-determined κs a pre r₁ r₂ w₁ w₂ p q = (p ∙ sym q, refl)

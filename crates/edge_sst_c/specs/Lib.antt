@@ -1,3 +1,4 @@
 pub mod Told
 pub mod Look
 pub mod Desk
+pub mod Write

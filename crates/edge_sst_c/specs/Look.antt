@@ -11,8 +11,8 @@ use Rattle.refusal.specs.declared.Refusal.{Refusal}
 use Rattle.refusal.specs.Refusal.{numberOf, placeOf}
 use Rattle.frame.specs.declared.Opened.{Opened}
 use Rattle.lookup.specs.declared.Looked.{Looked}
-use Rattle.lookup.specs.Lookup.{Outcome, answerOf, partnersLeft}
-use Rattle.lookup.specs.Calls.{Alone}
+use Rattle.lookup.specs.Lookup.{Outcome, answerOf, partnersLeft, logsLeft, marksLeft}
+use Rattle.lookup.specs.Calls.{Alone, Whole}
 use Rattle.edge_sst_c.specs.declared.look.EdgeSstLooked.{EdgeSstLooked}
 
 abbrev pub refusedTold : ℕ → ℕ → EdgeSstLooked
@@ -49,6 +49,13 @@ pub record PartnersTold (x : Outcome) (r : EdgeSstLooked) (o out : List ℕ) : T
   pub answer : r ≡ lookedTold (answerOf x)
   pub partners : out ≡ partnersLeft x o
 
+-- what a call with log numbers and dead marks tells and leaves
+pub record EdgesTold (x : Outcome) (r : EdgeSstLooked) (o out l logs m marks : List ℕ) : Type 0 where
+  pub answer : r ≡ lookedTold (answerOf x)
+  pub partners : out ≡ partnersLeft x o
+  pub numbers : logs ≡ logsLeft x l
+  pub dead : marks ≡ marksLeft x m
+
 -- ---- laws
 
 pub looked-found : (l : Looked) (d i c : ℕ) → l ≡ Looked.Found d i c → lookedTold l ≡ record { number = 0; place = 0; found = 1; degree = d; index = i; compared = c }
@@ -75,3 +82,14 @@ byte-large x h = simp (le-ltb x 256 h)
 pub told-as : (f : Opened → Outcome) {o p : Opened} {l : Looked} {r : EdgeSstLooked} {a b : List ℕ} → o ≡ p → Alone (f o) l a b → r ≡ lookedTold l
     → PartnersTold (f p) r a b
 told-as f e w t = rw (← e) (record { answer = t ∙ ap lookedTold (w .answer); partners = w .partners })
+
+pub told : {x : Outcome} {l : Looked} {r : EdgeSstLooked} {a b : List ℕ} → Alone x l a b → r ≡ lookedTold l → PartnersTold x r a b
+told w t = record { answer = t ∙ ap lookedTold (w .answer); partners = w .partners }
+
+pub edges-told : {x : Outcome} {k : Looked} {r : EdgeSstLooked} {o out l logs m marks : List ℕ} → Whole x k o out l logs m marks → r ≡ lookedTold k
+    → EdgesTold x r o out l logs m marks
+edges-told w t = record { answer = t ∙ ap lookedTold (w .answer); partners = w .partners; numbers = w .numbers; dead = w .dead }
+
+pub edges-told-as : (f : Opened → Outcome) {p q : Opened} {k : Looked} {r : EdgeSstLooked} {o out l logs m marks : List ℕ} → p ≡ q
+    → Whole (f p) k o out l logs m marks → r ≡ lookedTold k → EdgesTold (f q) r o out l logs m marks
+edges-told-as f e w t = rw (← e) (edges-told w t)

@@ -1,17 +1,20 @@
-// Lookups for C, by an opened record that the caller lends.
+// Lookups for C: of a file, or by an opened record that the caller lends.
 ghost use mathlib.Core.Path.{_≡_};
-ghost use mathlib.Core.Bool.{false};
+ghost use mathlib.Core.Bool.{true, false};
 ghost use lib.ListN.{length};
 ghost use lib.Dec.{ltb};
 ghost use Rattle.base.specs.Pick.{pick};
 ghost use Rattle.codes.specs.Ids.{idAt};
-ghost use Rattle.lookup.specs.Lookup.{lookWith};
-ghost use Rattle.lookup.specs.Calls.{alone};
-ghost use Rattle.edge_sst_c.specs.Look.{lookedTold, refusedTold, byteOr, recordFrom, PartnersTold};
+ghost use Rattle.lookup.specs.Lookup.{lookOf, lookWith};
+ghost use Rattle.lookup.specs.Calls.{alone, lent};
+ghost use Rattle.edge_sst_c.specs.Look.{lookedTold, refusedTold, byteOr, recordFrom, PartnersTold, EdgesTold};
 ghost use Rattle.refusal.specs.Refusal.{numberOf, placeOf};
 use frame::Opened;
 use frame::Range;
 use lookup::Looked;
+use reader::look::lookup;
+use reader::look::lookup_with;
+use reader::look::partners;
 use reader::look::partners_with;
 use refusal::Refusal;
 use refusal::told_of;
@@ -123,4 +126,41 @@ pub extern "C" fn edge_sst_partners_with(
     ensures { λ r. ⌜ PartnersTold (lookWith false (alone (length (now (out .entry)))) (idAt (now (key .entry)) 0) (now (file .entry)) (recordFrom (now (o .entry)))) r (now (out .entry)) (now (out .exit)) ⌝ }
 {
     looked_told(partners_with(file, record_from(o), key, out))
+}
+
+// The same of a file.
+#[no_mangle]
+pub extern "C" fn edge_sst_partners(file: &[u8], key: &[u8; 16], out: &mut [u8]) -> EdgeSstLooked
+    ensures { λ r. ⌜ PartnersTold (lookOf false (alone (length (now (out .entry)))) (idAt (now (key .entry)) 0) (now (file .entry))) r (now (out .entry)) (now (out .exit)) ⌝ }
+{
+    looked_told(partners(file, key, out))
+}
+
+// The partners of a key with their log numbers and dead marks, by an opened record.
+#[no_mangle]
+pub extern "C" fn edge_sst_lookup_with(
+    file: &[u8],
+    o: &[u64; 16],
+    key: &[u8; 16],
+    out: &mut [u8],
+    logs: &mut [u64],
+    marks: &mut [u8],
+) -> EdgeSstLooked
+    ensures { λ r. ⌜ EdgesTold (lookWith true (lent (length (now (out .entry))) (length (now (logs .entry))) (length (now (marks .entry)))) (idAt (now (key .entry)) 0) (now (file .entry)) (recordFrom (now (o .entry)))) r (now (out .entry)) (now (out .exit)) (now (logs .entry)) (now (logs .exit)) (now (marks .entry)) (now (marks .exit)) ⌝ }
+{
+    looked_told(lookup_with(file, record_from(o), key, out, logs, marks))
+}
+
+// The same of a file.
+#[no_mangle]
+pub extern "C" fn edge_sst_lookup(
+    file: &[u8],
+    key: &[u8; 16],
+    out: &mut [u8],
+    logs: &mut [u64],
+    marks: &mut [u8],
+) -> EdgeSstLooked
+    ensures { λ r. ⌜ EdgesTold (lookOf true (lent (length (now (out .entry))) (length (now (logs .entry))) (length (now (marks .entry)))) (idAt (now (key .entry)) 0) (now (file .entry))) r (now (out .entry)) (now (out .exit)) (now (logs .entry)) (now (logs .exit)) (now (marks .entry)) (now (marks .exit)) ⌝ }
+{
+    looked_told(lookup(file, key, out, logs, marks))
 }

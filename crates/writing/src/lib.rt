@@ -173,7 +173,15 @@ fn all(name: &[u8], batch: &[u8], whole: bool, out: &mut [u8], less: &mut [u8]) 
     }
 }
 
-fn front(name: &[u8], n: usize, space: &[u8], size: usize, whole: bool, out: &mut [u8], less: &mut [u8]) {
+fn front(
+    name: &[u8],
+    n: usize,
+    space: &[u8],
+    size: usize,
+    whole: bool,
+    out: &mut [u8],
+    less: &mut [u8],
+) {
     if n <= name.len() {
         if size <= space.len() {
             all(&name[0..n], &space[0..size], whole, out, less);
