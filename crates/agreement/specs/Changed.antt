@@ -1,5 +1,6 @@
 -- What the checksums say of a file in which bytes of one section are changed: it is refused, unless the changed section has
--- the same XXH3-64. Nothing is said of the header's ids and of the gaps between sections, which carry no checksum.
+-- the same XXH3-64. Nothing is said of the header (ids, minor version, flag bit 3) and of
+-- the gaps between sections, which carry no checksum.
 use mathlib.Core.Path.{_≡_, refl, sym, ap, ap₂, _∙_}
 use Prim.Native.Nat.{ℕ, suc, _+_, _-_, _*_, _≤_, _<_}
 use native.Mathlib.Nat.{add-zero}

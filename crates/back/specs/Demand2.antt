@@ -39,6 +39,12 @@ pub record Limits (s : List ℕ) : Type 0 where
   pub edges : length (edgesOf s) ≤ 2 ^ 26
   pub bytes : length (fileFor s) ≤ 2 ^ 30
 
+-- a batch that demand 2 speaks of: bytes, without fault, within the limits
+pub record Lawful (s : List ℕ) : Type 0 where
+  pub bytes : (j : ℕ) → getD s j 0 < 2 ^ 8
+  pub fine : batchCheck s ≡ Check.Fine
+  pub limits : Limits s
+
 pub record Demand2 (s : List ℕ) : Type 0 where
   pub passes-check : fullCheck (fileFor s) ≡ Check.Fine
   -- the read-out is that same batch, byte for byte
@@ -60,19 +66,19 @@ way s e =
     let a = and-parts (leb 50 (length s)) (eqb (getD s 0 0) 3 && leb (getD s 1 0) 1) h .1 in
     leb-true (getD s 1 0) 1 (and-parts (eqb (getD s 0 0) 3) (leb (getD s 1 0) 1) a .1)
 
-module _ (s : List ℕ) (bytes : (j : ℕ) → getD s j 0 < 2 ^ 8) (fine : batchCheck s ≡ Check.Fine) (limits : Limits s) where
+module _ (s : List ℕ) (lawful : Lawful s) where
   abbrev f : List ℕ
   f = fileFor s
 
   written : Written (headingOf s) (edgesOf s)
   unfolding headingOf
   written = record {
-    way = way s fine;
-    ids = length-part s 2 50 (fine-long s fine);
-    order = grouped (edgesOf s) (batch-ordered s bytes fine);
-    keys = limits .keys;
-    edges = limits .edges;
-    size = limits .bytes;
+    way = way s (lawful .fine);
+    ids = length-part s 2 50 (fine-long s (lawful .fine));
+    order = grouped (edgesOf s) (batch-ordered s (lawful .bytes) (lawful .fine));
+    keys = lawful .limits .keys;
+    edges = lawful .limits .edges;
+    size = lawful .limits .bytes;
   }
 
   full : fullCheck f ≡ Check.Fine
@@ -85,7 +91,7 @@ module _ (s : List ℕ) (bytes : (j : ℕ) → getD s j 0 < 2 ^ 8) (fine : batch
   pub demand-2 : Demand2 s
   demand-2 = record {
     passes-check = full;
-    reads-out = batch-back (headingOf s) (edgesOf s) written ∙ batch-same s bytes fine;
+    reads-out = batch-back (headingOf s) (edgesOf s) written ∙ batch-same s (lawful .bytes) (lawful .fine);
     looks-up = λ key rooms room. rw edges at (same-edges f full key rooms (rw edges room));
     looks-up-with = λ key rooms room. rw edges at (same-edges-with f full key rooms (rw edges room));
     finds = λ key n room. rw edges at (same-partners f full key n (rw edges room));

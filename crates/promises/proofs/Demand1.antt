@@ -17,17 +17,22 @@ use Rattle.reader.proofs.look.lookup_with as c-lookup-with
 use Rattle.reader.proofs.look.lookup_with.Reads as c-lookup-with-reads
 use Rattle.full_check.proofs.check as c-check
 use Rattle.full_check.proofs.check.Reads as c-check-reads
+use Rattle.full_check.proofs.checked as c-checked
+use Rattle.full_check.proofs.checked.Reads as c-checked-reads
 use Rattle.readout.proofs.read_out as c-read-out
 use Rattle.readout.proofs.read_out.Reads as c-read-out-reads
 use Rattle.writer.proofs.needed as c-needed
 use Rattle.writer.proofs.needed.Reads as c-needed-reads
 use Rattle.writer.proofs.write as c-write
 use Rattle.writer.proofs.write.Reads as c-write-reads
+use Rattle.refusal.proofs.told_of as c-told
+use Rattle.refusal.proofs.told_of.Reads as c-told-reads
 use Rattle.xxh3.proofs.One.{xxh3-determined}
 use Rattle.reader.proofs.One.{open-determined, section-at-determined, partners-determined, partners-with-determined, lookup-determined, lookup-with-determined}
-use Rattle.full_check.proofs.One.{check-determined}
+use Rattle.full_check.proofs.One.{check-determined, checked-determined}
 use Rattle.readout.proofs.One.{read-out-determined}
 use Rattle.writer.proofs.One.{needed-determined, write-determined}
+use Rattle.refusal.proofs.One.{told-of-determined}
 
 pub record OneResult : Type 2 where
   -- `xxh3`: the sum of any bytes
@@ -42,14 +47,17 @@ pub record OneResult : Type 2 where
   -- `lookup`, also by a record
   pub lookup : Determined c-lookup.ended c-lookup-reads.Pre c-lookup-reads.Post
   pub lookup-with : Determined c-lookup-with.ended c-lookup-with-reads.Pre c-lookup-with-reads.Post
-  -- `check`
+  -- `check`, and `checked`, which gives the record too
   pub check : Determined c-check.ended c-check-reads.Pre c-check-reads.Post
+  pub checked : Determined c-checked.ended c-checked-reads.Pre c-checked-reads.Post
   -- `read_out`
   pub read-out : Determined c-read-out.ended c-read-out-reads.Pre c-read-out-reads.Post
   -- `needed`
   pub needed : Determined c-needed.ended c-needed-reads.Pre c-needed-reads.Post
   -- `write`
   pub write : Determined c-write.ended c-write-reads.Pre c-write-reads.Post
+  -- `told_of`: a refusal's number and place
+  pub told : Determined c-told.ended c-told-reads.Pre c-told-reads.Post
 
 pub one-result : OneResult
 one-result = record {
@@ -61,7 +69,9 @@ one-result = record {
   lookup = lookup-determined;
   lookup-with = lookup-with-determined;
   check = check-determined;
+  checked = checked-determined;
   read-out = read-out-determined;
   needed = needed-determined;
   write = write-determined;
+  told = told-of-determined;
 }

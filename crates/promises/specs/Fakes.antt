@@ -29,18 +29,12 @@ use Rattle.image.specs.Image.{logsIn, marksIn, keysIn, anyDead, splitCost, dens
 use Rattle.image.specs.Image as image
 use Rattle.agreement.specs.SameEdges.{ofKey, partnersIn, Says, Enough}
 use Rattle.writer.specs.declared.Written.{Written}
-use Rattle.writer.specs.Written as writer
-use Rattle.writer.specs.Written.{Wrote, writtenOf, fileIn}
-use Rattle.back.specs.Demand2.{fileFor, Limits}
+use Rattle.writer.specs.Written.{Wrote}
+use Rattle.back.specs.Demand2.{fileFor, Lawful}
+use Rattle.promises.specs.Calls.{writes}
 use Rattle.promises.specs.Marked.{heading, edge, marked}
 
--- a batch that demand 2 speaks of
-pub record Lawful (s : List ℕ) : Type 0 where
-  pub bytes : (j : ℕ) → getD s j 0 < 2 ^ 8
-  pub fine : batchCheck s ≡ Check.Fine
-  pub limits : Limits s
-
--- ---- three such batches
+-- ---- three lawful batches
 
 byted : List ℕ → Bool
 byted [] = true
@@ -171,13 +165,30 @@ says-partners (found i c ps logs marks) e es q h = h .1 ∙ ap partnersIn q
 says-partners (absent c) e es q h = let n : _≡_ {A = ℕ} 1 0 = ap length (sym q ∙ h) in absurd (omega arith)
 says-partners (refused r) e es q h = absurd h
 
-pub first-group-again : (look : Reader) → Looks look → ((rooms : Rooms) (k l : ℕ) (f : List ℕ) → partnersGiven (look rooms k f) ≡ partnersGiven (look rooms l f)) → ⊥
+unfoldable pub isFound : Outcome → Bool
+isFound (found i c ps logs marks) = true
+isFound (absent c) = false
+isFound (refused r) = false
+
+says-found : (x : Outcome) (e : Edge) (es : List Edge) → es ≡ e ∷ [] → Says true x es → isFound x ≡ true
+unfolding Says isFound
+says-found (found i c ps logs marks) e es q h = refl
+says-found (absent c) e es q h = let n : _≡_ {A = ℕ} 1 0 = ap length (sym q ∙ h) in absurd (omega arith)
+says-found (refused r) e es q h = absurd h
+
+-- whichever key is found, it is given the same partners
+pub first-group-again : (look : Reader) → Looks look
+    → ((rooms : Rooms) (k l : ℕ) (f : List ℕ) → isFound (look rooms k f) ≡ true → isFound (look rooms l f) ≡ true → partnersGiven (look rooms k f) ≡ partnersGiven (look rooms l f)) → ⊥
 first-group-again look promise fake =
     let k : ℕ = numberOf (edge .key) in
     let l : ℕ = numberOf (second .key) in
-    let a = says-partners _ edge (ofKey k (edgesOf two)) two-first (promise two two-lawful k room (enough-one (ofKey k (edgesOf two)) edge two-first)) in
-    let b = says-partners _ second (ofKey l (edgesOf two)) two-second (promise two two-lawful l room (enough-one (ofKey l (edgesOf two)) second two-second)) in
-    let same : edge .partner ∷ [] ≡ second .partner ∷ [] = sym a ∙ fake room k l (fileFor two) ∙ b in
+    let first = promise two two-lawful k room (enough-one (ofKey k (edgesOf two)) edge two-first) in
+    let other = promise two two-lawful l room (enough-one (ofKey l (edgesOf two)) second two-second) in
+    let a = says-partners _ edge (ofKey k (edgesOf two)) two-first first in
+    let b = says-partners _ second (ofKey l (edgesOf two)) two-second other in
+    let there = says-found _ edge (ofKey k (edgesOf two)) two-first first in
+    let here = says-found _ second (ofKey l (edgesOf two)) two-second other in
+    let same : edge .partner ∷ [] ≡ second .partner ∷ [] = sym a ∙ fake room k l (fileFor two) there here ∙ b in
     let n : _≡_ {A = ℕ} 5 6 = ap upper same in
     omega arith
   where
@@ -197,22 +208,16 @@ zeros : ℕ → List ℕ
 zeros zero = []
 zeros (suc n) = 0 ∷ zeros n
 
-pub nothing-written : (w : Writer) → ((s o : List ℕ) → (w .leaves s o ≡ o) × ((n : ℕ) × (w .says s o ≡ Written.Done n))) → ⊥
-unfolding writer.leaves empty zeros headingOf edgesOf edgesAt headingOnly
+-- wherever it says done, the output is as it was
+pub nothing-written : (w : Writer) → ((s o : List ℕ) (n : ℕ) → w .says s o ≡ Written.Done n → w .leaves s o ≡ o) → ⊥
+unfolding empty zeros headingOf edgesOf edgesAt headingOnly
 nothing-written w fake =
     let o : List ℕ = zeros 218 in
-    let (left, says) = fake empty o in
-    let (n, done) = says in
+    let size : length (fileFor empty) ≡ 218 = marked .c11 .1 in
+    let long : length o ≡ 218 = refl in
+    let done = writes empty empty-lawful o (omega arith) in
     let q = w .keeps empty o in
-    let whole : over (fileIn empty) o ≡ o = sym (is-over n (writtenOf empty (length o)) (sym (q .answer) ∙ done)) ∙ sym (q .output) ∙ left in
-    let byte : _≡_ {A = ℕ} 84 0 = first-bytes whole in
+    let left = fake empty o _ (q .answer ∙ done .0) in
+    let whole : over (fileFor empty) o ≡ o = sym (done .1) ∙ sym (q .output) ∙ left in
+    let byte : _≡_ {A = ℕ} 84 0 = sym (ap (λ (t : List ℕ). getD (over t (zeros 218)) 0 0) (marked .c11 .0)) ∙ ap (λ (t : List ℕ). getD t 0 0) whole in
     omega arith
-  where
-    is-over : (n : ℕ) (x : Written) → x ≡ Written.Done n → writer.leaves x (fileIn empty) (zeros 218) ≡ over (fileIn empty) (zeros 218)
-    is-over n x e = ap (λ (t : Written). writer.leaves t (fileIn empty) (zeros 218)) e
-
-    first-bytes : over (fileIn empty) (zeros 218) ≡ zeros 218 → _≡_ {A = ℕ} 84 0
-    first-bytes e = sym (ap (λ (t : List ℕ). getD t 0 0) file-first) ∙ ap (λ (t : List ℕ). getD t 0 0) e
-      where
-        file-first : over (fileIn empty) (zeros 218) ≡ over headingOnly (zeros 218)
-        file-first = ap (λ (t : List ℕ). over t (zeros 218)) (marked .c11 .0)

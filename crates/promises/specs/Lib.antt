@@ -1,4 +1,5 @@
 pub mod Refusals
 pub mod Later
 pub mod Marked
+pub mod Calls
 pub mod Fakes
