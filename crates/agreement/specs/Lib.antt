@@ -1,2 +1,3 @@
 pub mod SameEdges
 pub mod Changed
+pub mod OutBytes

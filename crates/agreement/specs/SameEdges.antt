@@ -133,7 +133,7 @@ varint-of g e = e
 
 module _ (keys p o : List ℕ) (w : ℕ) (logs dead : List ℕ) where
   -- of good groups, each is good
-  each-good : (d i : ℕ) → groupsFrom p o w d i ≡ Check.Fine → (j : ℕ) → i ≤ j → j < i + d → isGood (groupIn p o w j) ≡ true
+  pub each-good : (d i : ℕ) → groupsFrom p o w d i ≡ Check.Fine → (j : ℕ) → i ≤ j → j < i + d → isGood (groupIn p o w j) ≡ true
   unfolding groupsFrom
   each-good zero i e j a b = absurd (omega arith)
   each-good (suc d) i e j a b =
