@@ -153,12 +153,16 @@ fn checked(name: &[u8], file: &[u8]) {
     }
 }
 
-// What a file is good for that was written.
-fn held(name: &[u8], batch: &[u8], file: &[u8], whole: bool, less: &mut [u8]) {
+fn more(name: &[u8], batch: &[u8], file: &[u8], whole: bool, less: &mut [u8]) {
     if whole {
         short(name, batch, less, file.len());
         small(name, file);
     }
+}
+
+// What a file is good for that was written.
+fn held(name: &[u8], batch: &[u8], file: &[u8], whole: bool, less: &mut [u8]) {
+    more(name, batch, file, whole, less);
     checked(name, file);
     back(name, batch, file, less);
 }
