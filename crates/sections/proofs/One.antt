@@ -3,6 +3,8 @@ use mathlib.Core.Path.{_≡_, refl, sym, ap, _∙_}
 use mathlib.Core.List.{List}
 use Prim.Native.Nat.{ℕ}
 use Rattle.base.proofs.Determined.{Determined}
+use Rattle.sections.proofs.by_key.partners_size as partners-size
+use Rattle.sections.proofs.by_key.partners_size.Reads as partners-size-reads
 use Rattle.sections.proofs.by_edge.put_logs as put-logs
 use Rattle.sections.proofs.by_edge.put_logs.Reads as put-logs-reads
 use Rattle.sections.proofs.by_edge.put_tombs as put-tombs
@@ -27,3 +29,6 @@ put-groups-determined κs a pre r₁ r₂ w₁ w₂ p q =
 pub put-fences-determined : Determined put-fences.ended put-fences-reads.Pre put-fences-reads.Post
 put-fences-determined κs a pre r₁ r₂ w₁ w₂ p q =
     (p .place ∙ sym (q .place), ap (λ (l : List ℕ). (l, (tt {0}, (tt {0}, (tt {0}, tt {0}))))) (p .bytes ∙ sym (q .bytes)))
+
+pub partners-size-determined : Determined partners-size.ended partners-size-reads.Pre partners-size-reads.Post
+partners-size-determined κs a pre r₁ r₂ w₁ w₂ p q = ((λ i. record { bytes = (p .0 ∙ sym (q .0)) i; dense = (p .1 ∙ sym (q .1)) i }), refl)
