@@ -3,7 +3,7 @@ ghost use mathlib.Core.Path.{_≡_};
 ghost use lib.ListN.{length};
 ghost use Rattle.frame.specs.Frame.{countOf, bodyOf};
 ghost use Rattle.frame.specs.Open.Laws.{Frames};
-ghost use Rattle.listing.specs.List.{refusedPlan, planOf, rowIs, listed};
+ghost use Rattle.listing.specs.List.{refusedPlan, planOf, answerOf, rowIs, listed};
 use codes::little::le16;
 use codes::little::le32;
 use frame::Opening;
@@ -77,4 +77,19 @@ pub fn row_of(file: &[u8], i: usize) -> Row
             sum: 0,
         },
     }
+}
+
+// Fills the caller's table with a file's section rows, in table order. A refusal leaves all of it, and rows past the count
+// stay.
+pub fn list_sections(file: &[u8], rows: &mut [Row]) -> Listed
+    ensures { λ r. ⌜ (r ≡ answerOf (now (file .entry)) (length (now (rows .entry)))) × (now (rows .exit) ≡ listed (now (file .entry)) (planOf (now (file .entry)) (length (now (rows .entry))) .n) (now (rows .entry))) ⌝ }
+{
+    let p = plan_for(file, rows.len());
+    let n = p.n;
+    let mut i: usize = 0;
+    while i < n {
+        rows[i] = row_of(file, i);
+        i += 1;
+    }
+    p.answer
 }
