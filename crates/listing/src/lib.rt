@@ -93,3 +93,12 @@ pub fn list_sections(file: &[u8], rows: &mut [Row]) -> Listed
     }
     p.answer
 }
+
+// The same for a table by value, which comes back: callers of this need no proof of their own over a lent table.
+pub fn table_of(file: &[u8], t: [Row; 64]) -> [Row; 64]
+    ensures { λ r. ⌜ r ≡ listed (now (file .entry)) (planOf (now (file .entry)) (length t) .n) t ⌝ }
+{
+    let mut s = t;
+    list_sections(file, &mut s);
+    s
+}
