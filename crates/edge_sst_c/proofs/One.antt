@@ -15,6 +15,8 @@ use Rattle.edge_sst_c.proofs.write.edge_sst_write as c-write
 use Rattle.edge_sst_c.proofs.write.edge_sst_write.Reads as c-write-reads
 use Rattle.edge_sst_c.proofs.write.edge_sst_sum as c-sum
 use Rattle.edge_sst_c.proofs.write.edge_sst_sum.Reads as c-sum-reads
+use Rattle.edge_sst_c.proofs.section_list.edge_sst_sections as c-sections
+use Rattle.edge_sst_c.proofs.section_list.edge_sst_sections.Reads as c-sections-reads
 use Rattle.edge_sst_c.proofs.desk.edge_sst_check as check
 use Rattle.edge_sst_c.proofs.desk.edge_sst_check.Reads as check-reads
 use Rattle.edge_sst_c.proofs.desk.edge_sst_read_out as read-out
@@ -54,3 +56,6 @@ edge-sst-write-determined κs a pre r₁ r₂ w₁ w₂ p q = (p .answer ∙ sym
 
 pub edge-sst-sum-determined : Determined c-sum.ended c-sum-reads.Pre c-sum-reads.Post
 edge-sst-sum-determined κs a pre r₁ r₂ w₁ w₂ p q = (p ∙ sym q, refl)
+
+pub edge-sst-sections-determined : Determined c-sections.ended c-sections-reads.Pre c-sections-reads.Post
+edge-sst-sections-determined κs a pre r₁ r₂ w₁ w₂ p q = (p .0 ∙ sym (q .0), ap (λ (l : List ℕ). (tt {0}, (l, tt {0}))) (p .1 ∙ sym (q .1)))

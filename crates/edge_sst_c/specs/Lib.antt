@@ -2,3 +2,4 @@ pub mod Told
 pub mod Look
 pub mod Desk
 pub mod Write
+pub mod SectionList

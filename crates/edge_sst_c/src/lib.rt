@@ -6,6 +6,7 @@ ghost use Rattle.edge_sst_c.specs.Told.{truth, recordWith, refusalWith, 
 
 pub mod desk;
 pub mod look;
+pub mod section_list;
 pub mod write;
 
 use frame::Opened;

@@ -1,0 +1,105 @@
+-- The laws of the section list.
+use mathlib.Core.Path.{_≡_, refl, sym, ap, _∙_}
+use Prim.Native.Nat.{ℕ, zero, suc, _+_, _-_, _*_, _^_, _≤_, _<_}
+use native.Mathlib.Omega.{arith}
+use mathlib.Core.List.{List, [], _∷_, _++_}
+use mathlib.Core.Bool.{Bool, true, false}
+use lib.ListN.{length, set, drop, length-set}
+use lib.Dec.{ltb}
+use borrow.Author.Tests.{lt-ltb, le-ltb, ltb-false}
+use Rattle.base.specs.Over.{part}
+use Rattle.refusal.specs.declared.Refusal.{Refusal}
+use Rattle.refusal.specs.declared.Check.{Check}
+use Rattle.refusal.specs.Check.{_⊳_, refuse}
+use Rattle.refusal.specs.Check.Laws.{bad-then, fine-then}
+use Rattle.frame.specs.declared.Row.{Row}
+use Rattle.frame.specs.declared.Opened.{Opened}
+use Rattle.frame.specs.declared.Opening.{Opening}
+use Rattle.frame.specs.Frame.{countOf, footLen, bodyOf}
+use Rattle.frame.specs.Open.{recordOf, fileCheck, opening, openOf}
+use Rattle.frame.specs.Open.Laws.{Frames, size-parts, tail-parts}
+use Rattle.reader.specs.declared.rows.Section.{Section}
+use Rattle.reader.specs.Rows.{rowOf}
+use Rattle.listing.specs.declared.Listed.{Listed}
+use Rattle.listing.specs.declared.Plan.{Plan}
+use Rattle.listing.specs.List.{needed, listCheck, refusedPlan, planned, planOf, noRow, entry, rowIs, listed}
+
+-- ---- opening, taken apart
+
+opening-good : (c : Check) (p o : Opened) → opening c p ≡ Opening.Good o → c ≡ Check.Fine
+unfolding opening
+opening-good Check.Fine p o e = refl
+opening-good (Check.Bad r) p o e = let z : _≡_ {A = ℕ} 0 1 = cc in absurd (omega arith)
+
+opening-bad : (c : Check) (p : Opened) (r : Refusal) → opening c p ≡ Opening.Refused r → c ≡ Check.Bad r
+unfolding opening
+opening-bad Check.Fine p r e = let z : _≡_ {A = ℕ} 0 1 = cc in absurd (omega arith)
+opening-bad (Check.Bad q) p r e = cc
+
+-- ---- the plan
+
+module _ (f : List ℕ) (room : ℕ) where
+  pub plan-unopened : (r : Refusal) → openOf f ≡ Opening.Refused r → planOf f room ≡ refusedPlan r
+  unfolding openOf planOf planned listCheck
+  plan-unopened r e = ap (λ (c : Check). planned c (needed f)) (bad-then _ (opening-bad (fileCheck f) (recordOf f) r e))
+
+  module _ (o : Opened) (e : openOf f ≡ Opening.Good o) where
+    fine : fileCheck f ≡ Check.Fine
+    unfolding openOf
+    fine = opening-good (fileCheck f) (recordOf f) o e
+
+    pub plan-short : room < needed f → planOf f room ≡ refusedPlan (Refusal.Room (needed f))
+    unfolding planOf planned listCheck
+    plan-short h =
+        ap (λ (c : Check). planned c (needed f)) (fine-then _ fine ∙ ap (refuse (Refusal.Room (needed f))) (lt-ltb room (needed f) h))
+
+    pub plan-good : needed f ≤ room → planOf f room ≡ record { answer = Listed.Done (needed f); n = needed f }
+    unfolding planOf planned listCheck
+    plan-good h =
+        ap (λ (c : Check). planned c (needed f)) (fine-then _ fine ∙ ap (refuse (Refusal.Room (needed f))) (le-ltb room (needed f) h))
+
+-- the rows that are written have room
+pub plan-fits : (f : List ℕ) (room : ℕ) → planOf f room .n ≤ room
+unfolding planOf planned listCheck
+plan-fits f room = go (fileCheck f) (ltb room (needed f)) refl
+  where
+    go : (c : Check) (t : Bool) → ltb room (needed f) ≡ t → planned (c ⊳ refuse (Refusal.Room (needed f)) t) (needed f) .n ≤ room
+    go (Check.Bad r) t e = omega arith
+    go Check.Fine true e = omega arith
+    go Check.Fine false e = ltb-false room (needed f) e
+
+-- ---- rows
+
+pub entry-there : (s : Section) (r : Row) → s ≡ Section.Entry r → r ≡ entry s
+unfolding entry
+entry-there s r e = sym (ap entry e)
+
+pub entry-none : (s : Section) → s ≡ Section.Missing → noRow ≡ entry s
+unfolding entry
+entry-none s e = sym (ap entry e)
+
+-- the table keeps its length
+pub length-listed : (f : List ℕ) (n : ℕ) (ys : List Row) → length (listed f n ys) ≡ length ys
+unfolding listed
+length-listed f zero ys = refl
+length-listed f (suc n) ys = simp length-set (length-listed f n ys)
+
+-- ---- where the count stands
+
+pub record Footed (f : List ℕ) (foot : ℕ) : Type 0 where
+  pub size : 84 ≤ length f
+  pub most : foot ≤ length f - 64
+  pub some : 39 ≤ foot
+  pub body : part f (length f - foot) (length f - 20) ≡ bodyOf f
+
+pub footed : (f : List ℕ) (foot : ℕ) → foot ≡ footLen f → Frames f → Footed f foot
+unfolding bodyOf
+footed f foot e s =
+    let a = size-parts (length f) (s .size) in
+    let b = tail-parts (length f) f (s .tail) in
+    record {
+      size = a .0;
+      most = rw e (b .1);
+      some = rw e (b .0);
+      body = ap (λ (t : ℕ). part f (length f - t) (length f - 20)) e;
+    }
