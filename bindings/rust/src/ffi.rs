@@ -1,0 +1,92 @@
+//! The calls as include/edge_sst.h declares them.
+//!
+//! No pointer may be null, also where its length is 0: the pointer of a Rust
+//! slice or `Vec` never is. Outputs may overlap nothing else that is lent: a
+//! `&mut` does not.
+
+#[repr(C)]
+#[derive(Clone, Copy, Debug)]
+pub struct Opened {
+    pub number: u64,
+    pub place: u64,
+    pub keystart: u64,
+    pub keylen: u64,
+    pub offsetstart: u64,
+    pub offsetlen: u64,
+    pub partnerstart: u64,
+    pub partnerlen: u64,
+    pub logstart: u64,
+    pub loglen: u64,
+    pub deadstart: u64,
+    pub deadlen: u64,
+    pub marked: u64,
+    pub keycount: u64,
+    pub edgecount: u64,
+    pub bits: u64,
+}
+
+#[repr(C)]
+#[derive(Clone, Copy, Debug)]
+pub struct Looked {
+    pub number: u64,
+    pub place: u64,
+    pub found: u64,
+    pub degree: u64,
+    pub index: u64,
+    pub compared: u64,
+}
+
+#[repr(C)]
+#[derive(Clone, Copy, Debug)]
+pub struct Told {
+    pub number: u64,
+    pub place: u64,
+}
+
+#[repr(C)]
+#[derive(Clone, Copy, Debug)]
+pub struct Done {
+    pub number: u64,
+    pub place: u64,
+    pub bytes: u64,
+}
+
+#[cfg(feature = "sections")]
+#[repr(C)]
+#[derive(Clone, Copy, Debug)]
+pub struct Listed {
+    pub number: u64,
+    pub place: u64,
+    pub rows: u64,
+}
+
+extern "C" {
+    pub fn edge_sst_open(p: *const u8, n: usize) -> Opened;
+    pub fn edge_sst_partners_with(
+        p: *const u8,
+        n: usize,
+        o: *const Opened,
+        key: *const u8,
+        out: *mut u8,
+        m: usize,
+    ) -> Looked;
+    pub fn edge_sst_lookup_with(
+        p: *const u8,
+        n: usize,
+        o: *const Opened,
+        key: *const u8,
+        out: *mut u8,
+        m: usize,
+        logs: *mut u64,
+        l: usize,
+        marks: *mut u8,
+        k: usize,
+    ) -> Looked;
+    pub fn edge_sst_check(p: *const u8, n: usize) -> Told;
+    pub fn edge_sst_read_out(p: *const u8, n: usize, out: *mut u8, m: usize) -> Done;
+    pub fn edge_sst_needed(p: *const u8, n: usize) -> Done;
+    pub fn edge_sst_write(p: *const u8, n: usize, out: *mut u8, m: usize) -> Done;
+    pub fn edge_sst_sum(p: *const u8, n: usize) -> u64;
+    #[cfg(feature = "sections")]
+    pub fn edge_sst_sections(p: *const u8, n: usize, numbers: *mut u64, m: usize) -> Listed;
+}

@@ -1,0 +1,88 @@
+//! Safe calls for edge SST files, over the proved archive `libedge_sst_c.a`.
+//!
+//! The workbench opens a file once and looks up keys: [`EdgeSst::open`],
+//! [`Opened::partners`], [`Opened::lookup`]. The release desk takes nothing from a
+//! file with one wrong section byte: [`check`], [`read_out`]. [`write`] makes a
+//! file of a batch, and [`sum`] is XXH3-64 alone.
+//!
+//! Any bytes may be given: each call answers, or refuses with a [`Refusal`].
+//!
+//! The archive asks that no pointer is null, also where there are no bytes. The
+//! pointers of Rust's slices and vectors never are, so callers of this crate have
+//! nothing to see to. What is trusted here are the declarations in `ffi.rs`.
+//!
+//! ```
+//! use edge_sst::EdgeSst;
+//! let file = std::fs::read("../../samples/example.edges").unwrap();
+//! let opened = EdgeSst::open(&file).unwrap();
+//! for key in opened.keys() {
+//!     let found = opened.partners(key).unwrap().expect("a key of the file");
+//!     println!("{} partners", found.ids.len());
+//! }
+//! ```
+
+mod ffi;
+mod opened;
+mod refusal;
+
+#[cfg(feature = "sections")]
+pub use opened::Section;
+pub use opened::{Edge, EdgeSst, Edges, Id, Opened, Partners};
+pub use refusal::Refusal;
+
+use refusal::refuse_if;
+
+/// Bytes of a batch: its heading, and each edge.
+const HEADING: usize = 50;
+const EDGE: usize = 41;
+
+/// Checks a file in full: opening, the checksum of every section, every group, and
+/// what they say together. Refusals 1 to 18, 22 and 23.
+pub fn check(file: &[u8]) -> Result<(), Refusal> {
+    // SAFETY: the pointer and length are of one slice, and not null.
+    let told = unsafe { ffi::edge_sst_check(file.as_ptr(), file.len()) };
+    refuse_if(told.number, told.place)
+}
+
+/// Reads a file out to a batch, after checking it in full: a heading of 50 bytes
+/// (kind 3, direction, three ids) and 41 for each edge (kind 1 live or 2 dead, key,
+/// partner, log number).
+pub fn read_out(file: &[u8]) -> Result<Vec<u8>, Refusal> {
+    // A file that passes has as many edges as opening says; what one has to open
+    // holds 8 bytes for each, so that no small file asks for much room.
+    let edges = EdgeSst::open(file)?.edge_count() as usize;
+    let mut batch = vec![0; HEADING + EDGE * edges];
+    // SAFETY: the pointers and lengths are of slices, and none is null.
+    let done = unsafe {
+        ffi::edge_sst_read_out(file.as_ptr(), file.len(), batch.as_mut_ptr(), batch.len())
+    };
+    refuse_if(done.number, done.place)?;
+    batch.truncate(done.bytes as usize);
+    Ok(batch)
+}
+
+/// Writes the file of a batch: refusals 24 to 26. The batch has the form that
+/// [`read_out`] gives; its edges strictly rise by key, then partner.
+pub fn write(batch: &[u8]) -> Result<Vec<u8>, Refusal> {
+    let mut file = vec![0; needed(batch)?];
+    // SAFETY: the pointers and lengths are of slices, and none is null.
+    let done =
+        unsafe { ffi::edge_sst_write(batch.as_ptr(), batch.len(), file.as_mut_ptr(), file.len()) };
+    refuse_if(done.number, done.place)?;
+    file.truncate(done.bytes as usize);
+    Ok(file)
+}
+
+/// How many bytes the file of a batch takes.
+pub fn needed(batch: &[u8]) -> Result<usize, Refusal> {
+    // SAFETY: the pointer and length are of one slice, and not null.
+    let done = unsafe { ffi::edge_sst_needed(batch.as_ptr(), batch.len()) };
+    refuse_if(done.number, done.place)?;
+    Ok(done.bytes as usize)
+}
+
+/// XXH3-64 of the bytes: seed 0, default secret.
+pub fn sum(bytes: &[u8]) -> u64 {
+    // SAFETY: the pointer and length are of one slice, and not null.
+    unsafe { ffi::edge_sst_sum(bytes.as_ptr(), bytes.len()) }
+}

@@ -1,0 +1,75 @@
+//! Why a call refuses.
+
+use std::error::Error;
+use std::fmt;
+
+/// A refusal's number and its place: an index, a count or a byte, by the number.
+#[derive(Clone, Copy, Debug, PartialEq, Eq, Hash)]
+pub struct Refusal {
+    pub number: u64,
+    pub place: u64,
+}
+
+/// The text of each number, as in the C header.
+const TEXTS: [&str; 27] = [
+    "no refusal",
+    "file under 84 or over 2^30 bytes",
+    "magic",
+    "major version not 1",
+    "header size not 64",
+    "a flag bit 4 to 31 is set",
+    "tail magic",
+    "footer length",
+    "footer checksum",
+    "section table",
+    "a section of kind 1 to 6 is not raw",
+    "section range",
+    "counts, lengths or presence of sections",
+    "key not above the one before",
+    "offset",
+    "fence section",
+    "unknown tag of a group",
+    "varint cut, too long or too large",
+    "group: degree 0, order, upper half too large, cut or overlong",
+    "an earlier degree, or edges past the edge count",
+    "output too short",
+    "opened record that cannot be of this file",
+    "a section's checksum",
+    "degree sum, flag bit 1 or 2, or unused tombstone bits",
+    "batch record unknown, cut or misplaced",
+    "batch order",
+    "more keys, edges or file bytes than the bounds",
+];
+
+impl Refusal {
+    /// The number of a refusal for want of room; its place is what is needed.
+    pub const ROOM: u64 = 20;
+
+    /// What the number says, for people.
+    pub fn text(&self) -> &'static str {
+        let known = usize::try_from(self.number).ok().and_then(|i| TEXTS.get(i));
+        known.copied().unwrap_or("unknown refusal")
+    }
+}
+
+impl fmt::Display for Refusal {
+    fn fmt(&self, f: &mut fmt::Formatter<'_>) -> fmt::Result {
+        write!(
+            f,
+            "refused {} at {}: {}",
+            self.number,
+            self.place,
+            self.text()
+        )
+    }
+}
+
+impl Error for Refusal {}
+
+/// Fine where the number is 0.
+pub(crate) fn refuse_if(number: u64, place: u64) -> Result<(), Refusal> {
+    match number {
+        0 => Ok(()),
+        _ => Err(Refusal { number, place }),
+    }
+}

@@ -1,0 +1,225 @@
+//! The calls on the samples, and round trips through the writer.
+
+use edge_sst::{check, needed, read_out, sum, write, EdgeSst, Id, Refusal};
+
+fn sample(name: &str) -> Vec<u8> {
+    let folder = concat!(env!("CARGO_MANIFEST_DIR"), "/../../samples/");
+    std::fs::read(format!("{folder}{name}.edges")).expect("a sample")
+}
+
+fn id(high: u64, low: u64) -> Id {
+    (u128::from(high) << 64 | u128::from(low)).to_be_bytes()
+}
+
+/// An edge of a batch.
+#[derive(Clone, Copy, Debug, PartialEq)]
+struct Record {
+    key: Id,
+    partner: Id,
+    log: u64,
+    dead: bool,
+}
+
+fn batch_of(records: &[Record]) -> Vec<u8> {
+    let mut batch = vec![3, 0];
+    batch.extend([7; 48]);
+    for r in records {
+        batch.push(if r.dead { 2 } else { 1 });
+        batch.extend(r.key);
+        batch.extend(r.partner);
+        batch.extend(r.log.to_le_bytes());
+    }
+    batch
+}
+
+fn records_of(batch: &[u8]) -> Vec<Record> {
+    let record = |r: &[u8]| Record {
+        key: r[1..17].try_into().unwrap(),
+        partner: r[17..33].try_into().unwrap(),
+        log: u64::from_le_bytes(r[33..41].try_into().unwrap()),
+        dead: r[0] == 2,
+    };
+    batch[50..].chunks_exact(41).map(record).collect()
+}
+
+/// Keys of 1 to 40 partners: more than the first guess at the room.
+fn made() -> Vec<Record> {
+    let edge = |key: u64, k: u64| Record {
+        key: id(key, 9),
+        partner: id(5 + k / 2, 1 + k),
+        log: 1000 * key + k,
+        dead: (key + k) % 16 == 0,
+    };
+    (1..=40)
+        .flat_map(|key| (0..key).map(move |k| edge(key, k)))
+        .collect()
+}
+
+fn refused<T: std::fmt::Debug>(answer: Result<T, Refusal>) -> (u64, u64) {
+    let refusal = answer.expect_err("a refusal");
+    (refusal.number, refusal.place)
+}
+
+/// Every key of the file answers what the records say, and nothing else is there.
+fn holds(file: &[u8], records: &[Record]) {
+    let opened = EdgeSst::open(file).unwrap();
+    let runs: Vec<&[Record]> = records.chunk_by(|a, b| a.key == b.key).collect();
+    assert_eq!(opened.edge_count(), records.len() as u64);
+    assert_eq!(opened.key_count(), runs.len() as u64);
+    assert!(opened.keys().eq(runs.iter().map(|run| &run[0].key)));
+    for (i, run) in runs.iter().enumerate() {
+        let partners = opened.partners(&run[0].key).unwrap().expect("a key");
+        let found = opened.lookup(&run[0].key).unwrap().expect("a key");
+        assert!(partners.ids.iter().eq(run.iter().map(|r| &r.partner)));
+        assert_eq!((partners.index, found.index), (i as u64, i as u64));
+        assert_eq!(partners.compared, found.compared);
+        assert!((1..=25).contains(&found.compared));
+        let edges = found.edges.iter().map(|e| (e.partner, e.log, e.dead));
+        assert!(edges.eq(run.iter().map(|r| (r.partner, r.log, r.dead))));
+    }
+    assert_eq!(opened.partners(&[255; 16]), Ok(None));
+    assert_eq!(opened.lookup(&[0; 16]), Ok(None));
+}
+
+#[test]
+fn the_example_has_one_edge() {
+    let file = sample("example");
+    assert_eq!(check(&file), Ok(()));
+    let found = EdgeSst::open(&file)
+        .unwrap()
+        .lookup(&id(1, 2))
+        .unwrap()
+        .unwrap();
+    assert_eq!(found.edges.len(), 1);
+    assert_eq!(found.edges[0].partner, id(5, 1));
+    assert_eq!((found.edges[0].log, found.edges[0].dead), (7, false));
+    assert_eq!((found.index, found.compared), (0, 1));
+}
+
+#[test]
+fn samples_answer_as_their_read_out() {
+    for name in ["example", "board"] {
+        let file = sample(name);
+        holds(&file, &records_of(&read_out(&file).unwrap()));
+    }
+}
+
+#[test]
+fn the_board_has_12_keys_and_40_edges() {
+    let file = sample("board");
+    let opened = EdgeSst::open(&file).unwrap();
+    assert_eq!((opened.key_count(), opened.edge_count()), (12, 40));
+}
+
+#[test]
+fn samples_are_written_again() {
+    for name in ["example", "board"] {
+        let batch = read_out(&sample(name)).unwrap();
+        let file = write(&batch).unwrap();
+        assert_eq!(file.len(), needed(&batch).unwrap());
+        assert_eq!(check(&file), Ok(()));
+        assert_eq!(read_out(&file).unwrap(), batch);
+    }
+    assert_eq!(
+        write(&read_out(&sample("example")).unwrap()).unwrap(),
+        sample("example")
+    );
+}
+
+#[test]
+fn a_batch_is_written_and_read_back() {
+    let records = made();
+    let batch = batch_of(&records);
+    let file = write(&batch).unwrap();
+    assert_eq!(check(&file), Ok(()));
+    assert_eq!(read_out(&file).unwrap(), batch);
+    holds(&file, &records);
+}
+
+#[test]
+fn a_heading_alone_makes_218_bytes() {
+    let file = write(&batch_of(&[])).unwrap();
+    assert_eq!(file.len(), 218);
+    holds(&file, &[]);
+}
+
+#[test]
+fn batches_are_refused_at_their_record() {
+    let mut records = made();
+    records[3] = records[2];
+    assert_eq!(refused(write(&batch_of(&records))), (25, 50 + 3 * 41));
+    assert_eq!(refused(write(&[])), (24, 0));
+    assert_eq!(refused(write(&batch_of(&made())[..60])), (24, 50));
+}
+
+#[test]
+fn every_changed_section_byte_is_refused() {
+    let file = sample("board");
+    let footer = file[file.len() - 12..file.len() - 8].try_into().unwrap();
+    let end = file.len() - u32::from_le_bytes(footer) as usize;
+    for place in 64..end {
+        let mut changed = file.clone();
+        changed[place] ^= 1;
+        assert!(check(&changed).is_err(), "byte {place}");
+        assert!(read_out(&changed).is_err(), "byte {place}");
+    }
+}
+
+#[test]
+fn cut_files_are_refused() {
+    let file = sample("board");
+    for n in 0..file.len() {
+        assert!(EdgeSst::open(&file[..n]).is_err(), "{n} bytes");
+        assert_eq!(
+            refused(check(&file[..n])),
+            refused(EdgeSst::open(&file[..n]))
+        );
+    }
+    assert_eq!(refused(EdgeSst::open(&[])), (1, 0));
+}
+
+#[test]
+fn sums_of_known_bytes() {
+    assert_eq!(sum(&[]), 0x2d06800538d394c2);
+    assert_eq!(sum(&sample("example")[64..80]), 0xc4846c74c4b320ad);
+}
+
+/// The texts are those of the C header.
+#[test]
+fn texts_are_the_headers() {
+    let header = concat!(env!("CARGO_MANIFEST_DIR"), "/../../include/edge_sst.h");
+    let header = std::fs::read_to_string(header).expect("the header");
+    let (_, table) = header.split_once("texts[] = {").unwrap();
+    let (table, _) = table.split_once("};").unwrap();
+    let texts: Vec<&str> = table.split('"').skip(1).step_by(2).collect();
+    assert_eq!(texts.len(), 27);
+    for (number, text) in (0..).zip(&texts) {
+        assert_eq!(Refusal { number, place: 0 }.text(), *text);
+    }
+    assert_eq!(
+        Refusal {
+            number: 27,
+            place: 0
+        }
+        .text(),
+        "unknown refusal"
+    );
+    let error: Box<dyn std::error::Error> = Box::new(Refusal {
+        number: 14,
+        place: 3,
+    });
+    assert_eq!(error.to_string(), "refused 14 at 3: offset");
+}
+
+#[cfg(feature = "sections")]
+#[test]
+fn sections_of_the_example() {
+    let file = sample("example");
+    let sections = EdgeSst::open(&file).unwrap().sections().unwrap();
+    let kinds: Vec<u64> = sections.iter().map(|s| s.kind).collect();
+    assert_eq!(kinds, [1, 2, 3, 4]);
+    for s in sections {
+        let bytes = &file[s.start as usize..(s.start + s.len) as usize];
+        assert_eq!((s.codec, s.name.len(), s.sum), (0, 0, sum(bytes)));
+    }
+}

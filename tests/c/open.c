@@ -1,0 +1,143 @@
+/* Sums of known bytes; opening and its record; with SECTIONS the section list;
+ * records with a number changed. */
+#include <inttypes.h>
+#include <stdio.h>
+#include <stdlib.h>
+#include <string.h>
+
+#include "test.h"
+
+/* The first n bytes of the family that the vectors are of. */
+static uint8_t *family(size_t n) {
+    uint8_t *bytes = memory(n);
+    uint64_t x = 1;
+    size_t i;
+    for (i = 0; i < n; i++) {
+        x = (x * 1103515245 + 12345) % ((uint64_t)1 << 31);
+        bytes[i] = (uint8_t)(x / 65536);
+    }
+    return bytes;
+}
+
+void test_sums(const char *dir) {
+    enum { MOST = 65536 };
+    Lines lines = lines_of(dir, "xxh3_vectors/stdout");
+    char line[LINE];
+    uint8_t *bytes = family(MOST);
+    while (next_line(&lines, line)) {
+        size_t n = (size_t)strtoull(line, NULL, 10);
+        calls++;
+        hold_line("sum", line, "%lu %016" PRIx64, (unsigned long)n, edge_sst_sum(bytes, n <= MOST ? n : 0));
+    }
+    free(bytes);
+}
+
+/* All that follows a refusal or an absence is 0. */
+static int nothing_else(const EdgeSstOpened *o) {
+    EdgeSstOpened none;
+    memset(&none, 0, sizeof none);
+    none.number = o->number;
+    none.place = o->place;
+    return memcmp(&none, o, sizeof none) == 0;
+}
+
+static void hold_dead(const char *name, const EdgeSstOpened *o, char text[64]) {
+    if (o->marked == 1)
+        snprintf(text, 64, "%" PRIu64 " %" PRIu64, o->deadstart, o->deadlen);
+    else
+        snprintf(text, 64, "none");
+    if (o->marked > 1 || (o->marked == 0 && (o->deadstart != 0 || o->deadlen != 0)))
+        differ("%s: the mark or the range of the dead", name);
+}
+
+static void hold_opened(const char *name, const EdgeSstOpened *o, const char *expected) {
+    char dead[64];
+    if (o->number != 0) {
+        hold_line(name, expected, "refused %" PRIu64 " at %" PRIu64, o->number, o->place);
+        if (!nothing_else(o))
+            differ("%s: a refusal with other numbers", name);
+        return;
+    }
+    hold_dead(name, o, dead);
+    if (o->place != 0)
+        differ("%s: opens with a place", name);
+    hold_line(name, expected,
+              "opens keys %" PRIu64 " %" PRIu64 " offsets %" PRIu64 " %" PRIu64 " partners %" PRIu64 " %" PRIu64
+              " logs %" PRIu64 " %" PRIu64 " dead %s n %" PRIu64 " e %" PRIu64 " bits %" PRIu64,
+              o->keystart, o->keylen, o->offsetstart, o->offsetlen, o->partnerstart, o->partnerlen, o->logstart,
+              o->loglen, dead, o->keycount, o->edgecount, o->bits);
+}
+
+#ifdef SECTIONS
+enum { ROW = 7, MOST_ROWS = 64, ROW_BYTES = ROW * 8 };
+
+static EdgeSstListed list(Bytes file, Lent rows) {
+    calls++;
+    return edge_sst_sections(file.p, file.n, (uint64_t *)rows.bytes, rows.n / 8);
+}
+
+static void hold_listed(const char *name, EdgeSstListed got, uint64_t number, uint64_t place, uint64_t rows) {
+    if (got.number != number || got.place != place || got.rows != rows)
+        differ("%s: sections %" PRIu64 " at %" PRIu64 ", %" PRIu64 " rows", name, got.number, got.place, got.rows);
+}
+
+/* Reads the lines of the sections; the count of them. */
+static size_t expected_rows(Lines *lines, EdgeSstRow rows[MOST_ROWS]) {
+    char line[LINE];
+    size_t n = 0;
+    while (peek_detail(lines) && next_line(lines, line) && n < MOST_ROWS) {
+        EdgeSstRow *r = &rows[n++];
+        sscanf(line, "  section %" SCNu64 " %" SCNu64 " %" SCNu64 " %" SCNu64 " %" SCNu64 " %" SCNu64 " %" SCNx64,
+               &r->kind, &r->codec, &r->nameat, &r->namelen, &r->start, &r->len, &r->sum);
+    }
+    return n;
+}
+
+/* With room for the rows and more, for the rows alone, and for one number less. */
+static void hold_sections(const char *name, Bytes file, const EdgeSstOpened *o, Lines *lines) {
+    EdgeSstRow rows[MOST_ROWS];
+    size_t n = expected_rows(lines, rows), i;
+    const size_t rooms[3] = {n * ROW_BYTES + 24, n * ROW_BYTES, n > 0 ? n * ROW_BYTES - 8 : 0};
+    for (i = 0; i < 3; i++) {
+        Lent lent = lend(rooms[i], AS_NUMBERS);
+        EdgeSstListed got = list(file, lent);
+        int enough = o->number == 0 && rooms[i] >= n * ROW_BYTES;
+        if (o->number != 0)
+            hold_listed(name, got, o->number, o->place, 0);
+        else if (enough)
+            hold_listed(name, got, 0, 0, n);
+        else
+            hold_listed(name, got, EDGE_SST_ROOM, n, 0);
+        hold_output(name, "rows", lent, AS_NUMBERS, enough ? (const uint8_t *)rows : NULL, n * ROW_BYTES);
+        take_back(lent);
+    }
+}
+#else
+static void hold_sections(const char *name, Bytes file, const EdgeSstOpened *o, Lines *lines) {
+    char line[LINE];
+    (void)name, (void)file, (void)o;
+    while (peek_detail(lines) && next_line(lines, line))
+        ;
+}
+#endif
+
+void test_opening(const char *dir) {
+    Bytes input = read_all(dir, "open_corpus/stdin");
+    Lines lines = lines_of(dir, "open_corpus/stdout");
+    char name[256], line[LINE];
+    while (input.n > 0) {
+        Bytes file;
+        EdgeSstOpened o;
+        take_name(&input, name);
+        file = take_item(&input);
+        o = edge_sst_open(file.p, file.n);
+        calls++;
+        hold_opened(name, &o, line_for(&lines, name, line));
+        hold_sections(name, file, &o, &lines);
+        if (o.number == 0)
+            test_records(name, file, &o);
+        give_back(file);
+    }
+    if (next_line(&lines, line))
+        differ("a line more than there are files: %s", line);
+}
