@@ -27,12 +27,14 @@ use Rattle.writer.proofs.write as c-write
 use Rattle.writer.proofs.write.Reads as c-write-reads
 use Rattle.refusal.proofs.told_of as c-told
 use Rattle.refusal.proofs.told_of.Reads as c-told-reads
+use Rattle.listing.proofs.list_sections as c-sections
 use Rattle.xxh3.proofs.One.{xxh3-determined}
 use Rattle.reader.proofs.One.{open-determined, section-at-determined, partners-determined, partners-with-determined, lookup-determined, lookup-with-determined}
 use Rattle.full_check.proofs.One.{check-determined, checked-determined}
 use Rattle.readout.proofs.One.{read-out-determined}
 use Rattle.writer.proofs.One.{needed-determined, write-determined}
 use Rattle.refusal.proofs.One.{told-of-determined}
+use Rattle.listing.proofs.One.{Listed-post, list-sections-determined}
 
 pub record OneResult : Type 2 where
   -- `xxh3`: the sum of any bytes
@@ -56,6 +58,8 @@ pub record OneResult : Type 2 where
   pub needed : Determined c-needed.ended c-needed-reads.Pre c-needed-reads.Post
   -- `write`
   pub write : Determined c-write.ended c-write-reads.Pre c-write-reads.Post
+  -- `list_sections`: proved by hand, with what its contract says written out
+  pub sections : Determined c-sections.ended (λ κs a. Unit {0}) Listed-post
   -- `told_of`: a refusal's number and place
   pub told : Determined c-told.ended c-told-reads.Pre c-told-reads.Post
 
@@ -73,5 +77,6 @@ one-result = record {
   read-out = read-out-determined;
   needed = needed-determined;
   write = write-determined;
+  sections = list-sections-determined;
   told = told-of-determined;
 }

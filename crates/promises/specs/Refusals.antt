@@ -7,6 +7,10 @@ use mathlib.Core.List.{List}
 use lib.ListN.{length}
 use Rattle.refusal.specs.declared.Refusal.{Refusal}
 use Rattle.refusal.specs.declared.Check.{Check}
+use Rattle.frame.specs.declared.Row.{Row}
+use Rattle.listing.specs.declared.Listed.{Listed}
+use Rattle.listing.specs.List as list
+use Rattle.listing.specs.List.{listCheck, planned, planOf, listed}
 use Rattle.lookup.specs.declared.Looked.{Looked}
 use Rattle.lookup.specs.Lookup as look
 use Rattle.lookup.specs.Lookup.{Outcome, found, absent, refused, partnersLeft, logsLeft, marksLeft}
@@ -69,3 +73,14 @@ read-out-refused f o r w a b q e = b ∙ go (readCheck f (length o)) (sym a ∙ 
 pub write-refused : (s o : List ℕ) (r : Written) (w : List ℕ) → Wrote s o r w → (q : Refusal) → r ≡ Written.Refused q → w ≡ o
 unfolding writer.leaves
 write-refused s o r w c q e = c .output ∙ ap (λ (x : Written). writer.leaves x (fileIn s) o) (sym (c .answer) ∙ e)
+
+-- ---- the section list: the caller's table stays
+
+pub list-refused : (f : List ℕ) (t rows : List Row) (r : Listed) → r ≡ list.answerOf f (length t)
+    → rows ≡ listed f (planOf f (length t) .n) t → (q : Refusal) → r ≡ Listed.Refused q → rows ≡ t
+unfolding planOf planned listed
+list-refused f t rows r a b q e = b ∙ go (listCheck f (length t)) (sym a ∙ e)
+  where
+    go : (c : Check) → planned c (list.needed f) .answer ≡ Listed.Refused q → listed f (planned c (list.needed f) .n) t ≡ t
+    go Check.Fine h = let z : _≡_ {A = ℕ} 0 1 = cc in absurd (omega arith)
+    go (Check.Bad r) h = refl
