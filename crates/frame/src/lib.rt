@@ -13,7 +13,8 @@ pub struct Range {
     pub len: u64,
 }
 
-// An entry of the section table. The name's place counts from the footer body's first byte.
+// An entry of the section table. The name's place counts from the footer body's first byte; in what `section_at` and the section
+// list give, from the file's first byte.
 pub struct Row {
     pub kind: u16,
     pub codec: u8,
