@@ -3,6 +3,8 @@ use mathlib.Core.Path.{_≡_, refl, sym, ap, _∙_}
 use Rattle.base.proofs.Determined.{Determined}
 use Rattle.source.proofs.edge_of as edge-of
 use Rattle.source.proofs.edge_of.Reads as edge-of-reads
+use Rattle.source.proofs.group_end as group-end
+use Rattle.source.proofs.group_end.Reads as group-end-reads
 use Rattle.source.proofs.count_keys as count-keys
 use Rattle.source.proofs.count_keys.Reads as count-keys-reads
 use Rattle.source.proofs.any_dead as any-dead
@@ -16,3 +18,16 @@ count-keys-determined κs a pre r₁ r₂ w₁ w₂ p q = (p ∙ sym q, refl)
 
 pub any-dead-determined : Determined any-dead.ended any-dead-reads.Pre any-dead-reads.Post
 any-dead-determined κs a pre r₁ r₂ w₁ w₂ p q = (p ∙ sym q, refl)
+
+-- a group has one end: the edges of the first group are as many as lie before it
+abbrev first-count : List Group → ℕ
+first-count [] = 0
+first-count (g ∷ gs) = length (g .edges)
+
+end-one : (es : List Edge) (i j k : ℕ) → GroupEnd es i j → GroupEnd es i k → j ≡ k
+end-one es i j k p q =
+    let same : j - i ≡ k - i = sym (length-part es i j (p .within)) ∙ ap first-count (sym (p .groups) ∙ q .groups) ∙ length-part es i k (q .within) in
+    omega (arith, p .above, q .above)
+
+pub group-end-determined : Determined group-end.ended group-end-reads.Pre group-end-reads.Post
+group-end-determined κs a pre r₁ r₂ w₁ w₂ p q = (end-one _ _ _ _ p q, refl)

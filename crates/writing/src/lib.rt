@@ -222,3 +222,86 @@ pub fn corpus(space: &mut [u8], whole: bool, out: &mut [u8], less: &mut [u8]) {
         left -= 1;
     }
 }
+
+// ---- large batches: the file is read back over the batch, and the sums are compared
+
+fn over(space: &[u8], n: usize, size: usize, batch: u64) {
+    if n == size {
+        if n <= space.len() {
+            if xxh3(&space[0..n]) == batch {
+                io::write_all(OUT, b": reads back\n");
+                return;
+            }
+        }
+    }
+    io::write_all(OUT, b": reads another batch\n");
+}
+
+fn back_over(name: &[u8], file: &[u8], space: &mut [u8], size: usize, batch: u64) {
+    io::write_all(OUT, name);
+    match read_out(file, space) {
+        ReadOut::Done { bytes } => {
+            over(space, bytes as usize, size, batch);
+        }
+        ReadOut::Refused { refusal } => {
+            io::write_all(OUT, b": read-out ");
+            refused(refusal);
+            io::write_all(OUT, b"\n");
+        }
+    }
+}
+
+fn held_over(name: &[u8], out: &[u8], bytes: usize, space: &mut [u8], size: usize, batch: u64) {
+    if 0 < bytes {
+        if bytes <= out.len() {
+            checked(name, &out[0..bytes]);
+            back_over(name, &out[0..bytes], space, size, batch);
+        }
+    }
+}
+
+fn written(name: &[u8], batch: &[u8], out: &mut [u8]) -> usize {
+    size(name, batch);
+    write_into(name, b": write ", batch, out) as usize
+}
+
+fn large(name: &[u8], space: &mut [u8], size: usize, out: &mut [u8]) {
+    if size <= space.len() {
+        let batch = xxh3(&space[0..size]);
+        let bytes = written(name, &space[0..size], out);
+        held_over(name, out, bytes, space, size, batch);
+    }
+}
+
+fn large_front(name: &[u8], n: usize, space: &mut [u8], size: usize, out: &mut [u8]) {
+    if n <= name.len() {
+        large(&name[0..n], space, size, out);
+    }
+}
+
+fn next_large(space: &mut [u8], out: &mut [u8]) -> bool {
+    let n = read_byte();
+    if n > 255 {
+        return false;
+    }
+    let mut name = [0u8; 256];
+    let m = read_front(&mut name, n);
+    let size = read_number();
+    let got = read_front(space, size);
+    if got < size {
+        return false;
+    }
+    large_front(&name, m, space, got, out);
+    true
+}
+
+// The same with two spaces, for batches too large for three.
+pub fn corpus_large(space: &mut [u8], out: &mut [u8]) {
+    let mut left: usize = 100;
+    while 0 < left {
+        if !next_large(space, out) {
+            return;
+        }
+        left -= 1;
+    }
+}

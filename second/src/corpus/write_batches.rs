@@ -20,7 +20,7 @@ use crate::xxh3::xxh3_64;
 /// The room for each file, and the most bytes of a batch.
 pub const ROOM: usize = 262_144;
 /// The room for the files of large batches.
-pub const LARGE_ROOM: usize = 8_388_608;
+pub const LARGE_ROOM: usize = 3_145_728;
 /// Files up to this size are told byte by byte.
 const SHOWN: u64 = 300;
 
