@@ -1,5 +1,12 @@
--- Each contract of the crate leaves one result and one content of lent memory.
+-- Each public contract of the crate leaves one result and one content of lent memory.
 use mathlib.Core.Path.{_≡_, refl, sym, ap, _∙_}
+use Prim.Native.Nat.{ℕ, _-_}
+use native.Mathlib.Omega.{arith}
+use mathlib.Core.List.{List, [], _∷_}
+use lib.ListN.{length}
+use Rattle.base.specs.Over.{length-part}
+use Rattle.batch.specs.declared.Edge.{Edge}
+use Rattle.groups.specs.Groups.{Group, GroupEnd}
 use Rattle.base.proofs.Determined.{Determined}
 use Rattle.source.proofs.edge_of as edge-of
 use Rattle.source.proofs.edge_of.Reads as edge-of-reads
