@@ -35,7 +35,7 @@ void *memory(size_t n) {
 Bytes read_all(const char *dir, const char *name) {
     char path[LINE];
     FILE *f;
-    long n;
+    long n = -1;
     uint8_t *p;
     Bytes all;
     snprintf(path, sizeof path, "%s/%s", dir, name);

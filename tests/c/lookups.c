@@ -441,7 +441,7 @@ void test_keys(const char *name, Bytes file, Bytes batch) {
             uint8_t key[ID];
             memcpy(key, key_of(&k, i), ID);
             beside(key, side);
-            hold_key(name, file, &o, &k, key, 0);
+            hold_key(name, file, &o, &k, key, alone);
         }
     }
     free(k.first);
