@@ -1,5 +1,6 @@
 // Lists the sections of every file of a corpus and prints the rows, with the count of those that stayed as they were, and
 // the answer for a table with one row too little. Corpus and expected lines are made by second/.
+ghost use Prim.Native.Nat.{_+_, _≤_};
 use frame::Row;
 use listing::Listed;
 use listing::plan_for;
@@ -47,25 +48,32 @@ fn print_rows(t: [Row; 64], n: usize) {
     }
 }
 
-// 1 for a row past the first n that is as it was.
-fn stayed(r: Row, i: usize, n: usize) -> u64 {
+// One more than `count` for a row past the first n that is as it was.
+fn counted(count: u64, r: Row, i: usize, n: usize) -> u64
+    requires { ⌜ count ≤ 64 ⌝ }
+    ensures { λ c. ⌜ c ≤ count + 1 ⌝ }
+{
     if n <= i {
         if is_blank(r) {
-            return 1;
+            return count + 1;
         }
     }
-    0
+    count
 }
 
-fn left(t: [Row; 64], n: usize) {
+fn left_of(t: [Row; 64], n: usize) -> u64 {
     let mut count: u64 = 0;
     let mut i: usize = 0;
     while i < ROOM {
-        count = (count + stayed(t[i], i, n)) % 256;
+        count = counted(count, t[i], i, n);
         i += 1;
     }
+    count
+}
+
+fn left(t: [Row; 64], n: usize) {
     io::write_all(OUT, b"  left ");
-    io::print_decimal(OUT, count);
+    io::print_decimal(OUT, left_of(t, n));
     io::write_all(OUT, b"\n");
 }
 

@@ -1,3 +1,7 @@
+-- `list_corpus::print_rows` meets its contract.
+use Prim.Native.Nat.{_-_, _≤_}
+use borrow.Author.Needs.{needs}
+use native.Mathlib.Omega.{arith}
 use Rattle.list_corpus.proofs.print_rows.Statement.{statement}
 use Rattle.list_corpus.proofs.print_rows.Tie as tie
 use Rattle.list_corpus.proofs.print_rows.Reads as reads
@@ -5,42 +9,34 @@ use Rattle.list_corpus.proofs.print_rows.Lts as lts
 use Rattle.verdict.proofs.row.Reads as row-reads
 
 abbrev Inv-loop : tie.InvT-loop
-Inv-loop n t i₀ i = ?
+Inv-loop n t i₀ i = i ≤ 64
 
 abbrev μ-loop : tie.MeasureT-loop
-μ-loop n t i₀ i = ?
+μ-loop n t i₀ i = 64 - i
 
--- src/main.rt:42:5
 loop-holds : tie.Need-loop-holds Inv-loop μ-loop
-loop-holds c = ?
+loop-holds c = search needs
 
--- src/main.rt:44:17
 mul-row : tie.Need-mul-row Inv-loop μ-loop
-mul-row c = ?
+mul-row c = search needs
 
--- src/main.rt:44:17
 array-copy-out-row : tie.Need-array-copy-out-row Inv-loop μ-loop
-array-copy-out-row c = ?
+array-copy-out-row c = search needs
 
--- src/main.rt:44:13
 row-requires : tie.Need-row-requires Inv-loop μ-loop
-row-requires c κs = ?
+row-requires c κs = search needs
 
--- src/main.rt:46:9
 add-i : tie.Need-add-i Inv-loop μ-loop
-add-i c = ?
+add-i c = search needs
 
--- src/main.rt:42:5
 loop-less : tie.Need-loop-less Inv-loop μ-loop
-loop-less c = ?
+loop-less c = search needs
 
--- src/main.rt:42:5
 loop-again : tie.Need-loop-again Inv-loop μ-loop
-loop-again c = ?
+loop-again c = search needs
 
--- src/main.rt:40:1
 returns : tie.Need-returns Inv-loop μ-loop
-returns c = ?
+returns c = search needs
 
 pub print-rows-spec : {M : Type 1} → statement M
 print-rows-spec =
