@@ -71,6 +71,27 @@ typedef struct {
  * pointer is null. */
 EdgeSstDone edge_sst_read_out(const uint8_t *p, size_t n, uint8_t *out, size_t m);
 
+/* What a section list gives: the refusal's number with its place, or 0 and 0 and
+ * how many rows were written. What does not apply is 0. */
+typedef struct {
+    uint64_t number, place, rows;
+} EdgeSstListed;
+
+/* A row of the list: seven numbers in this order. The name's place counts from
+ * the file's first byte; an empty name has the place where it would begin. */
+typedef struct {
+    uint64_t kind, codec, nameat, namelen, start, len, sum;
+} EdgeSstSection;
+
+/* Writes a row for each section of the n bytes at p, in table order, over the
+ * start of the m numbers at numbers, seven for each; skipped kinds have a row
+ * too. A file has at most 64 sections, so 448 numbers, or 64 EdgeSstSection, are
+ * always enough. The refusals are those of edge_sst_open, and then 20, which has
+ * the rows needed as its place. A refusal leaves all numbers as they were, and
+ * what lies past the rows stays. Any bytes may be lent; numbers does not overlap
+ * them, and no pointer is null. */
+EdgeSstListed edge_sst_sections(const uint8_t *p, size_t n, uint64_t *numbers, size_t m);
+
 #ifdef __cplusplus
 }
 #endif
