@@ -165,7 +165,7 @@ EdgeSstDone edge_sst_write(const uint8_t *p, size_t n, uint8_t *out, size_t m);
 uint64_t edge_sst_sum(const uint8_t *p, size_t n);
 
 /* An entry of the section table. nameat is the place of its name, counted from the
- * file's first byte. */
+ * file's first byte; an empty name has the place where it would begin. */
 typedef struct {
     uint64_t kind, codec, nameat, namelen, start, len, sum;
 } EdgeSstRow;
@@ -176,9 +176,12 @@ typedef struct {
     uint64_t number, place, rows;
 } EdgeSstListed;
 
-/* Lists the sections of the n bytes at p, in table order, seven numbers for each
- * row, over the start of the m numbers at numbers. Refusals 1 to 15, then 20 with
- * the rows needed as its place. Numbers past the last row stay. */
+/* Lists the sections of the n bytes at p, in table order, skipped kinds too: seven
+ * numbers for each row, in the order of EdgeSstRow, over the start of the m numbers
+ * at numbers. A file has at most 64 sections, so 448 numbers are always enough.
+ * Refusals 1 to 15, then 20 with the rows needed as its place. A refusal leaves all
+ * numbers as they were, and those past the last row stay. numbers does not overlap
+ * the bytes, and no pointer is null. */
 EdgeSstListed edge_sst_sections(const uint8_t *p, size_t n, uint64_t *numbers, size_t m);
 
 /* The same over a table of m rows. */

@@ -2,6 +2,7 @@
 //! any, against a second way to the same result where there are none.
 
 mod checking;
+mod listing;
 mod lookups;
 mod opening;
 mod printing;
@@ -49,6 +50,7 @@ pub fn all() -> Tally {
     check_varint_round_trips(&mut tally);
     check_corpus(&mut tally);
     opening::check(&mut tally);
+    listing::check(&mut tally);
     lookups::check(&mut tally);
     checking::check(&mut tally);
     printing::check(&mut tally);

@@ -2,6 +2,7 @@
 
 pub mod check_files;
 mod codes_vectors;
+pub mod list_files;
 pub mod lookup_calls;
 pub mod open_files;
 pub mod print_files;
@@ -60,6 +61,7 @@ fn code_vectors() -> Vec<VectorFile> {
 
 fn reader_vectors() -> Vec<VectorFile> {
     let opened = open_files::small();
+    let listed = list_files::files();
     let looked_up = lookup_calls::files();
     vec![
         VectorFile {
@@ -69,6 +71,14 @@ fn reader_vectors() -> Vec<VectorFile> {
         VectorFile {
             path: "open_corpus/stdout",
             bytes: open_files::stdout(&opened),
+        },
+        VectorFile {
+            path: "list_corpus/stdin",
+            bytes: open_files::stdin(&listed),
+        },
+        VectorFile {
+            path: "list_corpus/stdout",
+            bytes: list_files::stdout(&listed),
         },
         VectorFile {
             path: "lookup_corpus/stdin",

@@ -10,6 +10,7 @@ mod format;
 mod full_check;
 mod groups;
 mod layout;
+mod list;
 mod lookup;
 mod numbers;
 mod open;

@@ -12,6 +12,7 @@ use prog.Wp.{Heap}
 use ghost.Atoms.{Atoms}
 use contract.Lifetimes.{Lfts}
 use contract.Monad.{Fun, fact}
+use contract.Notation.{connectives}
 use denote.Ref.{now}
 use denote.Triple.Entry.{Args, Res}
 use denote.Triple.Clauses.{AtExit}
@@ -50,11 +51,17 @@ Table-post κs a r e = r ≡ listed (now (a .0)) (planOf (now (a .0)) (length (a
 pub table-of-determined : Determined table-of.ended (λ κs a. Unit {0}) Table-post
 table-of-determined κs a pre r₁ r₂ w₁ w₂ p q = (p ∙ sym q, refl)
 
--- the clauses are these facts, and no more is required than nothing
+-- nothing is required, and the `ensures` are these facts
 module _ {M : Type 1} (𝓤 : URA M) (H : Heap 𝓤) (A : Atoms 𝓤) (mem : Memory → SProp 𝓤) (run : Routine → Fun 𝓤) where
+  pub list-sections-asks : (κs : Lfts 2) (a : Args list-sections.signature κs) → list-sections.clauses 𝓤 H A mem run κs a .requires tt ≡ connectives 𝓤 .⊤ₛ
+  list-sections-asks κs a = refl
+
   pub list-sections-says : (κs : Lfts 2) (a : Args list-sections.signature κs) (r : Res list-sections.signature κs) (e : AtExit list-sections.ended κs)
       → list-sections.clauses 𝓤 H A mem run κs a .ensures tt r e ≡ fact 𝓤 (Listed-post κs a r e)
   list-sections-says κs a r e = refl
+
+  pub table-of-asks : (κs : Lfts 1) (a : Args table-of.signature κs) → table-of.clauses 𝓤 H A mem run κs a .requires tt ≡ connectives 𝓤 .⊤ₛ
+  table-of-asks κs a = refl
 
   pub table-of-says : (κs : Lfts 1) (a : Args table-of.signature κs) (r : Res table-of.signature κs) (e : AtExit table-of.ended κs)
       → table-of.clauses 𝓤 H A mem run κs a .ensures tt r e ≡ fact 𝓤 (Table-post κs a r e)

@@ -10,7 +10,8 @@ use Rattle.refusal.specs.declared.Check.{Check}
 use Rattle.frame.specs.declared.Row.{Row}
 use Rattle.listing.specs.declared.Listed.{Listed}
 use Rattle.listing.specs.List as list
-use Rattle.listing.specs.List.{listCheck, planned, planOf, listed}
+use Rattle.listing.specs.List.{planOf, listed}
+use Rattle.listing.specs.List.Laws.{refused-leaves}
 use Rattle.lookup.specs.declared.Looked.{Looked}
 use Rattle.lookup.specs.Lookup as look
 use Rattle.lookup.specs.Lookup.{Outcome, found, absent, refused, partnersLeft, logsLeft, marksLeft}
@@ -78,9 +79,4 @@ write-refused s o r w c q e = c .output ∙ ap (λ (x : Written). writer.leaves 
 
 pub list-refused : (f : List ℕ) (t rows : List Row) (r : Listed) → r ≡ list.answerOf f (length t)
     → rows ≡ listed f (planOf f (length t) .n) t → (q : Refusal) → r ≡ Listed.Refused q → rows ≡ t
-unfolding planOf planned listed
-list-refused f t rows r a b q e = b ∙ go (listCheck f (length t)) (sym a ∙ e)
-  where
-    go : (c : Check) → planned c (list.needed f) .answer ≡ Listed.Refused q → listed f (planned c (list.needed f) .n) t ≡ t
-    go Check.Fine h = let z : _≡_ {A = ℕ} 0 1 = cc in absurd (omega arith)
-    go (Check.Bad r) h = refl
+list-refused f t rows r a b q e = b ∙ refused-leaves f (length t) q t (sym a ∙ e)

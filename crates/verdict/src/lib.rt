@@ -61,7 +61,8 @@ fn record(o: Opened) {
     number(o.bits as u64);
 }
 
-fn row(r: Row) {
+// The line of a section.
+pub fn row(r: Row) {
     io::write_all(OUT, b"  section");
     number(r.kind as u64);
     number(r.codec as u64);

@@ -18,7 +18,7 @@ mod unread;
 
 use super::framed;
 use crate::layout::Layout;
-use crate::open::{open, Opened, Range, Refusal};
+use crate::open::{open, Opened, Range, Refusal, SectionRow};
 
 /// One file of the corpus.
 pub struct OpenFile {
@@ -123,17 +123,23 @@ fn opened_text(opened: &Opened) -> String {
         record.offset_bits,
     );
     for row in &opened.rows {
-        text += &format!(
-            "\n  section {} {} {} {} {} {:016x}",
-            row.kind,
-            row.codec,
-            row.name_place,
-            row.name_length,
-            range_text(row.range),
-            row.checksum,
-        );
+        text += "\n";
+        text += &row_text(row);
     }
     text
+}
+
+/// The line of a section, without its end.
+pub fn row_text(row: &SectionRow) -> String {
+    format!(
+        "  section {} {} {} {} {} {:016x}",
+        row.kind,
+        row.codec,
+        row.name_place,
+        row.name_length,
+        range_text(row.range),
+        row.checksum,
+    )
 }
 
 pub fn stdin(files: &[OpenFile]) -> Vec<u8> {

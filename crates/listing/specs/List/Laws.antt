@@ -22,7 +22,7 @@ use Rattle.reader.specs.declared.rows.Section.{Section}
 use Rattle.reader.specs.Rows.{rowOf}
 use Rattle.listing.specs.declared.Listed.{Listed}
 use Rattle.listing.specs.declared.Plan.{Plan}
-use Rattle.listing.specs.List.{needed, listCheck, refusedPlan, planned, planOf, noRow, entry, rowIs, listed}
+use Rattle.listing.specs.List.{needed, listCheck, refusedPlan, planned, planOf, answerOf, noRow, entry, rowIs, listed}
 
 -- ---- opening, taken apart
 
@@ -83,6 +83,15 @@ pub length-listed : (f : List ℕ) (n : ℕ) (ys : List Row) → length (listed 
 unfolding listed
 length-listed f zero ys = refl
 length-listed f (suc n) ys = simp length-set (length-listed f n ys)
+
+-- a refusal leaves the whole table
+pub refused-leaves : (f : List ℕ) (room : ℕ) (r : Refusal) (ys : List Row) → answerOf f room ≡ Listed.Refused r → listed f (planOf f room .n) ys ≡ ys
+unfolding planOf planned listed
+refused-leaves f room r ys = go (listCheck f room)
+  where
+    go : (c : Check) → planned c (needed f) .answer ≡ Listed.Refused r → listed f (planned c (needed f) .n) ys ≡ ys
+    go Check.Fine e = let z : _≡_ {A = ℕ} 0 1 = cc in absurd (omega arith)
+    go (Check.Bad q) e = refl
 
 -- ---- where the count stands
 
