@@ -1,4 +1,4 @@
-/* Sums of known bytes; opening and its record; with SECTIONS the section list;
+/* Sums of known bytes; opening and its record; the section list;
  * records with a number changed. */
 #include <inttypes.h>
 #include <stdio.h>
@@ -68,7 +68,6 @@ static void hold_opened(const char *name, const EdgeSstOpened *o, const char *ex
               o->loglen, dead, o->keycount, o->edgecount, o->bits);
 }
 
-#ifdef SECTIONS
 enum { ROW = 7, MOST_ROWS = 64, ROW_BYTES = ROW * 8 };
 
 static EdgeSstListed list(Bytes file, Lent rows) {
@@ -112,14 +111,6 @@ static void hold_sections(const char *name, Bytes file, const EdgeSstOpened *o, 
         take_back(lent);
     }
 }
-#else
-static void hold_sections(const char *name, Bytes file, const EdgeSstOpened *o, Lines *lines) {
-    char line[LINE];
-    (void)name, (void)file, (void)o;
-    while (peek_detail(lines) && next_line(lines, line))
-        ;
-}
-#endif
 
 void test_opening(const char *dir) {
     Bytes input = read_all(dir, "open_corpus/stdin");

@@ -51,7 +51,6 @@ pub struct Done {
     pub bytes: u64,
 }
 
-#[cfg(feature = "sections")]
 #[repr(C)]
 #[derive(Clone, Copy, Debug)]
 pub struct Listed {
@@ -87,6 +86,5 @@ extern "C" {
     pub fn edge_sst_needed(p: *const u8, n: usize) -> Done;
     pub fn edge_sst_write(p: *const u8, n: usize, out: *mut u8, m: usize) -> Done;
     pub fn edge_sst_sum(p: *const u8, n: usize) -> u64;
-    #[cfg(feature = "sections")]
     pub fn edge_sst_sections(p: *const u8, n: usize, numbers: *mut u64, m: usize) -> Listed;
 }

@@ -25,9 +25,7 @@ mod ffi;
 mod opened;
 mod refusal;
 
-#[cfg(feature = "sections")]
-pub use opened::Section;
-pub use opened::{Edge, EdgeSst, Edges, Id, Opened, Partners};
+pub use opened::{Edge, EdgeSst, Edges, Id, Opened, Partners, Section};
 pub use refusal::Refusal;
 
 use refusal::refuse_if;

@@ -162,10 +162,8 @@ fn with_room<T>(ask: impl Fn(usize) -> Result<T, Refusal>) -> Result<T, Refusal>
     }
 }
 
-#[cfg(feature = "sections")]
 pub use sections::Section;
 
-#[cfg(feature = "sections")]
 mod sections {
     use super::{ffi, refuse_if, Opened, Refusal};
 

@@ -211,7 +211,6 @@ fn texts_are_the_headers() {
     assert_eq!(error.to_string(), "refused 14 at 3: offset");
 }
 
-#[cfg(feature = "sections")]
 #[test]
 fn sections_of_the_example() {
     let file = sample("example");
