@@ -1,12 +1,9 @@
 -- The files of 218 and 256 bytes, listed by the definitions.
 use mathlib.Core.Path.{_≡_, refl}
-use Prim.Native.Nat.{ℕ}
-use mathlib.Core.List.{List}
 use Rattle.codes.specs.Little.{leAt}
 use Rattle.codes.specs.Ids.{beAt, idAt, halvesAt}
 use Rattle.xxh3_spec.specs.Xxh3.{mul, fold, xorshift, rotl, swap, rrmxmx, secret, of1to3, of4to8, of9to16, small, pair, mixStep, inward, of17to128, onward, of129to240, lane, accumulate, stir, scramble, turn, run, start, twice, merge, large, xxh3}
 use Rattle.refusal.specs.declared.Refusal.{Refusal}
-use Rattle.frame.specs.declared.Row.{Row}
 use Rattle.frame.specs.Frame.{rowAt, rowsFrom, endFrom, rowsOf, endOf, has, twice as doubled, sectionOf, all, kindsGood, tableGood, codecs, ranges, sizesGood, presenceGood, countsGood, bodyOf, sizeCheck, headCheck, tailCheck, sumCheck, tableCheck, frameCheck}
 use Rattle.frame.specs.Open.{recordFrom, recordOf, framedFrom, framedOf, knownOf, keysFrom, offsetGood, offsetsFrom, fenceGood, fencesFrom, fencesGood, contentCheck, fileCheck}
 use Rattle.frame.specs.Cases.{headingOnly, oneEdge}

@@ -1,22 +1,21 @@
 -- What the caller's table holds after the call: for a file that opens, the entries of the section table in their order,
 -- and past them what it held before.
 use mathlib.Core.Path.{_≡_, refl, sym, ap, _∙_}
-use Prim.Native.Nat.{ℕ, zero, suc, _+_, _-_, _*_, _^_, _≤_, _<_}
+use Prim.Native.Nat.{ℕ, zero, suc, _+_, _-_, _≤_, _<_}
 use native.Mathlib.Nat.{zero-add}
 use native.Mathlib.Omega.{arith}
 use mathlib.Core.List.{List, [], _∷_, _++_, map, map-append}
 use lib.ListN.{length, set, drop, getD, length-append}
 use lib.Seq.{sets}
-use Rattle.base.specs.Over.{over, sets-append, sets-over}
+use Rattle.base.specs.Over.{sets-append, sets-over}
 use Rattle.frame.specs.declared.Row.{Row}
 use Rattle.frame.specs.declared.Opened.{Opened}
 use Rattle.frame.specs.declared.Opening.{Opening}
-use Rattle.frame.specs.Frame.{rowAt, nextAt, rowsFrom, endFrom, countOf, rowsOf, endOf, footLen, bodyOf}
-use Rattle.frame.specs.Frame.Laws.{Table, end-room, length-rows}
+use Rattle.frame.specs.Frame.{rowAt, nextAt, rowsFrom, endFrom, rowsOf, endOf, footLen, bodyOf}
+use Rattle.frame.specs.Frame.Laws.{end-room}
 use Rattle.frame.specs.Open.{openOf}
 use Rattle.frame.specs.Open.Laws.{Frames, opens-parts, size-parts, tail-parts}
-use Rattle.reader.specs.declared.rows.Section.{Section}
-use Rattle.reader.specs.Rows.{moved, rowOf, row-here, row-footed}
+use Rattle.reader.specs.Rows.{moved, row-here, row-footed}
 use Rattle.listing.specs.List.{needed, entry, rowIs, listed}
 
 -- ---- the first n rows

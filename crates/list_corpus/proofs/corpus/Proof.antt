@@ -2,7 +2,6 @@
 use mathlib.Core.Path.{_≡_}
 use lib.ListN.{length}
 use borrow.Author.Needs.{needs}
-use native.Mathlib.Omega.{arith}
 use Rattle.list_corpus.proofs.corpus.Statement.{statement}
 use Rattle.list_corpus.proofs.corpus.Tie as tie
 use Rattle.list_corpus.proofs.corpus.Reads as reads

@@ -1,7 +1,6 @@
 -- `list_corpus::left_of` meets its contract.
 use Prim.Native.Nat.{_-_, _≤_}
 use borrow.Author.Needs.{needs}
-use native.Mathlib.Omega.{arith}
 use Rattle.list_corpus.proofs.left_of.Statement.{statement}
 use Rattle.list_corpus.proofs.left_of.Tie as tie
 use Rattle.list_corpus.proofs.left_of.Reads as reads

@@ -1,7 +1,6 @@
 -- `list_corpus::print_rows` meets its contract.
 use Prim.Native.Nat.{_-_, _≤_}
 use borrow.Author.Needs.{needs}
-use native.Mathlib.Omega.{arith}
 use Rattle.list_corpus.proofs.print_rows.Statement.{statement}
 use Rattle.list_corpus.proofs.print_rows.Tie as tie
 use Rattle.list_corpus.proofs.print_rows.Reads as reads

@@ -1,8 +1,7 @@
 -- `listing::count_of` meets its contract.
-use mathlib.Core.Path.{_≡_, refl, sym, ap, _∙_}
+use mathlib.Core.Path.{refl, ap, _∙_}
 use lib.ListN.{length}
 use Rattle.base.specs.Over.{length-part}
-use mathlib.Core.List.{List}
 use Prim.Native.Nat.{_-_}
 use Rattle.frame.specs.Frame.{footLen, countOf}
 use Rattle.listing.specs.List.Laws.{footed}

@@ -1,9 +1,8 @@
 -- `listing::plan_for` meets its contract.
-use mathlib.Core.Path.{_≡_, sym, ap, _∙_}
+use mathlib.Core.Path.{sym, ap, _∙_}
 use Prim.Native.Nat.{ℕ}
 use Rattle.refusal.specs.declared.Refusal.{Refusal}
 use Rattle.listing.specs.declared.Listed.{Listed}
-use Rattle.listing.specs.declared.Plan.{Plan}
 use Rattle.frame.specs.Open.Laws.{opens-parts}
 use Rattle.listing.specs.List.{refusedPlan}
 use Rattle.listing.specs.List.Laws.{plan-unopened, plan-short, plan-good}

@@ -1,8 +1,7 @@
 -- `listing::row_of` meets its contract.
-use mathlib.Core.Path.{_≡_, sym, ap, _∙_}
+use mathlib.Core.Path.{sym, _∙_}
 use Rattle.listing.specs.List.{rowIs}
 use Rattle.listing.specs.List.Laws.{entry-there, entry-none}
-use native.Mathlib.Omega.{arith}
 use borrow.Author.Needs.{needs}
 use Rattle.listing.proofs.row_of.Statement.{statement}
 use Rattle.listing.proofs.row_of.Tie as tie

@@ -1,4 +1,5 @@
--- `listing::table_of` meets its contract: a walk of its MIR, by hand. The table is copied to a local array, which is lent as a slice to `list_sections` for a lifetime that the walk makes, and is back, at what `list_sections` left, once that is ended.
+-- `listing::table_of` meets its contract: a walk of its MIR, by hand. The table is copied to a local array, which is lent as a
+-- slice to `list_sections` for a lifetime that the walk makes, and is back, at what `list_sections` left, once that is ended.
 -- All that the proof knows of `list_sections` is that it meets its contract.
 -- Assumes nothing.
 use mathlib.Core.Path.{_≡_, refl, sym, _∙_, subst}

@@ -1,10 +1,10 @@
 -- The laws of the section list.
 use mathlib.Core.Path.{_≡_, refl, sym, ap, _∙_}
-use Prim.Native.Nat.{ℕ, zero, suc, _+_, _-_, _*_, _^_, _≤_, _<_}
+use Prim.Native.Nat.{ℕ, zero, suc, _-_, _≤_, _<_}
 use native.Mathlib.Omega.{arith}
-use mathlib.Core.List.{List, [], _∷_, _++_}
+use mathlib.Core.List.{List}
 use mathlib.Core.Bool.{Bool, true, false}
-use lib.ListN.{length, set, drop, length-set}
+use lib.ListN.{length, length-set}
 use lib.Dec.{ltb}
 use borrow.Author.Tests.{lt-ltb, le-ltb, ltb-false}
 use Rattle.base.specs.Over.{part}
@@ -15,14 +15,12 @@ use Rattle.refusal.specs.Check.Laws.{bad-then, fine-then}
 use Rattle.frame.specs.declared.Row.{Row}
 use Rattle.frame.specs.declared.Opened.{Opened}
 use Rattle.frame.specs.declared.Opening.{Opening}
-use Rattle.frame.specs.Frame.{countOf, footLen, bodyOf}
+use Rattle.frame.specs.Frame.{footLen, bodyOf}
 use Rattle.frame.specs.Open.{recordOf, fileCheck, opening, openOf}
 use Rattle.frame.specs.Open.Laws.{Frames, size-parts, tail-parts}
 use Rattle.reader.specs.declared.rows.Section.{Section}
-use Rattle.reader.specs.Rows.{rowOf}
 use Rattle.listing.specs.declared.Listed.{Listed}
-use Rattle.listing.specs.declared.Plan.{Plan}
-use Rattle.listing.specs.List.{needed, listCheck, refusedPlan, planned, planOf, answerOf, noRow, entry, rowIs, listed}
+use Rattle.listing.specs.List.{needed, listCheck, refusedPlan, planned, planOf, answerOf, noRow, entry, listed}
 
 -- ---- opening, taken apart
 

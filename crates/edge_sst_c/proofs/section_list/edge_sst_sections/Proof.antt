@@ -1,10 +1,8 @@
 -- `edge_sst_c::section_list::edge_sst_sections` meets its contract.
-use mathlib.Core.Path.{_≡_, sym, ap, _∙_}
-use Prim.Native.Nat.{ℕ}
+use mathlib.Core.Path.{ap, _∙_}
 use lib.ListN.{length}
 use Rattle.listing.specs.declared.Plan.{Plan}
 use Rattle.edge_sst_c.specs.SectionList.{listedTold, numbered, numbers-fit}
-use native.Mathlib.Omega.{arith}
 use borrow.Author.Needs.{needs}
 use Rattle.edge_sst_c.proofs.section_list.edge_sst_sections.Statement.{statement}
 use Rattle.edge_sst_c.proofs.section_list.edge_sst_sections.Tie as tie

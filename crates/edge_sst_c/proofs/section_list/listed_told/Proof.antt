@@ -1,7 +1,5 @@
 -- `edge_sst_c::section_list::listed_told` meets its contract.
-use mathlib.Core.Path.{_≡_, sym, _∙_}
 use Rattle.edge_sst_c.specs.SectionList.{listed-done, listed-refused}
-use native.Mathlib.Omega.{arith}
 use borrow.Author.Needs.{needs}
 use Rattle.edge_sst_c.proofs.section_list.listed_told.Statement.{statement}
 use Rattle.edge_sst_c.proofs.section_list.listed_told.Tie as tie

@@ -1,5 +1,5 @@
 -- `edge_sst_c::section_list::put_rows` meets its contract. Invariant: the numbers of i rows are written.
-use mathlib.Core.Path.{_≡_, refl, sym, ap, _∙_}
+use mathlib.Core.Path.{_≡_, ap, _∙_}
 use Prim.Native.Nat.{ℕ, _-_, _≤_}
 use lib.ListN.{length}
 use Rattle.edge_sst_c.specs.SectionList.{numbered, length-numbered, numbered-on, numbered-none}
