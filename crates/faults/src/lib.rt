@@ -3,24 +3,23 @@ ghost use mathlib.Core.Path.{_≡_};
 ghost use Prim.Native.Nat.{_+_, _*_, _≤_};
 ghost use lib.ListN.{length};
 ghost use Rattle.batch.specs.Batch as spec;
-ghost use Rattle.batch.specs.Batch.{place, inOrder, isEdge, faultFrom, batchCheck};
+ghost use Rattle.batch.specs.Batch.{place, edgeAt, inOrder, isEdge, faultFrom, batchCheck};
 use batch::Edge;
-use batch::edge_at;
 use codes::ids::Order;
 use codes::ids::compare;
+use codes::ids::id_at;
 use refusal::Check;
 use refusal::Refusal;
 
-// Is a before b, by key, then partner?
-fn before(a: Edge, b: Edge) -> bool
-    ensures { λ r. ⌜ r ≡ spec.before a b ⌝ }
+// Is the edge in the record at i before the one at j, by key, then partner? What else the records hold is not read.
+fn before(s: &[u8], i: usize, j: usize) -> bool
+    requires { ⌜ (i + 41 ≤ length (now s)) × (j + 41 ≤ length (now s)) ⌝ }
+    ensures { λ r. ⌜ r ≡ spec.before (edgeAt (now (s .entry)) i) (edgeAt (now (s .entry)) j) ⌝ }
 {
-    let p = a.partner;
-    let q = b.partner;
-    match compare(a.key, b.key) {
+    match compare(id_at(s, i + 1), id_at(s, j + 1)) {
         Order::Less => true,
         Order::Greater => false,
-        Order::Equal => match compare(p, q) {
+        Order::Equal => match compare(id_at(s, i + 17), id_at(s, j + 17)) {
             Order::Less => true,
             Order::Equal => false,
             Order::Greater => false,
@@ -37,7 +36,7 @@ fn in_order(s: &[u8], e: usize) -> bool
         return true;
     }
     let i = Edge::HEAD + Edge::RECORD * e;
-    before(edge_at(s, i - Edge::RECORD), edge_at(s, i))
+    before(s, i - Edge::RECORD, i)
 }
 
 fn is_edge(kind: u8) -> bool

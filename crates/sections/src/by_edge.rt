@@ -6,7 +6,8 @@ ghost use Rattle.base.specs.Put.{Put};
 ghost use Rattle.image.specs.Image.{marksIn, logBytes, octet, tombBytes};
 ghost use Rattle.source.specs.Source.{edgesIn};
 use codes::little::put_le;
-use source::edge_of;
+use source::dead_of;
+use source::log_of;
 
 // Writes the log numbers of n edges.
 pub fn put_logs(kind: u8, a: &[u8], b: &[u8], n: usize, out: &mut [u8], at: usize) -> usize
@@ -16,8 +17,8 @@ pub fn put_logs(kind: u8, a: &[u8], b: &[u8], n: usize, out: &mut [u8], at: usiz
     let mut k: usize = 0;
     let mut to = at;
     while k < n {
-        let e = edge_of(kind, a, b, k);
-        put_le(out, to, 8, e.log);
+        let log = log_of(kind, a, b, k);
+        put_le(out, to, 8, log);
         to = to + 8;
         k = k + 1;
     }
@@ -32,8 +33,7 @@ fn mark_at(kind: u8, a: &[u8], b: &[u8], n: usize, k: usize) -> u64
     if n <= k {
         return 0;
     }
-    let e = edge_of(kind, a, b, k);
-    if e.dead {
+    if dead_of(kind, a, b, k) {
         return 1;
     }
     0

@@ -8,6 +8,10 @@ use Rattle.base.specs.Over.{length-part}
 use Rattle.batch.specs.declared.Edge.{Edge}
 use Rattle.groups.specs.Groups.{Group, GroupEnd}
 use Rattle.base.proofs.Determined.{Determined}
+use Rattle.source.proofs.log_of as log-of
+use Rattle.source.proofs.log_of.Reads as log-of-reads
+use Rattle.source.proofs.dead_of as dead-of
+use Rattle.source.proofs.dead_of.Reads as dead-of-reads
 use Rattle.source.proofs.edge_of as edge-of
 use Rattle.source.proofs.edge_of.Reads as edge-of-reads
 use Rattle.source.proofs.group_end as group-end
@@ -19,6 +23,12 @@ use Rattle.source.proofs.any_dead.Reads as any-dead-reads
 
 pub edge-of-determined : Determined edge-of.ended edge-of-reads.Pre edge-of-reads.Post
 edge-of-determined κs a pre r₁ r₂ w₁ w₂ p q = (p ∙ sym q, refl)
+
+pub log-of-determined : Determined log-of.ended log-of-reads.Pre log-of-reads.Post
+log-of-determined κs a pre r₁ r₂ w₁ w₂ p q = (p ∙ sym q, refl)
+
+pub dead-of-determined : Determined dead-of.ended dead-of-reads.Pre dead-of-reads.Post
+dead-of-determined κs a pre r₁ r₂ w₁ w₂ p q = (p ∙ sym q, refl)
 
 pub count-keys-determined : Determined count-keys.ended count-keys-reads.Pre count-keys-reads.Post
 count-keys-determined κs a pre r₁ r₂ w₁ w₂ p q = (p ∙ sym q, refl)

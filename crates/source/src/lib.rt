@@ -10,6 +10,7 @@ ghost use Rattle.source.specs.Source.{edgesIn};
 use batch::Edge;
 use batch::edge_at;
 use codes::ids::Id;
+use codes::little::le64;
 
 // Edge e.
 pub fn edge_of(kind: u8, a: &[u8], b: &[u8], e: usize) -> Edge
@@ -20,6 +21,28 @@ pub fn edge_of(kind: u8, a: &[u8], b: &[u8], e: usize) -> Edge
         return edge_at(a, Edge::HEAD + Edge::RECORD * e);
     }
     edge_at(b, Edge::HEAD + Edge::RECORD * e)
+}
+
+// The log number of edge e alone: the last 8 bytes of its record.
+pub fn log_of(kind: u8, a: &[u8], b: &[u8], e: usize) -> u64
+    requires { ⌜ e < length (edgesIn kind (now a) (now b)) ⌝ }
+    ensures { λ r. ⌜ r ≡ getD (edgesIn kind (now (a .entry)) (now (b .entry))) e none .log ⌝ }
+{
+    if kind == 0 {
+        return le64(a, Edge::HEAD + Edge::RECORD * (e + 1) - 8);
+    }
+    le64(b, Edge::HEAD + Edge::RECORD * (e + 1) - 8)
+}
+
+// Is edge e dead? Its record's kind says so.
+pub fn dead_of(kind: u8, a: &[u8], b: &[u8], e: usize) -> bool
+    requires { ⌜ e < length (edgesIn kind (now a) (now b)) ⌝ }
+    ensures { λ r. ⌜ r ≡ getD (edgesIn kind (now (a .entry)) (now (b .entry))) e none .dead ⌝ }
+{
+    if kind == 0 {
+        return a[Edge::HEAD + Edge::RECORD * e] == Edge::DEAD;
+    }
+    b[Edge::HEAD + Edge::RECORD * e] == Edge::DEAD
 }
 
 fn same_id(a: Id, b: Id) -> bool
@@ -73,8 +96,7 @@ pub fn any_dead(kind: u8, a: &[u8], b: &[u8], n: usize) -> bool
 {
     let mut k: usize = 0;
     while k < n {
-        let e = edge_of(kind, a, b, k);
-        if e.dead {
+        if dead_of(kind, a, b, k) {
             return true;
         }
         k = k + 1;

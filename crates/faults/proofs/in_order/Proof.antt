@@ -1,4 +1,4 @@
-use mathlib.Core.Path.{_≡_, sym, ap, ap₂, _∙_}
+use mathlib.Core.Path.{_≡_, sym, ap, _∙_}
 use Prim.Native.Nat.{ℕ, _-_, _<_}
 use native.Mathlib.Omega.{arith}
 use Rattle.batch.specs.Batch.{place, edgeAt, before}
@@ -19,36 +19,18 @@ mul-i c = search needs
 add-i : tie.Need-add-i
 add-i c = search needs
 
-sub-edge-at : tie.Need-sub-edge-at
-sub-edge-at c = search needs
-
-edge-at-requires : tie.Need-edge-at-requires
-edge-at-requires c κs = search needs
-
-edge-at-requires-2 : tie.Need-edge-at-requires-2
-edge-at-requires-2 c κs = search needs
+sub-before : tie.Need-sub-before
+sub-before c = search needs
 
 before-requires : tie.Need-before-requires
 before-requires c κs = search needs
 
 returns-2 : tie.Need-returns-2
 returns-2 c =
-    let a = c .before .before .before .before .before .args in
+    let a = c .before .before .before .args in
     let s = a .s .now in
     let e = a .e in
-    c .before2 .ensures
-    ∙ ap₂ before (c .before .before .edge-at .ensures ∙ ap (edgeAt s) (sym (at e (omega arith)))) (c .before .edge-at2 .ensures)
-    ∙ sym (order-next s e (omega arith))
+    c .before2 .ensures ∙ ap (λ (t : ℕ). before (edgeAt s t) (edgeAt s (place e))) (sym (at e (omega arith))) ∙ sym (order-next s e (omega arith))
 
 pub in-order-spec : {M : Type 1} → statement M
-in-order-spec =
-    tie.close
-    (tie.spec
-    returns
-    mul-i
-    add-i
-    sub-edge-at
-    edge-at-requires
-    edge-at-requires-2
-    before-requires
-    returns-2)
+in-order-spec = tie.close (tie.spec returns mul-i add-i sub-before before-requires returns-2)

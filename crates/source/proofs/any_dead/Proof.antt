@@ -2,7 +2,7 @@ use mathlib.Core.Path.{_≡_, refl, sym, ap, _∙_}
 use Prim.Native.Nat.{ℕ, _+_, _-_, _≤_, _<_}
 use native.Mathlib.Omega.{arith}
 use mathlib.Core.List.{List}
-use mathlib.Core.Bool.{true, false, _||_}
+use mathlib.Core.Bool.{Bool, true, false, _||_}
 use lib.ListN.{length, getD, drop}
 use Rattle.batch.specs.declared.Edge.{Edge}
 use Rattle.groups.specs.Groups.{none}
@@ -12,14 +12,14 @@ use Rattle.source.specs.Source.{edgesIn}
 use Rattle.source.proofs.any_dead.Statement.{statement}
 use Rattle.source.proofs.any_dead.Tie as tie
 
-module _ (es : List Edge) (k : ℕ) (x : Edge) (e : x ≡ getD es k none) (h : k < length es) (i : anyDead (drop k es) ≡ anyDead es) where
-  first : x .dead || anyDead (drop (k + 1) es) ≡ anyDead es
-  first = ap (λ (t : Edge). t .dead || anyDead (drop (k + 1) es)) e ∙ sym (dead-step es k h) ∙ i
+module _ (es : List Edge) (k : ℕ) (x : Bool) (e : x ≡ getD es k none .dead) (h : k < length es) (i : anyDead (drop k es) ≡ anyDead es) where
+  first : x || anyDead (drop (k + 1) es) ≡ anyDead es
+  first = ap (λ (t : Bool). t || anyDead (drop (k + 1) es)) e ∙ sym (dead-step es k h) ∙ i
 
-  dead : x .dead ≡ true → true ≡ anyDead es
+  dead : x ≡ true → true ≡ anyDead es
   dead t = rw t at first
 
-  live : x .dead ≡ false → anyDead (drop (k + 1) es) ≡ anyDead es
+  live : x ≡ false → anyDead (drop (k + 1) es) ≡ anyDead es
   live t = rw t at first
 
 abbrev Inv-loop : tie.InvT-loop
@@ -31,15 +31,15 @@ abbrev μ-loop : tie.MeasureT-loop
 loop-holds : tie.Need-loop-holds Inv-loop μ-loop
 loop-holds c = (omega arith, refl)
 
-edge-of-requires : tie.Need-edge-of-requires Inv-loop μ-loop
-edge-of-requires c κs = omega arith
+dead-of-requires : tie.Need-dead-of-requires Inv-loop μ-loop
+dead-of-requires c κs = omega arith
 
 returns : tie.Need-returns Inv-loop μ-loop
 returns c =
     let a = c .before .before .before .before .before .before .args in
     let l = c .before .before .before .loop in
     let es = edgesIn (a .kind) (a .a .now) (a .b .now) in
-    dead es (l .k) _ (c .before .edge-of .ensures) (omega arith) (l .inv .1) (c .if1 .taken)
+    dead es (l .k) _ (c .before .dead-of .ensures) (omega arith) (l .inv .1) (c .if1 .taken)
 
 add-k : tie.Need-add-k Inv-loop μ-loop
 add-k c = omega arith
@@ -52,7 +52,7 @@ loop-again c =
     let a = c .before .before .before .before .before .before .args in
     let l = c .before .before .before .loop in
     let es = edgesIn (a .kind) (a .a .now) (a .b .now) in
-    (omega arith, live es (l .k) _ (c .before .edge-of .ensures) (omega arith) (l .inv .1) (c .if1 .left))
+    (omega arith, live es (l .k) _ (c .before .dead-of .ensures) (omega arith) (l .inv .1) (c .if1 .left))
 
 returns-2 : tie.Need-returns-2 Inv-loop μ-loop
 returns-2 c =
@@ -68,7 +68,7 @@ any-dead-spec =
     Inv-loop
     μ-loop
     loop-holds
-    edge-of-requires
+    dead-of-requires
     returns
     add-k
     loop-less

@@ -1,11 +1,12 @@
 -- The edges of a source by their number.
 use mathlib.Core.Path.{_≡_, refl, sym, ap, _∙_}
-use Prim.Native.Nat.{ℕ, _<_}
+use Prim.Native.Nat.{ℕ, _+_, _<_}
 use mathlib.Core.List.{List}
 use lib.ListN.{length, getD}
 use lib.Dec.{eqb}
 use borrow.Author.Tests.{eq-eqb, ne-eqb}
 use Rattle.base.specs.Pick.{pick}
+use Rattle.codes.specs.Little.{leAt}
 use Rattle.batch.specs.declared.Edge.{Edge}
 use Rattle.batch.specs.Batch.{edgeAt, place, countOf, edgesOf}
 use Rattle.groups.specs.Groups.{none}
@@ -29,3 +30,20 @@ module _ (kind : ℕ) (a b : List ℕ) where
     pub edge-second : (kind ≡ 0 → ⊥) → (e < countOf b) × (getD (edgesIn kind a b) e none ≡ edgeAt b (place e))
     edge-second k =
         let q = in-second k in let r = of-batch b e (rw q at h) in (r .0, ap (λ (t : List Edge). getD t e none) q ∙ r .1)
+
+    -- of one field alone
+    pub log-first : kind ≡ 0 → (e < countOf a) × (getD (edgesIn kind a b) e none .log ≡ leAt a (place e + 33) 8)
+    unfolding edgeAt
+    log-first k = let q = edge-first k in (q .0, ap (λ (t : Edge). t .log) (q .1))
+
+    pub log-second : (kind ≡ 0 → ⊥) → (e < countOf b) × (getD (edgesIn kind a b) e none .log ≡ leAt b (place e + 33) 8)
+    unfolding edgeAt
+    log-second k = let q = edge-second k in (q .0, ap (λ (t : Edge). t .log) (q .1))
+
+    pub dead-first : kind ≡ 0 → (e < countOf a) × (getD (edgesIn kind a b) e none .dead ≡ eqb (getD a (place e) 0) 2)
+    unfolding edgeAt
+    dead-first k = let q = edge-first k in (q .0, ap (λ (t : Edge). t .dead) (q .1))
+
+    pub dead-second : (kind ≡ 0 → ⊥) → (e < countOf b) × (getD (edgesIn kind a b) e none .dead ≡ eqb (getD b (place e) 0) 2)
+    unfolding edgeAt
+    dead-second k = let q = edge-second k in (q .0, ap (λ (t : Edge). t .dead) (q .1))

@@ -21,16 +21,16 @@ record Head (es : List Edge) (n : ℕ) (o : List ℕ) (at : ℕ) (out : List ℕ
   left : Left out to (logBytes (drop k es)) o at (logBytes es)
 
 module _ (es : List Edge) (n : ℕ) (o : List ℕ) (at : ℕ) (out : List ℕ) (k to : ℕ) (h : Head es n o at out k to) where
-  module _ (lt : k < length es) (x : Edge) (e : x ≡ getD es k none) where
-    todo : Left out to (leBytes 8 (x .log) ++ logBytes (drop (k + 1) es)) o at (logBytes es)
-    todo = P.is (logs-step es k lt ∙ ap (λ (t : Edge). leBytes 8 (t .log) ++ logBytes (drop (k + 1) es)) (sym e)) (h .left)
+  module _ (lt : k < length es) (x : ℕ) (e : x ≡ getD es k none .log) where
+    todo : Left out to (leBytes 8 x ++ logBytes (drop (k + 1) es)) o at (logBytes es)
+    todo = P.is (logs-step es k lt ∙ ap (λ (t : ℕ). leBytes 8 t ++ logBytes (drop (k + 1) es)) (sym e)) (h .left)
 
     room : at + length (logBytes es) ≤ length o → to + 8 ≤ length out
-    room g = omega (arith, P.room (leBytes 8 (x .log)) (logBytes (drop (k + 1) es)) todo g, length-leBytes 8 (x .log))
+    room g = omega (arith, P.room (leBytes 8 x) (logBytes (drop (k + 1) es)) todo g, length-leBytes 8 x)
 
-    again : {o₁ : List ℕ} → k < n → o₁ ≡ sets out to (leBytes 8 (x .log)) → Head es n o at o₁ (k + 1) (to + 8)
+    again : {o₁ : List ℕ} → k < n → o₁ ≡ sets out to (leBytes 8 x) → Head es n o at o₁ (k + 1) (to + 8)
     again {o₁} l f =
-        let q : Put out o₁ to (to + 8) (leBytes 8 (x .log)) = record { place = ap (λ (t : ℕ). to + t) (sym (length-leBytes 8 (x .log))); bytes = f } in
+        let q : Put out o₁ to (to + 8) (leBytes 8 x) = record { place = ap (λ (t : ℕ). to + t) (sym (length-leBytes 8 x)); bytes = f } in
         record { upto = omega arith; left = P.put todo q }
 
   done : k ≡ length es → Put o out at to (logBytes es)
@@ -45,22 +45,22 @@ abbrev μ-loop : tie.MeasureT-loop
 loop-holds : tie.Need-loop-holds Inv-loop μ-loop
 loop-holds c = record { upto = omega arith; left = P.start (c .before .before .before .args .out .now) (c .before .before .before .args .at) _ }
 
-edge-of-requires : tie.Need-edge-of-requires Inv-loop μ-loop
-edge-of-requires c κs = omega arith
+log-of-requires : tie.Need-log-of-requires Inv-loop μ-loop
+log-of-requires c κs = omega arith
 
 put-le-requires : tie.Need-put-le-requires Inv-loop μ-loop
 put-le-requires c κs =
     let a = c .before .before .before .before .before .before .before .args in
     let l = c .before .before .before .loop in
     let es = edgesIn (a .kind) (a .a .now) (a .b .now) in
-    room es (a .n) (a .out .now) (a .at) (l .out) (l .k) (l .to) (l .inv) (omega arith) _ (c .before .edge-of .ensures) (c .before .before .before .before .before .before .before .pre .1)
+    room es (a .n) (a .out .now) (a .at) (l .out) (l .k) (l .to) (l .inv) (omega arith) _ (c .before .log-of .ensures) (c .before .before .before .before .before .before .before .pre .1)
 
 add-to : tie.Need-add-to Inv-loop μ-loop
 add-to c =
     let a = c .before .before .before .before .before .before .before .before .before .before .args in
     let l = c .before .before .before .before .before .before .loop in
     let es = edgesIn (a .kind) (a .a .now) (a .b .now) in
-    let r = room es (a .n) (a .out .now) (a .at) (l .out) (l .k) (l .to) (l .inv) (omega arith) _ (c .before .before .before .before .edge-of .ensures) (c .before .before .before .before .before .before .before .before .before .before .pre .1) in omega arith
+    let r = room es (a .n) (a .out .now) (a .at) (l .out) (l .k) (l .to) (l .inv) (omega arith) _ (c .before .before .before .before .log-of .ensures) (c .before .before .before .before .before .before .before .before .before .before .pre .1) in omega arith
 
 add-k : tie.Need-add-k Inv-loop μ-loop
 add-k c = omega arith
@@ -73,7 +73,7 @@ loop-again c =
     let a = c .before .before .before .before .before .before .before .before .before .before .args in
     let l = c .before .before .before .before .before .before .loop in
     let es = edgesIn (a .kind) (a .a .now) (a .b .now) in
-    again es (a .n) (a .out .now) (a .at) (l .out) (l .k) (l .to) (l .inv) (omega arith) _ (c .before .before .before .before .edge-of .ensures) (omega arith) (c .before .before .put-le .ensures)
+    again es (a .n) (a .out .now) (a .at) (l .out) (l .k) (l .to) (l .inv) (omega arith) _ (c .before .before .before .before .log-of .ensures) (omega arith) (c .before .before .put-le .ensures)
 
 same-length : tie.Need-same-length Inv-loop μ-loop
 same-length c = c .before .loop .inv .left .same
@@ -92,7 +92,7 @@ put-logs-spec =
     Inv-loop
     μ-loop
     loop-holds
-    edge-of-requires
+    log-of-requires
     put-le-requires
     add-to
     add-k
