@@ -12,6 +12,7 @@ extern "C" {
 /* The refusals, as the calls tell them in number; 0 is none. Their texts:
  * edge_sst_text. */
 enum {
+    /* numbers: from refusals.txt */
     EDGE_SST_SIZE = 1,
     EDGE_SST_MAGIC,
     EDGE_SST_MAJOR,
@@ -38,11 +39,13 @@ enum {
     EDGE_SST_BATCH,
     EDGE_SST_UNORDERED,
     EDGE_SST_BOUNDS
+    /* numbers: to here */
 };
 
 /* What a number says, for people. */
 static inline const char *edge_sst_text(uint64_t number) {
     static const char *const texts[] = {
+        /* texts: from refusals.txt */
         "no refusal",
         "file under 84 or over 2^30 bytes",
         "magic",
@@ -70,6 +73,7 @@ static inline const char *edge_sst_text(uint64_t number) {
         "batch record unknown, cut or misplaced",
         "batch order",
         "more keys, edges or file bytes than the bounds",
+        /* texts: to here */
     };
     return number < sizeof texts / sizeof texts[0] ? texts[number] : "unknown refusal";
 }
@@ -186,7 +190,7 @@ EdgeSstListed edge_sst_sections(const uint8_t *p, size_t n, uint64_t *numbers, s
 
 /* The same over a table of m rows. */
 static inline EdgeSstListed edge_sst_list(const uint8_t *p, size_t n, EdgeSstRow *rows, size_t m) {
-    return edge_sst_sections(p, n, &rows->kind, 7 * m);
+    return edge_sst_sections(p, n, (uint64_t *)rows, 7 * m);
 }
 
 #ifdef __cplusplus

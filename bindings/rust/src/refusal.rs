@@ -11,6 +11,7 @@ pub struct Refusal {
 }
 
 /// The text of each number, as in the C header.
+// texts: from refusals.txt
 const TEXTS: [&str; 27] = [
     "no refusal",
     "file under 84 or over 2^30 bytes",
@@ -40,6 +41,7 @@ const TEXTS: [&str; 27] = [
     "batch order",
     "more keys, edges or file bytes than the bounds",
 ];
+// texts: to here
 
 impl Refusal {
     /// The number of a refusal for want of room; its place is what is needed.

@@ -46,6 +46,10 @@ fencesHead = 8
 abbrev pub entrySize : ℕ
 entrySize = 28
 
+-- bytes of the key count, the edge count and the offset bits, which end the footer body
+abbrev pub countsSize : ℕ
+countsSize = 17
+
 -- `TGEDGE` and two zero bytes, and the number that they make
 abbrev pub magicBytes : List ℕ
 magicBytes = 84 ∷ 71 ∷ 69 ∷ 68 ∷ 71 ∷ 69 ∷ 0 ∷ 0 ∷ []

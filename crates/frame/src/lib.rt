@@ -56,6 +56,9 @@ impl Row {
     // Bytes of an entry without its name.
     pub const ENTRY: usize = 28;
 
+    // Bytes of the counts and the offset bits, which follow the last entry.
+    pub const COUNTS: usize = 17;
+
     // An entry without a name, as kinds 1 to 6 have it.
     pub fn raw(kind: u16, start: u64, len: u64, sum: u64) -> Row
         ensures { λ r. ⌜ r ≡ rawRow kind start len sum ⌝ }

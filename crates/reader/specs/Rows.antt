@@ -28,9 +28,9 @@ moved at r = record {
   sum = r .sum;
 }
 
--- entry i lies in the body, name and all
+-- entry i lies in the body before the counts, name and all
 abbrev pub within : List ℕ → ℕ → Bool
-within b i = ltb i (countOf b) && leb (endFrom (suc i) b 2) (length b)
+within b i = ltb i (countOf b) && leb (endFrom (suc i) b 2 + kind.countsSize) (length b)
 
 unfoldable pub rowIn : ℕ → List ℕ → ℕ → Section
 rowIn at b i = pick (within b i) (Section.Entry (moved at (rowAt b (endFrom i b 2)))) Section.Missing
@@ -66,11 +66,11 @@ module _ (at : ℕ) (b : List ℕ) (i : ℕ) where
     row-cut h =
         let room = end-room (suc (i - k)) b p in
         let q = ends in
-        let past : length b < endFrom (suc i) b 2 = omega arith in
+        let past : length b < endFrom (suc i) b 2 + kind.countsSize = omega arith in
         go (ltb i (countOf b)) past
       where
-        go : (t : Bool) → length b < endFrom (suc i) b 2 → pick (t && leb (endFrom (suc i) b 2) (length b)) (Section.Entry (moved at (rowAt b (endFrom i b 2)))) Section.Missing ≡ Section.Missing
-        go true h = simp (lt-leb (endFrom (suc i) b 2) (length b) h)
+        go : (t : Bool) → length b < endFrom (suc i) b 2 + kind.countsSize → pick (t && leb (endFrom (suc i) b 2 + kind.countsSize) (length b)) (Section.Entry (moved at (rowAt b (endFrom i b 2)))) Section.Missing ≡ Section.Missing
+        go true h = simp (lt-leb (endFrom (suc i) b 2 + kind.countsSize) (length b) h)
         go false h = refl
 
     pub row-on : k < i → (name : ℕ) → name ≡ getD b (p + 3) 0 → endFrom (i - (k + 1)) b (p + 28 + name) ≡ endFrom i b 2
@@ -84,17 +84,17 @@ module _ (at : ℕ) (b : List ℕ) (i : ℕ) where
     last : (name : ℕ) → name ≡ getD b (p + 3) 0 → endFrom (suc i) b 2 ≡ p + 28 + name
     last name q = end-last i b 2 ∙ ap (nextAt b) (sym e) ∙ ap (λ (t : ℕ). p + 28 + t) (sym q)
 
-    pub row-past : (name : ℕ) → name ≡ getD b (p + 3) 0 → length b < p + 28 + name → rowIn at b i ≡ Section.Missing
+    pub row-past : (name : ℕ) → name ≡ getD b (p + 3) 0 → length b < p + 28 + name + kind.countsSize → rowIn at b i ≡ Section.Missing
     unfolding rowIn
     row-past name q g =
         let z = last name q in
-        simp (lt-ltb i (countOf b) h, lt-leb (endFrom (suc i) b 2) (length b) (omega arith))
+        simp (lt-ltb i (countOf b) h, lt-leb (endFrom (suc i) b 2 + kind.countsSize) (length b) (omega arith))
 
-    pub row-here : (name : ℕ) → name ≡ getD b (p + 3) 0 → p + 28 + name ≤ length b → (r : Row) → r ≡ rowAt b p → rowIn at b i ≡ Section.Entry (moved at r)
+    pub row-here : (name : ℕ) → name ≡ getD b (p + 3) 0 → p + 28 + name + kind.countsSize ≤ length b → (r : Row) → r ≡ rowAt b p → rowIn at b i ≡ Section.Entry (moved at r)
     unfolding rowIn
     row-here name q g r d =
         let z = last name q in
-        simp (lt-ltb i (countOf b) h, le-leb (endFrom (suc i) b 2) (length b) (omega arith))
+        simp (lt-ltb i (countOf b) h, le-leb (endFrom (suc i) b 2 + kind.countsSize) (length b) (omega arith))
         (ap (λ (t : Row). Section.Entry (moved at t)) (sym (d ∙ ap (rowAt b) e)))
 
 pub row-name : (b : List ℕ) (p : ℕ) (r : Row) → r ≡ rowAt b p → r .nameat ≡ p + 28

@@ -1,56 +1,65 @@
--- Document 01's table of refusals: the number of each case, and its place.
+-- The documents' table of refusals: the number of each case, and its place. Both are made from refusals.txt.
 use Prim.Native.Nat.{ℕ}
 use Rattle.refusal.specs.declared.Refusal.{Refusal}
 
 abbrev pub numberOf : Refusal → ℕ
--- file under 84 or over 2^30 bytes
+-- numbers: from refusals.txt
+-- the file has under 84 or over 2^30 bytes
 numberOf Refusal.Size = 1
--- magic; major not 1; header size not 64
+-- the first eight bytes are not the magic
 numberOf Refusal.Magic = 2
+-- the major version is not 1
 numberOf Refusal.Major = 3
+-- the header size is not 64
 numberOf Refusal.HeaderSize = 4
 -- a flag bit 4 to 31 is set
 numberOf Refusal.Flags = 5
--- tail magic; footer length under 39 or over size - 64
+-- the last eight bytes are not the magic
 numberOf Refusal.TailMagic = 6
+-- the footer length is under 39 or over the size less 64
 numberOf Refusal.FooterLength = 7
--- footer checksum
+-- the footer's checksum is another
 numberOf Refusal.FooterSum = 8
--- table doesn't fill the body, section count, name rules, missing or doubled kind
+-- the table does not fill the body, section count, name rules, a kind missing or doubled
 numberOf Refusal.Table = 9
--- kind 1 to 6 not raw; range rule broken
+-- a section of kind 1 to 6 is not raw
 numberOf (Refusal.Codec entry) = 10
+-- a section's range breaks a rule
 numberOf (Refusal.Range entry) = 11
--- counts, lengths, presence
+-- counts over their bounds, offset bits, a length that the counts do not give, edges below keys, edges without keys, fences missing, bit 0 unlike the presence of a property stream, bit 1 without section 5
 numberOf Refusal.Counts = 12
--- key not above the last; offset rule
+-- a key is not above the one before
 numberOf (Refusal.Key index) = 13
+-- an offset breaks a rule
 numberOf (Refusal.Offset index) = 14
--- fence section
+-- the fences break a rule
 numberOf Refusal.Fences = 15
--- unknown tag
+-- the group's tag is unknown
 numberOf (Refusal.Tag group) = 16
--- varint cut, too long or too large
+-- a varint is cut by the group's end, too long or too large
 numberOf (Refusal.Varint group) = 17
 -- degree 0, order, upper half too large, group cut or overlong
 numberOf (Refusal.Group group) = 18
--- an earlier degree unreadable or 0, or the sum through this group above the edge count
+-- an earlier degree is unreadable or 0, or the sum through this group is above the edge count
 numberOf (Refusal.Degrees group) = 19
--- output too short
+-- an output is too short
 numberOf (Refusal.Room needed) = 20
--- opened record
+-- an opened record whose ranges leave the file, or whose counts, offset bits or lengths break rule 12; a file over 2^30 bytes
 numberOf Refusal.Record = 21
--- a section's checksum
+-- a section's checksum is another, skipped kinds too
 numberOf (Refusal.Sum entry) = 22
--- degree sum not the edge count; bit 1 or 2 not as the data; unused bits
+-- the degree sum is not the edge count, bit 1 or 2 is not as the data, an unused tombstone bit is set
 numberOf Refusal.Data = 23
--- batch record unknown, cut or misplaced; order
+-- a batch's record is unknown, cut or misplaced
 numberOf (Refusal.Batch at) = 24
+-- a batch's edge is not above the one before
 numberOf (Refusal.Unordered at) = 25
 -- more keys, edges or file bytes than the bounds
 numberOf Refusal.Bounds = 26
+-- numbers: to here
 
 abbrev pub placeOf : Refusal → ℕ
+-- places: from refusals.txt
 placeOf Refusal.Size = 0
 placeOf Refusal.Magic = 0
 placeOf Refusal.Major = 0
@@ -77,3 +86,35 @@ placeOf Refusal.Data = 0
 placeOf (Refusal.Batch at) = at
 placeOf (Refusal.Unordered at) = at
 placeOf Refusal.Bounds = 0
+-- places: to here
+
+-- a second place beside it, 0 where there is none
+abbrev pub besideOf : Refusal → ℕ
+-- places beside: from refusals.txt
+besideOf Refusal.Size = 0
+besideOf Refusal.Magic = 0
+besideOf Refusal.Major = 0
+besideOf Refusal.HeaderSize = 0
+besideOf Refusal.Flags = 0
+besideOf Refusal.TailMagic = 0
+besideOf Refusal.FooterLength = 0
+besideOf Refusal.FooterSum = 0
+besideOf Refusal.Table = 0
+besideOf (Refusal.Codec entry) = 0
+besideOf (Refusal.Range entry) = 0
+besideOf Refusal.Counts = 0
+besideOf (Refusal.Key index) = 0
+besideOf (Refusal.Offset index) = 0
+besideOf Refusal.Fences = 0
+besideOf (Refusal.Tag group) = 0
+besideOf (Refusal.Varint group) = 0
+besideOf (Refusal.Group group) = 0
+besideOf (Refusal.Degrees group) = 0
+besideOf (Refusal.Room needed) = 0
+besideOf Refusal.Record = 0
+besideOf (Refusal.Sum entry) = 0
+besideOf Refusal.Data = 0
+besideOf (Refusal.Batch at) = 0
+besideOf (Refusal.Unordered at) = 0
+besideOf Refusal.Bounds = 0
+-- places beside: to here

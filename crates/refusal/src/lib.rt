@@ -1,9 +1,10 @@
-// Why a call refuses: one case for each number of document 01. Which number a case has, and what its place is, stands
-// in specs/Refusal.antt and nowhere else.
+// Why a call refuses: one case for each number. The cases, their numbers and their places are made from refusals.txt by
+// tools/refusals, here and in specs/Refusal.antt.
 ghost use mathlib.Core.Path.{_≡_};
-ghost use Rattle.refusal.specs.Refusal.{numberOf, placeOf};
+ghost use Rattle.refusal.specs.Refusal.{numberOf, placeOf, besideOf};
 
 pub enum Refusal {
+    // cases: from refusals.txt
     // opening
     Size,
     Magic,
@@ -34,6 +35,7 @@ pub enum Refusal {
     Batch { at: u64 },
     Unordered { at: u64 },
     Bounds,
+    // cases: to here
 }
 
 // What a rule says.
@@ -42,48 +44,55 @@ pub enum Check {
     Bad { refusal: Refusal },
 }
 
-// A refusal as document 01 tells it.
+// A refusal as the documents tell it: its number, its place, and a second place beside it, which is 0 where there is none.
 pub struct Told {
     pub number: u8,
     pub place: u64,
+    pub beside: u64,
 }
 
-fn tell(number: u8, place: u64) -> Told
-    ensures { λ t. ⌜ (t .number ≡ number) × (t .place ≡ place) ⌝ }
+fn tell(number: u8, place: u64, beside: u64) -> Told
+    ensures { λ t. ⌜ (t .number ≡ number) × (t .place ≡ place) × (t .beside ≡ beside) ⌝ }
 {
-    Told { number, place }
+    Told {
+        number,
+        place,
+        beside,
+    }
 }
 
-// The number and the place of a refusal.
+// The number and the places of a refusal.
 pub fn told_of(r: Refusal) -> Told
-    ensures { λ t. ⌜ (t .number ≡ numberOf r) × (t .place ≡ placeOf r) ⌝ }
+    ensures { λ t. ⌜ (t .number ≡ numberOf r) × (t .place ≡ placeOf r) × (t .beside ≡ besideOf r) ⌝ }
 {
     match r {
-        Refusal::Size => tell(1, 0),
-        Refusal::Magic => tell(2, 0),
-        Refusal::Major => tell(3, 0),
-        Refusal::HeaderSize => tell(4, 0),
-        Refusal::Flags => tell(5, 0),
-        Refusal::TailMagic => tell(6, 0),
-        Refusal::FooterLength => tell(7, 0),
-        Refusal::FooterSum => tell(8, 0),
-        Refusal::Table => tell(9, 0),
-        Refusal::Codec { entry } => tell(10, entry),
-        Refusal::Range { entry } => tell(11, entry),
-        Refusal::Counts => tell(12, 0),
-        Refusal::Key { index } => tell(13, index),
-        Refusal::Offset { index } => tell(14, index),
-        Refusal::Fences => tell(15, 0),
-        Refusal::Tag { group } => tell(16, group),
-        Refusal::Varint { group } => tell(17, group),
-        Refusal::Group { group } => tell(18, group),
-        Refusal::Degrees { group } => tell(19, group),
-        Refusal::Room { needed } => tell(20, needed),
-        Refusal::Record => tell(21, 0),
-        Refusal::Sum { entry } => tell(22, entry),
-        Refusal::Data => tell(23, 0),
-        Refusal::Batch { at } => tell(24, at),
-        Refusal::Unordered { at } => tell(25, at),
-        Refusal::Bounds => tell(26, 0),
+        // told: from refusals.txt
+        Refusal::Size => tell(1, 0, 0),
+        Refusal::Magic => tell(2, 0, 0),
+        Refusal::Major => tell(3, 0, 0),
+        Refusal::HeaderSize => tell(4, 0, 0),
+        Refusal::Flags => tell(5, 0, 0),
+        Refusal::TailMagic => tell(6, 0, 0),
+        Refusal::FooterLength => tell(7, 0, 0),
+        Refusal::FooterSum => tell(8, 0, 0),
+        Refusal::Table => tell(9, 0, 0),
+        Refusal::Codec { entry } => tell(10, entry, 0),
+        Refusal::Range { entry } => tell(11, entry, 0),
+        Refusal::Counts => tell(12, 0, 0),
+        Refusal::Key { index } => tell(13, index, 0),
+        Refusal::Offset { index } => tell(14, index, 0),
+        Refusal::Fences => tell(15, 0, 0),
+        Refusal::Tag { group } => tell(16, group, 0),
+        Refusal::Varint { group } => tell(17, group, 0),
+        Refusal::Group { group } => tell(18, group, 0),
+        Refusal::Degrees { group } => tell(19, group, 0),
+        Refusal::Room { needed } => tell(20, needed, 0),
+        Refusal::Record => tell(21, 0, 0),
+        Refusal::Sum { entry } => tell(22, entry, 0),
+        Refusal::Data => tell(23, 0, 0),
+        Refusal::Batch { at } => tell(24, at, 0),
+        Refusal::Unordered { at } => tell(25, at, 0),
+        Refusal::Bounds => tell(26, 0, 0),
+        // told: to here
     }
 }

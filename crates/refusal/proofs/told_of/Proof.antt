@@ -2,15 +2,16 @@
 use mathlib.Core.Path.{_≡_}
 use Prim.Native.Nat.{ℕ}
 use Rattle.refusal.specs.declared.Refusal.{Refusal}
-use Rattle.refusal.specs.Refusal.{numberOf, placeOf}
+use Rattle.refusal.specs.Refusal.{numberOf, placeOf, besideOf}
 use borrow.Author.Needs.{needs}
 use Rattle.refusal.proofs.told_of.Statement.{statement}
 use Rattle.refusal.proofs.told_of.Tie as tie
 
 -- what is told of a case is told of a refusal that is that case
-is : {n p : ℕ} {r s : Refusal} → r ≡ s → n ≡ numberOf s → p ≡ placeOf s → (n ≡ numberOf r) × (p ≡ placeOf r)
-is e d f = (rw e d, rw e f)
+is : {n p q : ℕ} {r s : Refusal} → r ≡ s → (n ≡ numberOf s) × (p ≡ placeOf s) × (q ≡ besideOf s) → (n ≡ numberOf r) × (p ≡ placeOf r) × (q ≡ besideOf r)
+is e (a, b, c) = (rw e a, rw e b, rw e c)
 
+-- needs: from refusals.txt
 enum-told : tie.Need-enum-told
 enum-told c = search needs
 
@@ -168,82 +169,82 @@ tell-requires-26 : tie.Need-tell-requires-26
 tell-requires-26 c κs = search needs
 
 returns : tie.Need-returns
-returns c = is (c .before .enum-told .given .1) (c .tell .ensures .0) (c .tell .ensures .1)
+returns c = is (c .before .enum-told .given .1) (c .tell .ensures)
 
 returns-2 : tie.Need-returns-2
-returns-2 c = is (c .before .enum-told2 .given .1) (c .tell2 .ensures .0) (c .tell2 .ensures .1)
+returns-2 c = is (c .before .enum-told2 .given .1) (c .tell2 .ensures)
 
 returns-3 : tie.Need-returns-3
-returns-3 c = is (c .before .enum-told3 .given .1) (c .tell3 .ensures .0) (c .tell3 .ensures .1)
+returns-3 c = is (c .before .enum-told3 .given .1) (c .tell3 .ensures)
 
 returns-4 : tie.Need-returns-4
-returns-4 c = is (c .before .enum-told4 .given .1) (c .tell4 .ensures .0) (c .tell4 .ensures .1)
+returns-4 c = is (c .before .enum-told4 .given .1) (c .tell4 .ensures)
 
 returns-5 : tie.Need-returns-5
-returns-5 c = is (c .before .enum-told5 .given .1) (c .tell5 .ensures .0) (c .tell5 .ensures .1)
+returns-5 c = is (c .before .enum-told5 .given .1) (c .tell5 .ensures)
 
 returns-6 : tie.Need-returns-6
-returns-6 c = is (c .before .enum-told6 .given .1) (c .tell6 .ensures .0) (c .tell6 .ensures .1)
+returns-6 c = is (c .before .enum-told6 .given .1) (c .tell6 .ensures)
 
 returns-7 : tie.Need-returns-7
-returns-7 c = is (c .before .enum-told7 .given .1) (c .tell7 .ensures .0) (c .tell7 .ensures .1)
+returns-7 c = is (c .before .enum-told7 .given .1) (c .tell7 .ensures)
 
 returns-8 : tie.Need-returns-8
-returns-8 c = is (c .before .enum-told8 .given .1) (c .tell8 .ensures .0) (c .tell8 .ensures .1)
+returns-8 c = is (c .before .enum-told8 .given .1) (c .tell8 .ensures)
 
 returns-9 : tie.Need-returns-9
-returns-9 c = is (c .before .enum-told9 .given .1) (c .tell9 .ensures .0) (c .tell9 .ensures .1)
+returns-9 c = is (c .before .enum-told9 .given .1) (c .tell9 .ensures)
 
 returns-10 : tie.Need-returns-10
-returns-10 c = is (c .before .before .r .given .1) (c .tell10 .ensures .0) (c .tell10 .ensures .1)
+returns-10 c = is (c .before .before .r .given .1) (c .tell10 .ensures)
 
 returns-11 : tie.Need-returns-11
-returns-11 c = is (c .before .before .r2 .given .1) (c .tell11 .ensures .0) (c .tell11 .ensures .1)
+returns-11 c = is (c .before .before .r2 .given .1) (c .tell11 .ensures)
 
 returns-12 : tie.Need-returns-12
-returns-12 c = is (c .before .enum-told10 .given .1) (c .tell12 .ensures .0) (c .tell12 .ensures .1)
+returns-12 c = is (c .before .enum-told10 .given .1) (c .tell12 .ensures)
 
 returns-13 : tie.Need-returns-13
-returns-13 c = is (c .before .before .r3 .given .1) (c .tell13 .ensures .0) (c .tell13 .ensures .1)
+returns-13 c = is (c .before .before .r3 .given .1) (c .tell13 .ensures)
 
 returns-14 : tie.Need-returns-14
-returns-14 c = is (c .before .before .r4 .given .1) (c .tell14 .ensures .0) (c .tell14 .ensures .1)
+returns-14 c = is (c .before .before .r4 .given .1) (c .tell14 .ensures)
 
 returns-15 : tie.Need-returns-15
-returns-15 c = is (c .before .enum-told11 .given .1) (c .tell15 .ensures .0) (c .tell15 .ensures .1)
+returns-15 c = is (c .before .enum-told11 .given .1) (c .tell15 .ensures)
 
 returns-16 : tie.Need-returns-16
-returns-16 c = is (c .before .before .r5 .given .1) (c .tell16 .ensures .0) (c .tell16 .ensures .1)
+returns-16 c = is (c .before .before .r5 .given .1) (c .tell16 .ensures)
 
 returns-17 : tie.Need-returns-17
-returns-17 c = is (c .before .before .r6 .given .1) (c .tell17 .ensures .0) (c .tell17 .ensures .1)
+returns-17 c = is (c .before .before .r6 .given .1) (c .tell17 .ensures)
 
 returns-18 : tie.Need-returns-18
-returns-18 c = is (c .before .before .r7 .given .1) (c .tell18 .ensures .0) (c .tell18 .ensures .1)
+returns-18 c = is (c .before .before .r7 .given .1) (c .tell18 .ensures)
 
 returns-19 : tie.Need-returns-19
-returns-19 c = is (c .before .before .r8 .given .1) (c .tell19 .ensures .0) (c .tell19 .ensures .1)
+returns-19 c = is (c .before .before .r8 .given .1) (c .tell19 .ensures)
 
 returns-20 : tie.Need-returns-20
-returns-20 c = is (c .before .before .r9 .given .1) (c .tell20 .ensures .0) (c .tell20 .ensures .1)
+returns-20 c = is (c .before .before .r9 .given .1) (c .tell20 .ensures)
 
 returns-21 : tie.Need-returns-21
-returns-21 c = is (c .before .enum-told12 .given .1) (c .tell21 .ensures .0) (c .tell21 .ensures .1)
+returns-21 c = is (c .before .enum-told12 .given .1) (c .tell21 .ensures)
 
 returns-22 : tie.Need-returns-22
-returns-22 c = is (c .before .before .r10 .given .1) (c .tell22 .ensures .0) (c .tell22 .ensures .1)
+returns-22 c = is (c .before .before .r10 .given .1) (c .tell22 .ensures)
 
 returns-23 : tie.Need-returns-23
-returns-23 c = is (c .before .enum-told13 .given .1) (c .tell23 .ensures .0) (c .tell23 .ensures .1)
+returns-23 c = is (c .before .enum-told13 .given .1) (c .tell23 .ensures)
 
 returns-24 : tie.Need-returns-24
-returns-24 c = is (c .before .before .r11 .given .1) (c .tell24 .ensures .0) (c .tell24 .ensures .1)
+returns-24 c = is (c .before .before .r11 .given .1) (c .tell24 .ensures)
 
 returns-25 : tie.Need-returns-25
-returns-25 c = is (c .before .before .r12 .given .1) (c .tell25 .ensures .0) (c .tell25 .ensures .1)
+returns-25 c = is (c .before .before .r12 .given .1) (c .tell25 .ensures)
 
 returns-26 : tie.Need-returns-26
-returns-26 c = is (c .before .enum-told14 .given .1) (c .tell26 .ensures .0) (c .tell26 .ensures .1)
+returns-26 c = is (c .before .enum-told14 .given .1) (c .tell26 .ensures)
 
 pub told-of-spec : {M : Type 1} → statement M
 told-of-spec =

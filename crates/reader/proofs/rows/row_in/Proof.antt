@@ -77,6 +77,9 @@ add-if4 c = omega arith
 add-if4-2 : tie.Need-add-if4-2 Inv-loop μ-loop
 add-if4-2 c = omega arith
 
+add-if4-3 : tie.Need-add-if4-3 Inv-loop μ-loop
+add-if4-3 c = omega arith
+
 returns-4 : tie.Need-returns-4 Inv-loop μ-loop
 returns-4 c = let a = c .before .before .before .before .before .before .before .before .args in
     let l = c .before .before .before .before .loop in
@@ -122,6 +125,7 @@ row-in-spec =
     byte-requires-2
     add-if4
     add-if4-2
+    add-if4-3
     returns-4
     row-at-requires
     placed-requires
