@@ -1,10 +1,15 @@
 // Prints a file as the program `edge_sst` does: its heading, a line for each edge, `ok`; or its refusal.
+ghost use mathlib.Core.Path.{_≡_};
+ghost use Prim.Native.Nat.{_/_};
+ghost use lib.ListN.{length};
+ghost use Rattle.base.specs.Pick.{pick};
+ghost use Rattle.printing.specs.Dead.{deadFrom};
 use batch::Edge;
 use batch::edge_at;
 use codes::ids::Id;
 use codes::little::byte;
 use frame::Opening;
-use full_check::checked;
+use reader::open::open;
 use readout::ReadOut;
 use readout::read_out;
 use verdict::number;
@@ -45,7 +50,9 @@ fn edges(s: &[u8]) {
     }
 }
 
-fn one_if(dead: bool) -> u64 {
+fn one_if(dead: bool) -> u64
+    ensures { λ r. ⌜ r ≡ pick dead 1 0 ⌝ }
+{
     if dead {
         return 1;
     }
@@ -53,12 +60,14 @@ fn one_if(dead: bool) -> u64 {
 }
 
 // How many of the records s are dead edges.
-fn dead_in(s: &[u8]) -> u64 {
+fn dead_in(s: &[u8]) -> u64
+    ensures { λ r. ⌜ r ≡ deadFrom (length (now (s .entry)) / 41) (now (s .entry)) 0 ⌝ }
+{
     let mut at: usize = 0;
     let mut dead: u64 = 0;
     while 41 <= s.len() - at {
         let e = edge_at(s, at);
-        dead = std::num::wrapping_add_u64(dead, one_if(e.dead));
+        dead = dead + one_if(e.dead);
         at = at + 41;
     }
     dead
@@ -101,9 +110,9 @@ fn front(file: &[u8], keys: u64, room: &[u8], n: u64) {
     }
 }
 
-// The keys of a file that passes the full check.
+// The keys of a file that opens.
 fn keys_of(file: &[u8]) -> u64 {
-    match checked(file) {
+    match open(file) {
         Opening::Good { opened } => opened.keycount,
         Opening::Refused { refusal: _ } => 0,
     }
