@@ -56,6 +56,7 @@ numberOf (Refusal.Batch at) = 24
 numberOf (Refusal.Unordered at) = 25
 -- more keys, edges or file bytes than the bounds
 numberOf Refusal.Bounds = 26
+
 -- numbers: to here
 
 abbrev pub placeOf : Refusal → ℕ
@@ -86,6 +87,7 @@ placeOf Refusal.Data = 0
 placeOf (Refusal.Batch at) = at
 placeOf (Refusal.Unordered at) = at
 placeOf Refusal.Bounds = 0
+
 -- places: to here
 
 -- a second place beside it, 0 where there is none
@@ -117,4 +119,5 @@ besideOf Refusal.Data = 0
 besideOf (Refusal.Batch at) = 0
 besideOf (Refusal.Unordered at) = 0
 besideOf Refusal.Bounds = 0
+
 -- places beside: to here
