@@ -41,6 +41,8 @@ const COMMANDS: [&Command; 9] = [
     &sum::COMMAND,
 ];
 
+const VERSION: &str = concat!("edge-sst ", env!("CARGO_PKG_VERSION"), "\n");
+
 const ABOUT: &str = "\
 'edge-sst COMMAND --help' says more of a command, 'edge-sst --version' the version.
 An input '-' is standard input, and '-o -' is standard output. A file has at most
@@ -58,10 +60,7 @@ pub fn run(words: Vec<OsString>) -> Status {
     let first = first.to_string_lossy();
     match &*first {
         "help" | "--help" | "-h" => ended("", help(rest)),
-        "--version" | "-V" => ended(
-            "",
-            tell(&format!("edge-sst {}\n", env!("CARGO_PKG_VERSION"))),
-        ),
+        "--version" | "-V" => ended("", tell(VERSION)),
         name => match find(name) {
             Some(command) => ended(command.name, command.start(rest)),
             None => ended("", Err(unknown(name))),
@@ -116,16 +115,18 @@ fn help(words: Vec<OsString>) -> Result<Status, Failure> {
 }
 
 fn overview() -> String {
-    let rows = COMMANDS.map(|command| format!("  {:<10} {}\n", command.name, command.summary));
-    let rows = rows.concat();
-    format!("edge-sst: edge SST files, over the proved library\n\nusage: edge-sst COMMAND ..\n\n{rows}\n{ABOUT}")
+    let mut text = "edge-sst: edge SST files, over the proved library\n\n".to_string();
+    text += "usage: edge-sst COMMAND ..\n\n";
+    for command in COMMANDS {
+        text += &format!("  {:<10} {}\n", command.name, command.summary);
+    }
+    text + "\n" + ABOUT
 }
 
 impl Command {
     fn page(&self) -> String {
-        let Command { name, usage, .. } = self;
-        let Command { summary, help, .. } = self;
-        format!("usage: edge-sst {name} {usage}\n\n{summary}.\n\n{help}")
+        let usage = format!("usage: edge-sst {} {}", self.name, self.usage);
+        format!("{usage}\n\n{}.\n\n{}", self.summary, self.help)
     }
 
     fn start(&self, words: Vec<OsString>) -> Result<Status, Failure> {

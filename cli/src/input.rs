@@ -43,21 +43,27 @@ impl Name {
     pub fn word(&self) -> String {
         self.path.to_string_lossy().into_owned()
     }
-}
 
-/// The name for people, on one line.
-impl fmt::Display for Name {
-    fn fmt(&self, f: &mut fmt::Formatter<'_>) -> fmt::Result {
-        if self.is_dash() {
-            return f.write_str(self.dash);
-        }
+    /// The word with control characters escaped, so that it stays on one line.
+    pub fn on_a_line(&self) -> String {
+        let mut line = String::new();
         for c in self.path.to_string_lossy().chars() {
             match c.is_control() {
-                true => write!(f, "{}", c.escape_default())?,
-                false => write!(f, "{c}")?,
+                true => line.extend(c.escape_default()),
+                false => line.push(c),
             }
         }
-        Ok(())
+        line
+    }
+}
+
+/// The name for people.
+impl fmt::Display for Name {
+    fn fmt(&self, f: &mut fmt::Formatter<'_>) -> fmt::Result {
+        match self.is_dash() {
+            true => f.write_str(self.dash),
+            false => f.write_str(&self.on_a_line()),
+        }
     }
 }
 

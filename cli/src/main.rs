@@ -4,6 +4,8 @@
 //! stands around its calls: the words of the command line, files in and out, and
 //! answers as text or JSON. Each command is a file of its own in `commands/`.
 
+#![forbid(unsafe_code)]
+
 mod arguments;
 mod batch_text;
 mod commands;

@@ -52,10 +52,11 @@ fn replaced(path: &Path, fill: impl FnOnce(&mut dyn Write) -> io::Result<()>) ->
         _ => Path::new("."),
     };
     let (mut temporary, file) = Temporary::create(folder)?;
-    let file = filled(file, fill)?;
+    // Who may not read the old file shall not read the new one, not even half of it.
     if let Ok(found) = fs::metadata(path) {
         file.set_permissions(found.permissions())?;
     }
+    let file = filled(file, fill)?;
     file.sync_all()?;
     drop(file);
     fs::rename(&temporary.path, path)?;

@@ -11,7 +11,7 @@ use crate::watch::Watch;
 pub const COMMAND: Command = Command {
     name: "check",
     usage: "[-j N] [--json] FILE..",
-    summary: "checks files in full: frame, keys, offsets, fences, checksums and groups",
+    summary: "Checks files in full: frame, keys, offsets, fences, checksums and groups",
     help: "\
 Says on a line for each file, in the order given, 'FILE: ok' or what is wrong:
 

@@ -12,7 +12,7 @@ use std::io::BufRead;
 pub const COMMAND: Command = Command {
     name: "from-text",
     usage: "TEXT -o BATCH",
-    summary: "a batch from its text",
+    summary: "A batch from its text",
     help: "\
 The text is what 'to-text' gives:
 

@@ -15,7 +15,7 @@ use std::io::{self, Write};
 pub const COMMAND: Command = Command {
     name: "lookup",
     usage: "[-p] [--json] FILE KEY..",
-    summary: "the edges of keys, each vouched for by its own group",
+    summary: "The edges of keys, each vouched for by its own group",
     help: "\
 A key has 32 hexadecimal digits. A line for each edge of each key in the order given,
 as 'print' has them, or 'KEY absent', which is an answer too:

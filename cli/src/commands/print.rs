@@ -15,7 +15,7 @@ use std::io::{self, Write};
 pub const COMMAND: Command = Command {
     name: "print",
     usage: "[--json] FILE",
-    summary: "prints the edges of a file that passes the full check",
+    summary: "Prints the edges of a file that passes the full check",
     help: "\
 A line of the file, a line for each edge in file order, and 'ok':
 

@@ -9,7 +9,7 @@ use crate::watch::Watch;
 pub const COMMAND: Command = Command {
     name: "read-out",
     usage: "FILE -o BATCH",
-    summary: "makes the batch of a file that passes the full check",
+    summary: "Makes the batch of a file that passes the full check",
     help: "\
 The batch is a heading of 50 bytes and 41 bytes for each edge: what 'write' takes.
 'to-text' shows it.

@@ -13,7 +13,7 @@ use std::io::{self, Write};
 pub const COMMAND: Command = Command {
     name: "sections",
     usage: "[--json] FILE",
-    summary: "the section table of a file",
+    summary: "The section table of a file",
     help: "\
 A line for each entry in table order, skipped kinds too: its number, kind, codec,
 offset, length, stored checksum and name. The file is opened, which checks its frame,

@@ -42,7 +42,7 @@ fn tell(file: &Name, sum: u64, json: bool) -> Result<Status, Failure> {
     let sum = format!("{sum:016x}");
     output::print(|out| match json {
         true => writeln!(out, "{}", object(file, &sum)),
-        false => writeln!(out, "{sum}  {}", file.word()),
+        false => writeln!(out, "{sum}  {}", file.on_a_line()),
     })?;
     Ok(Status::Fine)
 }

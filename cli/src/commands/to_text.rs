@@ -11,7 +11,7 @@ use edge_sst::Batch;
 pub const COMMAND: Command = Command {
     name: "to-text",
     usage: "BATCH [-o TEXT]",
-    summary: "a batch as text",
+    summary: "A batch as text",
     help: "\
 A heading with the direction ('forward' or 'inverse') and the ids of the edge type,
 the source label and the destination label, then a line for each edge, live or dead:

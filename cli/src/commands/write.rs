@@ -9,7 +9,7 @@ use crate::watch::Watch;
 pub const COMMAND: Command = Command {
     name: "write",
     usage: "BATCH -o FILE",
-    summary: "makes the file of a batch",
+    summary: "Makes the file of a batch",
     help: "\
 A batch is a heading of 50 bytes (kind 3, direction 0 or 1, three ids) and 41 bytes
 for each edge (kind 1 live or 2 dead, key, partner, log number), which strictly rise

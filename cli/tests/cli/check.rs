@@ -138,18 +138,16 @@ fn names_are_escaped() {
     assert_eq!(ran.fine(), "a\"b\\c\\nd\\te\\u{1}ü€.edges: ok\n".as_bytes());
 }
 
-/// One byte more than 2^30 is refused, whatever the bytes are; so is any longer
-/// file. The files have holes, and take no room.
+/// A file of more than 2^30 bytes is refused for its length, whatever else is wrong
+/// with it. This one has a hole, and takes no room.
 #[test]
 fn longer_files_are_refused() {
     let folder = folder("check_long");
-    for (name, length) in [("over", (1_u64 << 30) + 1), ("far", 1 << 40)] {
-        let file = std::fs::File::create(folder.path().join(name)).unwrap();
-        if file.set_len(length).is_err() {
-            continue; // No holes on this system.
-        }
-        let ran = folder.run(&["check", name]);
-        let line = format!("{name}: 1: file under 84 or over 2^30 bytes\n");
-        assert_eq!((ran.status, ran.text()), (1, line.as_str()));
+    let file = std::fs::File::create(folder.path().join("long")).unwrap();
+    if file.set_len(1 << 40).is_err() {
+        return; // No holes on this system.
     }
+    let ran = folder.run(&["check", "long"]);
+    let line = "long: 1: file under 84 or over 2^30 bytes\n";
+    assert_eq!((ran.status, ran.text()), (1, line));
 }

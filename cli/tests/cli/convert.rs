@@ -144,47 +144,50 @@ fn texts_may_be_written_by_hand() {
     assert_eq!(text_of(&batch), format!("{HEADING}\n{EDGE}\n"));
 }
 
+/// Texts that are none, with HEADING and ID in the place of sound ones.
+const WRONG: [(&str, &str); 10] = [
+    ("", "there is no heading"),
+    ("# nothing\n\n", "there is no heading"),
+    (
+        "ID ID lsn 7 live\n",
+        "line 1: the heading is 'batch forward TYPE SOURCE DESTINATION', or 'batch inverse ..'",
+    ),
+    (
+        "edge-sst forward minor 0 keys 0 edges 0 dead 0\nok\n",
+        "line 1: this is what print gives, which has no ids: \
+         a batch comes from read-out, its text from to-text",
+    ),
+    (
+        "batch backward ID ID ID",
+        "line 1: 'backward' is neither 'forward' nor 'inverse'",
+    ),
+    (
+        "batch forward ID 2222 ID",
+        "line 1: '2222' is no id: 32 hexadecimal digits",
+    ),
+    (
+        "HEADING\n\nHEADING\n",
+        "line 3: an edge is 'KEY PARTNER lsn NUMBER live', or '.. dead'",
+    ),
+    (
+        "HEADING\nID ID lsn 18446744073709551616 live",
+        "line 2: '18446744073709551616' is no log number: 0 to 2^64 - 1",
+    ),
+    (
+        "HEADING\nID ID lsn +7 live",
+        "line 2: '+7' is no log number: 0 to 2^64 - 1",
+    ),
+    (
+        "HEADING\nID ID lsn 7 gone",
+        "line 2: 'gone' is neither 'live' nor 'dead'",
+    ),
+];
+
 #[test]
 fn lines_of_another_form_are_input_errors() {
     let id = "00000000000000010000000000000002";
-    let wrong = [
-        ("".to_string(), "there is no heading"),
-        ("# nothing\n\n".to_string(), "there is no heading"),
-        (
-            format!("{EDGE}\n"),
-            "line 1: the heading is 'batch forward TYPE SOURCE DESTINATION', or 'batch inverse ..'",
-        ),
-        (
-            "edge-sst forward minor 0 keys 0 edges 0 dead 0\nok\n".to_string(),
-            "line 1: this is what print gives, which has no ids: \
-             a batch comes from read-out, its text from to-text",
-        ),
-        (
-            HEADING.replace("forward", "backward"),
-            "line 1: 'backward' is neither 'forward' nor 'inverse'",
-        ),
-        (
-            HEADING.replace("2222 ", " "),
-            "line 1: '2222222222222222222222222222' is no id: 32 hexadecimal digits",
-        ),
-        (
-            format!("{HEADING}\n\n{HEADING}\n"),
-            "line 3: an edge is 'KEY PARTNER lsn NUMBER live', or '.. dead'",
-        ),
-        (
-            format!("{HEADING}\n{id} {id} lsn 18446744073709551616 live"),
-            "line 2: '18446744073709551616' is no log number: 0 to 2^64 - 1",
-        ),
-        (
-            format!("{HEADING}\n{id} {id} lsn +7 live"),
-            "line 2: '+7' is no log number: 0 to 2^64 - 1",
-        ),
-        (
-            format!("{HEADING}\n{id} {id} lsn 7 gone"),
-            "line 2: 'gone' is neither 'live' nor 'dead'",
-        ),
-    ];
-    for (text, why) in wrong {
+    for (text, why) in WRONG {
+        let text = text.replace("HEADING", HEADING).replace("ID", id);
         let ran = run_on(&["from-text", "-", "-o", "-"], text.as_bytes());
         ran.fails(2, &format!("standard input: {why}\n"));
     }

@@ -8,6 +8,18 @@ fn board_batch() -> Vec<u8> {
     second(&["read-out"], &sample("board.edges"))
 }
 
+/// A batch of 20,000 edges, each of a key of its own.
+fn long_batch() -> Vec<u8> {
+    let mut batch = board_batch();
+    batch.truncate(50);
+    for i in 0_u32..20_000 {
+        batch.push(1);
+        batch.extend([&[0; 12][..], &i.to_be_bytes()].concat());
+        batch.extend([7; 24]);
+    }
+    batch
+}
+
 /// A folder with a good batch, a bad one, a bad file and bad text.
 fn with_inputs(test: &str) -> Folder {
     let folder = folder(test);
@@ -59,14 +71,7 @@ fn a_refused_input_leaves_the_old_output() {
 #[test]
 fn a_failed_write_leaves_nothing_behind() {
     let folder = with_inputs("outputs_full");
-    let mut batch = board_batch();
-    batch.truncate(50);
-    for i in 0_u32..20_000 {
-        batch.push(1);
-        batch.extend([&[0; 12][..], &i.to_be_bytes()].concat());
-        batch.extend([7; 24]);
-    }
-    folder.put("batch", &batch);
+    folder.put("batch", &long_batch());
     for old in [None, Some(b"old")] {
         if let Some(old) = old {
             folder.put("out", old);
@@ -178,14 +183,7 @@ fn a_file_may_be_its_own_output() {
 #[test]
 fn a_closed_pipe_ends_it() {
     let folder = folder("outputs_closed");
-    let mut batch = board_batch();
-    batch.truncate(50);
-    for i in 0_u32..20_000 {
-        batch.push(1);
-        batch.extend([&[0; 12][..], &i.to_be_bytes()].concat());
-        batch.extend([7; 24]);
-    }
-    folder.put("batch", &batch);
+    folder.put("batch", &long_batch());
     let mut program = Command::new(PROGRAM);
     program
         .args(["to-text", "batch"])

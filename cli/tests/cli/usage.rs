@@ -48,6 +48,38 @@ fn the_version_is_told() {
     assert_eq!(run(&["-V"]).fine(), version.as_bytes());
 }
 
+/// Words that a command does not take, and what is said of them.
+const WRONG: [(&[&str], &str); 16] = [
+    (&["check"], "no file is given"),
+    (&["check", "--jsno", "x"], "unknown option --jsno"),
+    (&["check", "-o", "y", "x"], "unknown option -o"),
+    (
+        &["check", "-j", "0", "x"],
+        "-j takes a number from 1, not '0'",
+    ),
+    (
+        &["check", "-jmany", "x"],
+        "-j takes a number from 1, not 'many'",
+    ),
+    (&["check", "x", "-j"], "-j has no value"),
+    (&["check", "-", "x", "-"], "'-' is given twice"),
+    (&["print"], "no file is given"),
+    (
+        &["print", "x", "y"],
+        "one file is taken, 'y' is one too many",
+    ),
+    (&["lookup"], "no file is given"),
+    (&["lookup", "x"], "no key is given"),
+    (&["write", "x"], "no output is given: -o FILE, or -o -"),
+    (&["write", "-o", "y"], "no batch is given"),
+    (
+        &["write", "x", "-o", "y", "-o", "z"],
+        "--output is given twice",
+    ),
+    (&["from-text", "x"], "no output is given: -o FILE, or -o -"),
+    (&["sum", "--json"], "no file is given"),
+];
+
 #[test]
 fn words_that_are_not_understood() {
     let none: [&str; 0] = [];
@@ -57,37 +89,7 @@ fn words_that_are_not_understood() {
         "edge-sst: unknown command 'chekc'\ntry 'edge-sst --help'\n",
     );
     run(&["help", "x"]).fails(2, "edge-sst: unknown command 'x'\ntry 'edge-sst --help'\n");
-    let wrong: [(&[&str], &str); 16] = [
-        (&["check"], "no file is given"),
-        (&["check", "--jsno", "x"], "unknown option --jsno"),
-        (&["check", "-o", "y", "x"], "unknown option -o"),
-        (
-            &["check", "-j", "0", "x"],
-            "-j takes a number from 1, not '0'",
-        ),
-        (
-            &["check", "-jmany", "x"],
-            "-j takes a number from 1, not 'many'",
-        ),
-        (&["check", "x", "-j"], "-j has no value"),
-        (&["check", "-", "x", "-"], "'-' is given twice"),
-        (&["print"], "no file is given"),
-        (
-            &["print", "x", "y"],
-            "one file is taken, 'y' is one too many",
-        ),
-        (&["lookup"], "no file is given"),
-        (&["lookup", "x"], "no key is given"),
-        (&["write", "x"], "no output is given: -o FILE, or -o -"),
-        (&["write", "-o", "y"], "no batch is given"),
-        (
-            &["write", "x", "-o", "y", "-o", "z"],
-            "--output is given twice",
-        ),
-        (&["from-text", "x"], "no output is given: -o FILE, or -o -"),
-        (&["sum", "--json"], "no file is given"),
-    ];
-    for (words, why) in wrong {
+    for (words, why) in WRONG {
         let command = words[0];
         let said = format!("edge-sst {command}: {why}\ntry 'edge-sst {command} --help'\n");
         run(words).fails(2, &said);

@@ -1,6 +1,6 @@
 //! Refusals in words: of damaged files by `check`, of batches by `write`.
 
-use crate::corpora::{inputs, refusals};
+use crate::corpora::{inputs, refusals, Named};
 use crate::json::Json;
 use crate::run::{folder, run_on, sample, second};
 
@@ -21,11 +21,6 @@ fn changed(place: usize) -> Vec<u8> {
     let mut board = sample("board.edges");
     board[place] ^= 0x40;
     board
-}
-
-/// A file of the second program's corpora.
-fn file(name: &str) -> Vec<u8> {
-    second(&["bytes", name], &[])
 }
 
 #[test]
@@ -77,25 +72,28 @@ fn sections_are_named_by_kind_and_name() {
     }
 }
 
+/// Some file of the corpus that the second program refuses so, and that fits.
+fn refused_so(number: u64, place: u64, fits: fn(&[u8]) -> bool) -> Vec<u8> {
+    let refusals = refusals("check_corpus", "check");
+    let so = |file: &Named| refusals.get(&file.name) == Some(&(number, place));
+    let found = inputs("check_corpus")
+        .into_iter()
+        .find(|file| so(file) && fits(&file.bytes));
+    found.expect("such a file").bytes
+}
+
 /// A file that does not open has no list of its sections: the entry stands alone.
 #[test]
-fn entries_of_files_that_do_not_open_have_no_name() {
-    let files = inputs("check_corpus");
-    let refusals = refusals("check_corpus", "check");
+fn places_of_files_that_do_not_open() {
     for (number, text) in [
-        (10, "a section of kind 1 to 6 is not raw"),
-        (11, "section range"),
-        (13, "key not above the one before"),
-        (14, "offset"),
+        (10, "a section of kind 1 to 6 is not raw, entry"),
+        (11, "section range, entry"),
+        (13, "key not above the one before, key"),
+        (14, "offset, offset"),
     ] {
-        let what =
-            ["entry", "key", "offset"][[11, 13, 14].iter().position(|n| number <= *n).unwrap()];
         for place in [1, 2, 3] {
-            let found = files
-                .iter()
-                .find(|f| refusals.get(&f.name) == Some(&(number, place)));
-            let bytes = &found.expect("such a file").bytes;
-            assert_eq!(said(bytes), format!("{number}: {text}, {what} {place}"));
+            let bytes = refused_so(number, place, |_| true);
+            assert_eq!(said(&bytes), format!("{number}: {text} {place}"));
         }
     }
 }
@@ -103,8 +101,6 @@ fn entries_of_files_that_do_not_open_have_no_name() {
 /// Groups are told with their key, which is at 64 + 16 i where the keys come first.
 #[test]
 fn groups_are_named_by_their_key() {
-    let files = inputs("check_corpus");
-    let refusals = refusals("check_corpus", "check");
     for (number, text) in [
         (16, "unknown tag of a group"),
         (17, "varint cut, too long or too large"),
@@ -114,24 +110,17 @@ fn groups_are_named_by_their_key() {
         ),
     ] {
         for group in [0, 1, 2] {
-            let keys_first = |bytes: &[u8]| section(bytes, 0) == (1, 64);
-            let found = files.iter().find(|file| {
-                refusals.get(&file.name) == Some(&(number, group)) && keys_first(&file.bytes)
-            });
-            let bytes = &found.expect("such a file").bytes;
-            let at = 64 + 16 * group as usize;
-            let key: String = bytes[at..at + 16]
-                .iter()
-                .map(|b| format!("{b:02x}"))
-                .collect();
+            let bytes = refused_so(number, group, |bytes| first_section(bytes) == (1, 64));
+            let key = &bytes[64 + 16 * group as usize..][..16];
+            let key: String = key.iter().map(|byte| format!("{byte:02x}")).collect();
             let line = format!("{number}: {text}, group {group} (key {key})");
-            assert_eq!(said(bytes), line);
+            assert_eq!(said(&bytes), line);
         }
     }
 }
 
 /// Kind and offset of the first entry of the table.
-fn section(bytes: &[u8], _entry: usize) -> (u64, u64) {
+fn first_section(bytes: &[u8]) -> (u64, u64) {
     let number = |at: usize, width: usize| {
         let digits = bytes[at..at + width].iter().rev();
         digits.fold(0, |sum, byte| 256 * sum + u64::from(*byte))
@@ -143,19 +132,14 @@ fn section(bytes: &[u8], _entry: usize) -> (u64, u64) {
 #[test]
 fn refusals_without_a_place_have_none() {
     assert_eq!(said(&[]), "1: file under 84 or over 2^30 bytes");
-    let files = inputs("check_corpus");
-    let refusals = refusals("check_corpus", "check");
     for (number, text) in [
         (9, "section table"),
         (12, "counts, lengths or presence of sections"),
         (15, "fence section"),
         (23, "degree sum, flag bit 1 or 2, or unused tombstone bits"),
     ] {
-        let found = files
-            .iter()
-            .find(|f| refusals.get(&f.name) == Some(&(number, 0)));
-        let bytes = &found.expect("such a file").bytes;
-        assert_eq!(said(bytes), format!("{number}: {text}"));
+        let bytes = refused_so(number, 0, |_| true);
+        assert_eq!(said(&bytes), format!("{number}: {text}"));
     }
 }
 
@@ -195,11 +179,4 @@ fn records_of_a_batch_are_named() {
     let again = [&batch[..edge(2).end], &batch[edge(2)]].concat();
     let line = "standard input: 25: batch order, byte 173 (edge 3)\n";
     assert_eq!(said(&again), line);
-}
-
-/// A file by its name: of the corpus of opening, with the place that it is about.
-#[test]
-fn a_file_of_the_corpus_by_name() {
-    let bytes = file("check-sum-one-edge-entry-2-kind-3");
-    assert_eq!(said(&bytes), "22: a section's checksum, entry 2 (partners)");
 }
