@@ -2,7 +2,8 @@
 
 use crate::corpora::{inputs, refusals, Named};
 use crate::json::Json;
-use crate::run::{folder, run, run_on, sample, Folder};
+use crate::run::{folder, ran, run, run_on, sample, Folder, PROGRAM};
+use std::process::Command;
 
 /// Puts each file of a corpus into the folder, and gives their paths.
 fn put_all(folder: &Folder, files: &[Named]) -> Vec<String> {
@@ -58,8 +59,7 @@ fn the_corpus_is_told_as_by_the_second_program() {
     }
 }
 
-/// However many are checked at once, the lines come in the order given. The first
-/// files are long, so that the later ones are done before them.
+/// However many are checked at once, the lines come in the order given.
 #[test]
 fn lines_come_in_the_order_given() {
     let folder = folder("check_order");
@@ -87,6 +87,19 @@ fn lines_come_in_the_order_given() {
     ] {
         assert_eq!(told(options), one, "{options:?}");
     }
+}
+
+/// The first file comes late, when the second one is long checked.
+#[test]
+fn a_late_file_keeps_its_place() {
+    let folder = folder("check_late");
+    folder.put("late", &sample("board.edges"));
+    folder.put("early", &sample("example.edges"));
+    let words = "(sleep 0.5; cat late) | \"$0\" check -j 2 - early";
+    let mut shell = Command::new("sh");
+    let shell = shell.args(["-c", words, PROGRAM]);
+    let ran = ran(shell.current_dir(folder.path()), &[]);
+    assert_eq!(ran.fine(), b"standard input: ok\nearly: ok\n");
 }
 
 #[test]
