@@ -133,6 +133,7 @@ fn same(
         let told = if whole { &told[0] } else { &told[i] };
         if !whole {
             assert_eq!(told.at("key").text(), keys[i]);
+            told_of_its_group(told, &keys[i]);
         }
         let (line, partners) = &expected[&call.name];
         // The corpus counts the compared keys of an absent one too.
@@ -145,6 +146,18 @@ fn same(
             assert_eq!(edge, line, "{}", call.name);
         }
     }
+}
+
+/// A lookup that is refused is refused at the group of the key asked for: 16 to 19.
+fn told_of_its_group(told: &Json, key: &str) {
+    if told.at("ok").truth() {
+        return;
+    }
+    let refused = told.at("refused");
+    let (number, place) = (refused.at("number"), refused.at("place"));
+    assert!((16..=19).contains(&number.number()));
+    let words = format!("group {} (key {key})", place.number());
+    assert_eq!(refused.at("where").text(), words);
 }
 
 /// An object in the words of the corpus.
