@@ -1,6 +1,9 @@
 -- Document 01's table of refusals: the number of each case, and its place.
-use Prim.Native.Nat.{ℕ}
+use Prim.Native.Nat.{ℕ, _-_}
+use mathlib.Core.List.{List, [], _∷_}
+use lib.ListN.{getD}
 use Rattle.refusal.specs.declared.Refusal.{Refusal}
+pub mod Laws
 
 abbrev pub numberOf : Refusal → ℕ
 -- file under 84 or over 2^30 bytes
@@ -77,3 +80,15 @@ placeOf Refusal.Data = 0
 placeOf (Refusal.Batch at) = at
 placeOf (Refusal.Unordered at) = at
 placeOf Refusal.Bounds = 0
+
+-- the refusals in the order of their numbers, each that has a place at place p
+abbrev pub refusalsAt : ℕ → List Refusal
+refusalsAt p =
+    Refusal.Size ∷ Refusal.Magic ∷ Refusal.Major ∷ Refusal.HeaderSize ∷ Refusal.Flags ∷ Refusal.TailMagic ∷ Refusal.FooterLength ∷ Refusal.FooterSum ∷ Refusal.Table
+    ∷ Refusal.Codec p ∷ Refusal.Range p ∷ Refusal.Counts ∷ Refusal.Key p ∷ Refusal.Offset p ∷ Refusal.Fences
+    ∷ Refusal.Tag p ∷ Refusal.Varint p ∷ Refusal.Group p ∷ Refusal.Degrees p ∷ Refusal.Room p ∷ Refusal.Record
+    ∷ Refusal.Sum p ∷ Refusal.Data ∷ Refusal.Batch p ∷ Refusal.Unordered p ∷ Refusal.Bounds ∷ []
+
+-- the refusal that a number and a place tell
+unfoldable pub refusalOf : ℕ → ℕ → Refusal
+refusalOf n p = getD (refusalsAt p) (n - 1) Refusal.Size
