@@ -4,7 +4,8 @@ use Prim.Native.Nat.{ℕ, _*_, _<_}
 use lib.ListN.{drop}
 use denote.Ref.{now}
 use Rattle.listing.specs.List.{rowIs}
-use Rattle.edge_sst_c.specs.Back.{fieldsOf, rowFrom, partners-back, edges-back, sections-back}
+use Rattle.edge_sst_c.specs.Back.{fieldsOf, partners-back, edges-back}
+use Rattle.edge_sst_c.specs.Rows.{rowFrom, sections-back}
 use Rattle.edge_sst_c.proofs.Every.{Every}
 use Rattle.edge_sst_c.proofs.edge_sst_open as c-open
 use Rattle.edge_sst_c.proofs.edge_sst_open.Reads as c-open-reads

@@ -1,34 +1,92 @@
--- What the calls for C tell, read back: the record of `edge_sst_open`, lent to a lookup, and the rows of `edge_sst_sections`.
+-- What the calls for C tell, read back by the words of include/edge_sst.h: the library's answers, and the record of
+-- `edge_sst_open` where it is lent to a lookup.
 use mathlib.Core.Path.{_≡_, refl, sym, ap, _∙_}
-use Prim.Native.Nat.{ℕ, zero, suc, _+_, _*_, _/_, _≤_, _<_}
+use Prim.Native.Nat.{ℕ, _<_}
 use native.Mathlib.Omega.{arith}
-use mathlib.Core.List.{List, [], _∷_, _++_}
+use mathlib.Core.List.{List, [], _∷_}
 use mathlib.Core.Bool.{Bool, true, false}
-use lib.ListN.{length, getD, drop}
-use lib.Seq.{drop-append-add}
+use lib.ListN.{length}
 use lib.Dec.{ltb}
+use borrow.Author.Tests.{lt-ltb}
+use Rattle.base.specs.Pick.{pick}
 use Rattle.codes.specs.Ids.{idAt}
 use Rattle.refusal.specs.declared.Refusal.{Refusal}
-use Rattle.frame.specs.declared.Row.{Row}
+use Rattle.refusal.specs.declared.Check.{Check}
+use Rattle.refusal.specs.Refusal.{numberOf, placeOf, refusalOf}
+use Rattle.refusal.specs.Refusal.Laws.{number-some, told-back}
 use Rattle.frame.specs.declared.Opened.{Opened}
 use Rattle.frame.specs.declared.Opening.{Opening}
 use Rattle.frame.specs.Open.{openOf, recordGood}
+use Rattle.lookup.specs.declared.Looked.{Looked}
 use Rattle.lookup.specs.Record.{holds}
 use Rattle.lookup.specs.Lookup.{Outcome, Rooms, refused, lookWith, lookOf, answerOf, partnersLeft, logsLeft, marksLeft}
 use Rattle.lookup.specs.Calls.{alone, lent}
 use Rattle.reader.specs.Look.{with-bad, with-record, opened-holds}
+use Rattle.readout.specs.declared.ReadOut.{ReadOut}
+use Rattle.writer.specs.declared.Written.{Written}
 use Rattle.listing.specs.declared.Listed.{Listed}
-use Rattle.listing.specs.List as list
-use Rattle.listing.specs.List.{planOf, rowIs, noRow}
-use Rattle.listing.specs.List.Laws.{plan-done, plan-refused}
-use Rattle.listing.specs.Table.{rowsTo, length-rows-to, rows-to-at}
 use Rattle.edge_sst_c.specs.declared.EdgeSstOpened.{EdgeSstOpened}
 use Rattle.edge_sst_c.specs.declared.look.EdgeSstLooked.{EdgeSstLooked}
+use Rattle.edge_sst_c.specs.declared.desk.EdgeSstTold.{EdgeSstTold}
+use Rattle.edge_sst_c.specs.declared.desk.EdgeSstDone.{EdgeSstDone}
 use Rattle.edge_sst_c.specs.declared.section_list.EdgeSstListed.{EdgeSstListed}
 use Rattle.edge_sst_c.specs.Told.{truth, recordWith, refusalWith, openedTold, told-good, told-refused}
 use Rattle.edge_sst_c.specs.Look.{lookedTold, recordFrom, byte-small, PartnersTold, EdgesTold}
-use Rattle.edge_sst_c.specs.SectionList.{listedTold, numbersOf, numbered, inNumbers, numbered-is, numbers-fit}
+use Rattle.edge_sst_c.specs.Desk.{checkTold, readTold}
+use Rattle.edge_sst_c.specs.Write.{writtenTold}
+use Rattle.edge_sst_c.specs.SectionList.{listedTold}
 use Rattle.edge_sst_c.specs.Refused.{opened-zero}
+
+-- ---- the answers
+
+-- number is 0, and then x is the answer, or it is a refusal's, with its place
+abbrev unless : {A : Type 0} → (Refusal → A) → ℕ → ℕ → A → A
+unless bad number place x = pick (ltb 0 number) (bad (refusalOf number place)) x
+
+unless-told : {A : Type 0} (bad : Refusal → A) (x : A) (r : Refusal) → unless bad (numberOf r) (placeOf r) x ≡ bad r
+unless-told bad x r =
+    ap (λ (t : Bool). pick t (bad (refusalOf (numberOf r) (placeOf r))) x) (lt-ltb 0 (numberOf r) (number-some r)) ∙ ap bad (told-back r)
+
+abbrev pub lookedFrom : EdgeSstLooked → Looked
+lookedFrom r = unless Looked.Refused (r .number) (r .place) (pick (ltb 0 (r .found)) (Looked.Found (r .degree) (r .index) (r .compared)) (Looked.Absent (r .compared)))
+
+pub looked-back : (x : Looked) → lookedFrom (lookedTold x) ≡ x
+unfolding lookedTold
+looked-back (Looked.Found d i c) = refl
+looked-back (Looked.Absent c) = refl
+looked-back (Looked.Refused r) = unless-told Looked.Refused (Looked.Absent 0) r
+
+abbrev pub checkFrom : EdgeSstTold → Check
+checkFrom r = unless Check.Bad (r .number) (r .place) Check.Fine
+
+pub check-back : (x : Check) → checkFrom (checkTold x) ≡ x
+unfolding checkTold
+check-back Check.Fine = refl
+check-back (Check.Bad r) = unless-told Check.Bad Check.Fine r
+
+abbrev pub readFrom : EdgeSstDone → ReadOut
+readFrom r = unless ReadOut.Refused (r .number) (r .place) (ReadOut.Done (r .bytes))
+
+pub read-back : (x : ReadOut) → readFrom (readTold x) ≡ x
+unfolding readTold
+read-back (ReadOut.Done n) = refl
+read-back (ReadOut.Refused r) = unless-told ReadOut.Refused (ReadOut.Done 0) r
+
+abbrev pub writtenFrom : EdgeSstDone → Written
+writtenFrom r = unless Written.Refused (r .number) (r .place) (Written.Done (r .bytes))
+
+pub written-back : (x : Written) → writtenFrom (writtenTold x) ≡ x
+unfolding writtenTold
+written-back (Written.Done n) = refl
+written-back (Written.Refused r) = unless-told Written.Refused (Written.Done 0) r
+
+abbrev pub listedFrom : EdgeSstListed → Listed
+listedFrom r = unless Listed.Refused (r .number) (r .place) (Listed.Done (r .rows))
+
+pub listed-back : (x : Listed) → listedFrom (listedTold x) ≡ x
+unfolding listedTold
+listed-back (Listed.Done n) = refl
+listed-back (Listed.Refused r) = unless-told Listed.Refused (Listed.Done 0) r
 
 -- ---- the opened record
 
@@ -63,19 +121,29 @@ opened-back f o e =
     let w = opened-holds f o e .wide in
     ap (λ (c : EdgeSstOpened). recordFrom (fieldsOf c)) (told-good (openOf f) o e) ∙ lent-back o (omega arith)
 
+-- no record: what is told beside a refusal
+abbrev none : Opened
+none = recordFrom (fieldsOf (refusalWith 0 0))
+
+-- and so the whole answer of `edge_sst_open`
+abbrev pub openingFrom : EdgeSstOpened → Opening
+openingFrom c = unless Opening.Refused (c .number) (c .place) (Opening.Good (recordFrom (fieldsOf c)))
+
+pub opening-back : (f : List ℕ) (x : Opening) → openOf f ≡ x → openingFrom (openedTold x) ≡ x
+unfolding openedTold
+opening-back f (Opening.Good o) e = let w = opened-holds f o e .wide in ap Opening.Good (lent-back o (omega arith))
+opening-back f (Opening.Refused r) e = unless-told Opening.Refused (Opening.Good none) r
+
 -- a lookup by it is the one-call lookup
 pub look-back : (full : Bool) (rooms : Rooms) (key : ℕ) (f : List ℕ) (o : Opened) → openOf f ≡ Opening.Good o
     → lookWith full rooms key f (recordFrom (fieldsOf (openedTold (openOf f)))) ≡ lookOf full rooms key f
 look-back full rooms key f o e = ap (lookWith full rooms key f) (opened-back f o e) ∙ with-record full rooms key f o e
 
--- what is told of a file that does not open is no record: every lookup by it, in any file, is refused with 21
-abbrev none : Opened
-none = recordFrom (fieldsOf (refusalWith 0 0))
-
 none-bad : (f : List ℕ) (t : Bool) → recordGood f none ≡ t → recordGood f none ≡ false
 none-bad f true e = let n = holds f none e .narrow in absurd (omega (arith, byte-small 0 (omega arith)))
 none-bad f false e = e
 
+-- what is told of a file that does not open is no record: every lookup by it, in any file, is refused with 21
 pub unopened-back : (full : Bool) (rooms : Rooms) (key : ℕ) (f g : List ℕ) (r : Refusal) → openOf g ≡ Opening.Refused r
     → lookWith full rooms key f (recordFrom (fieldsOf (openedTold (openOf g)))) ≡ refused Refusal.Record
 unopened-back full rooms key f g r e =
@@ -112,52 +180,3 @@ module _ (f : List ℕ) (c : EdgeSstOpened) (told : c ≡ openedTold (openOf f))
         ∙ same true (lent (length o) (length ls) (length ms)) (idAt k 0)
         ∙ sym (λ i. lookOf true (lent (length (ep i)) (length (et i)) (length (eu i))) (idAt (el i) 0) (eh i)) in
         (x .answer ∙ ap (λ (t : Outcome). lookedTold (answerOf t)) d ∙ sym (y .answer), x .partners ∙ (λ i. partnersLeft (d i) (sym ep i)) ∙ sym (y .partners), x .numbers ∙ (λ i. logsLeft (d i) (sym et i)) ∙ sym (y .numbers), x .dead ∙ (λ i. marksLeft (d i) (sym eu i)) ∙ sym (y .dead))
-
--- ---- the rows
-
--- the row that seven numbers say, in the order of EdgeSstRow in include/edge_sst.h
-abbrev pub rowFrom : List ℕ → Row
-rowFrom c = record {
-  kind = getD c 0 0;
-  codec = getD c 1 0;
-  nameat = getD c 2 0;
-  namelen = getD c 3 0;
-  start = getD c 4 0;
-  len = getD c 5 0;
-  sum = getD c 6 0;
-}
-
--- the numbers of a row say that row
-pub row-back : (r : Row) → rowFrom (numbersOf r) ≡ r
-row-back r = refl
-
--- and so does each row's place in the numbers of several
-in-back : (rs : List Row) (i : ℕ) (t : List ℕ) (d : Row) → i < length rs → rowFrom (drop (7 * i) (inNumbers rs ++ t)) ≡ getD rs i d
-unfolding inNumbers
-in-back [] i t d h = absurd (omega arith)
-in-back (r ∷ rs) zero t d h = row-back r
-in-back (r ∷ rs) (suc i) t d h =
-    let e : 7 * suc i ≡ 7 + 7 * i = omega arith in
-    ap (λ (k : ℕ). rowFrom (drop k ((numbersOf r ++ inNumbers rs) ++ t))) e
-    ∙ ap rowFrom (drop-append-add (numbersOf r) (inNumbers rs ++ t) (7 * i))
-    ∙ in-back rs i t d (omega arith)
-
-pub rows-back : (f : List ℕ) (n i : ℕ) (o : List ℕ) → 7 * n ≤ length o → i < n → rowFrom (drop (7 * i) (numbered f n o)) ≡ rowIs f i
-rows-back f n i o h l =
-    ap (λ (t : List ℕ). rowFrom (drop (7 * i) t)) (numbered-is f n o h)
-    ∙ in-back (rowsTo f n) i _ noRow (rw (length-rows-to f n) l)
-    ∙ rows-to-at f n i noRow l
-
--- what is told as the count of rows is how many are written
-listed-rows : (f : List ℕ) (room : ℕ) (x : Listed) → list.answerOf f room ≡ x → listedTold x .rows ≡ planOf f room .n
-unfolding listedTold
-listed-rows f room (Listed.Done n) e = sym (plan-done f room n e)
-listed-rows f room (Listed.Refused r) e = sym (plan-refused f room r e)
-
--- after a call for the sections of f the seven numbers of row i, for each i below the count that is told, say row i of f
-pub sections-back : (f o : List ℕ) {r : EdgeSstListed} {out : List ℕ} → r ≡ listedTold (list.answerOf f (length o / 7))
-    → out ≡ numbered f (planOf f (length o / 7) .n) o → (i : ℕ) → i < r .rows → rowFrom (drop (7 * i) out) ≡ rowIs f i
-sections-back f o a b i h =
-    let n = ap (λ (x : EdgeSstListed). x .rows) a ∙ listed-rows f (length o / 7) (list.answerOf f (length o / 7)) refl in
-    ap (λ (t : List ℕ). rowFrom (drop (7 * i) t)) b
-    ∙ rows-back f (planOf f (length o / 7) .n) i o (numbers-fit f (length o) refl) (rw n at h)

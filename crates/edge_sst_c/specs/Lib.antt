@@ -5,3 +5,4 @@ pub mod Write
 pub mod SectionList
 pub mod Refused
 pub mod Back
+pub mod Rows

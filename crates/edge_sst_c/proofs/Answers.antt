@@ -1,6 +1,6 @@
--- Refusals and absence over the contracts of the calls: `number` is 0 exactly if nothing is refused, and a refusal or absence
--- leaves every output as it was.
-use mathlib.Core.Path.{_≡_}
+-- Over the contract of each call: what it tells, read back, is the library's answer; `number` is 0 exactly if nothing is
+-- refused; and a refusal or absence leaves every output as it was.
+use mathlib.Core.Path.{_≡_, refl, ap, _∙_}
 use mathlib.Core.Bool.{true, false}
 use Prim.Native.Nat.{_/_, _≤_}
 use lib.ListN.{length}
@@ -20,6 +20,7 @@ use Rattle.writer.specs.Written.{neededOf, writtenOf}
 use Rattle.listing.specs.declared.Listed.{Listed}
 use Rattle.listing.specs.List as list
 use Rattle.edge_sst_c.specs.Look.{recordFrom}
+use Rattle.edge_sst_c.specs.Back.{openingFrom, lookedFrom, checkFrom, readFrom, writtenFrom, listedFrom, opening-back, looked-back, check-back, read-back, written-back, listed-back}
 use Rattle.edge_sst_c.specs.Refused.{Tells, Unfound, opened-tells, looked-tells, check-tells, read-tells, written-tells, listed-tells, partners-stay, edges-stay, read-stays, write-stays, sections-stay}
 use Rattle.edge_sst_c.proofs.Every.{Every}
 use Rattle.edge_sst_c.proofs.edge_sst_open as c-open
@@ -42,6 +43,42 @@ use Rattle.edge_sst_c.proofs.write.edge_sst_write as c-write
 use Rattle.edge_sst_c.proofs.write.edge_sst_write.Reads as c-write-reads
 use Rattle.edge_sst_c.proofs.section_list.edge_sst_sections as c-sections
 use Rattle.edge_sst_c.proofs.section_list.edge_sst_sections.Reads as c-sections-reads
+
+-- ---- what is told
+
+pub open-says : Every c-open.ended c-open-reads.Post (λ κs a r e. openingFrom r ≡ openOf (now (a .0)))
+open-says κs a r e p = ap openingFrom p ∙ opening-back (now (a .0)) (openOf (now (a .0))) refl
+
+pub partners-says : Every c-partners.ended c-partners-reads.Post
+    (λ κs a r e. lookedFrom r ≡ answerOf (lookOf false (alone (length (now (a .1 .1 .0)))) (idAt (now (a .1 .0)) 0) (now (a .0))))
+partners-says κs a r e p = ap lookedFrom (p .answer) ∙ looked-back _
+
+pub partners-with-says : Every c-partners-with.ended c-partners-with-reads.Post
+    (λ κs a r e. lookedFrom r ≡ answerOf (lookWith false (alone (length (now (a .1 .1 .1 .0)))) (idAt (now (a .1 .1 .0)) 0) (now (a .0)) (recordFrom (now (a .1 .0)))))
+partners-with-says κs a r e p = ap lookedFrom (p .answer) ∙ looked-back _
+
+pub lookup-says : Every c-lookup.ended c-lookup-reads.Post
+    (λ κs a r e. lookedFrom r ≡ answerOf (lookOf true (lent (length (now (a .1 .1 .0))) (length (now (a .1 .1 .1 .0))) (length (now (a .1 .1 .1 .1 .0)))) (idAt (now (a .1 .0)) 0) (now (a .0))))
+lookup-says κs a r e p = ap lookedFrom (p .answer) ∙ looked-back _
+
+pub lookup-with-says : Every c-lookup-with.ended c-lookup-with-reads.Post
+    (λ κs a r e. lookedFrom r ≡ answerOf (lookWith true (lent (length (now (a .1 .1 .1 .0))) (length (now (a .1 .1 .1 .1 .0))) (length (now (a .1 .1 .1 .1 .1 .0)))) (idAt (now (a .1 .1 .0)) 0) (now (a .0)) (recordFrom (now (a .1 .0)))))
+lookup-with-says κs a r e p = ap lookedFrom (p .answer) ∙ looked-back _
+
+pub check-says : Every c-check.ended c-check-reads.Post (λ κs a r e. checkFrom r ≡ fullCheck (now (a .0)))
+check-says κs a r e p = ap checkFrom p ∙ check-back _
+
+pub read-out-says : Every c-read-out.ended c-read-out-reads.Post (λ κs a r e. readFrom r ≡ readOutOf (now (a .0)) (length (now (a .1 .0))))
+read-out-says κs a r e p = ap readFrom (p .0) ∙ read-back _
+
+pub needed-says : Every c-needed.ended c-needed-reads.Post (λ κs a r e. writtenFrom r ≡ neededOf (now (a .0)))
+needed-says κs a r e p = ap writtenFrom p ∙ written-back _
+
+pub write-says : Every c-write.ended c-write-reads.Post (λ κs a r e. writtenFrom r ≡ writtenOf (now (a .0)) (length (now (a .1 .0))))
+write-says κs a r e p = ap writtenFrom (p .answer) ∙ written-back _
+
+pub sections-says : Every c-sections.ended c-sections-reads.Post (λ κs a r e. listedFrom r ≡ list.answerOf (now (a .0)) (length (now (a .1 .0)) / 7))
+sections-says κs a r e p = ap listedFrom (p .0) ∙ listed-back _
 
 -- ---- number
 
