@@ -1,5 +1,5 @@
--- How an EdgeSstOpened lies in memory: as its sixteen numbers, one after the other, so that what `edge_sst_open` gave can be
--- lent to the calls that take sixteen numbers.
+-- How an EdgeSstOpened lies in memory: as its seventeen numbers, one after the other, so that what `edge_sst_open` gave can be
+-- lent to the calls that take seventeen numbers.
 use mathlib.Core.Path.{_≡_, refl}
 use mathlib.Core.List.{List, map}
 use Prim.Native.Nat.{ℕ}
@@ -11,11 +11,11 @@ use Rattle.edge_sst_c.specs.declared.EdgeSstOpened.{EdgeSstOpened}
 use Rattle.edge_sst_c.specs.Back.{fieldsOf}
 use Rattle.edge_sst_c.proofs.EdgeSstOpened.Laws as opened
 
-abbrev sixteen : Ty
-sixteen = tyArray (tyInt w64) 16
+abbrev seventeen : Ty
+seventeen = tyArray (tyInt w64) 17
 
-pub opened-lies : (c : EdgeSstOpened) → enc opened.mir (opened.lowered c) ≡ enc sixteen (arrayVal (map (vint w64) (fieldsOf c)))
+pub opened-lies : (c : EdgeSstOpened) → enc opened.mir (opened.lowered c) ≡ enc seventeen (arrayVal (map (vint w64) (fieldsOf c)))
 opened-lies c = refl
 
-pub opened-aligned : align opened.mir ≡ align sixteen
+pub opened-aligned : align opened.mir ≡ align seventeen
 opened-aligned = refl

@@ -12,7 +12,7 @@ use Rattle.base.specs.Pick.{pick}
 use Rattle.codes.specs.Ids.{idAt}
 use Rattle.refusal.specs.declared.Refusal.{Refusal}
 use Rattle.refusal.specs.declared.Check.{Check}
-use Rattle.refusal.specs.Refusal.{numberOf, placeOf, refusalOf}
+use Rattle.refusal.specs.Refusal.{numberOf, placeOf, besideOf, refusalOf}
 use Rattle.refusal.specs.Refusal.Laws.{number-some, told-back}
 use Rattle.frame.specs.declared.Opened.{Opened}
 use Rattle.frame.specs.declared.Opening.{Opening}
@@ -39,16 +39,16 @@ use Rattle.edge_sst_c.specs.Refused.{opened-zero}
 
 -- ---- the answers
 
--- number is 0, and then x is the answer, or it is a refusal's, with its place
-abbrev unless : {A : Type 0} → (Refusal → A) → ℕ → ℕ → A → A
-unless bad number place x = pick (ltb 0 number) (bad (refusalOf number place)) x
+-- number is 0, and then x is the answer, or it is a refusal's, with its places
+abbrev unless : {A : Type 0} → (Refusal → A) → ℕ → ℕ → ℕ → A → A
+unless bad number place beside x = pick (ltb 0 number) (bad (refusalOf number place beside)) x
 
-unless-told : {A : Type 0} (bad : Refusal → A) (x : A) (r : Refusal) → unless bad (numberOf r) (placeOf r) x ≡ bad r
+unless-told : {A : Type 0} (bad : Refusal → A) (x : A) (r : Refusal) → unless bad (numberOf r) (placeOf r) (besideOf r) x ≡ bad r
 unless-told bad x r =
-    ap (λ (t : Bool). pick t (bad (refusalOf (numberOf r) (placeOf r))) x) (lt-ltb 0 (numberOf r) (number-some r)) ∙ ap bad (told-back r)
+    ap (λ (t : Bool). pick t (bad (refusalOf (numberOf r) (placeOf r) (besideOf r))) x) (lt-ltb 0 (numberOf r) (number-some r)) ∙ ap bad (told-back r)
 
 abbrev pub lookedFrom : EdgeSstLooked → Looked
-lookedFrom r = unless Looked.Refused (r .number) (r .place) (pick (ltb 0 (r .found)) (Looked.Found (r .degree) (r .index) (r .compared)) (Looked.Absent (r .compared)))
+lookedFrom r = unless Looked.Refused (r .number) (r .place) (r .beside) (pick (ltb 0 (r .found)) (Looked.Found (r .degree) (r .index) (r .compared)) (Looked.Absent (r .compared)))
 
 pub looked-back : (x : Looked) → lookedFrom (lookedTold x) ≡ x
 unfolding lookedTold
@@ -57,7 +57,7 @@ looked-back (Looked.Absent c) = refl
 looked-back (Looked.Refused r) = unless-told Looked.Refused (Looked.Absent 0) r
 
 abbrev pub checkFrom : EdgeSstTold → Check
-checkFrom r = unless Check.Bad (r .number) (r .place) Check.Fine
+checkFrom r = unless Check.Bad (r .number) (r .place) (r .beside) Check.Fine
 
 pub check-back : (x : Check) → checkFrom (checkTold x) ≡ x
 unfolding checkTold
@@ -65,7 +65,7 @@ check-back Check.Fine = refl
 check-back (Check.Bad r) = unless-told Check.Bad Check.Fine r
 
 abbrev pub readFrom : EdgeSstDone → ReadOut
-readFrom r = unless ReadOut.Refused (r .number) (r .place) (ReadOut.Done (r .bytes))
+readFrom r = unless ReadOut.Refused (r .number) (r .place) (r .beside) (ReadOut.Done (r .bytes))
 
 pub read-back : (x : ReadOut) → readFrom (readTold x) ≡ x
 unfolding readTold
@@ -73,7 +73,7 @@ read-back (ReadOut.Done n) = refl
 read-back (ReadOut.Refused r) = unless-told ReadOut.Refused (ReadOut.Done 0) r
 
 abbrev pub writtenFrom : EdgeSstDone → Written
-writtenFrom r = unless Written.Refused (r .number) (r .place) (Written.Done (r .bytes))
+writtenFrom r = unless Written.Refused (r .number) (r .place) (r .beside) (Written.Done (r .bytes))
 
 pub written-back : (x : Written) → writtenFrom (writtenTold x) ≡ x
 unfolding writtenTold
@@ -81,7 +81,7 @@ written-back (Written.Done n) = refl
 written-back (Written.Refused r) = unless-told Written.Refused (Written.Done 0) r
 
 abbrev pub listedFrom : EdgeSstListed → Listed
-listedFrom r = unless Listed.Refused (r .number) (r .place) (Listed.Done (r .rows))
+listedFrom r = unless Listed.Refused (r .number) (r .place) (r .beside) (Listed.Done (r .rows))
 
 pub listed-back : (x : Listed) → listedFrom (listedTold x) ≡ x
 unfolding listedTold
@@ -90,10 +90,10 @@ listed-back (Listed.Refused r) = unless-told Listed.Refused (Listed.Done 0) r
 
 -- ---- the opened record
 
--- an EdgeSstOpened as its sixteen numbers: the fields in the order in which they are declared
+-- an EdgeSstOpened as its seventeen numbers: the fields in the order in which they are declared
 abbrev pub fieldsOf : EdgeSstOpened → List ℕ
 fieldsOf c =
-    c .number ∷ c .place ∷ c .keystart ∷ c .keylen ∷ c .offsetstart ∷ c .offsetlen ∷ c .partnerstart ∷ c .partnerlen ∷ c .logstart ∷ c .loglen
+    c .number ∷ c .place ∷ c .beside ∷ c .keystart ∷ c .keylen ∷ c .offsetstart ∷ c .offsetlen ∷ c .partnerstart ∷ c .partnerlen ∷ c .logstart ∷ c .loglen
     ∷ c .deadstart ∷ c .deadlen ∷ c .marked ∷ c .keycount ∷ c .edgecount ∷ c .bits ∷ []
 
 -- a mark's number is above 0 exactly if the mark is set
@@ -123,11 +123,11 @@ opened-back f o e =
 
 -- no record: what is told beside a refusal
 abbrev none : Opened
-none = recordFrom (fieldsOf (refusalWith 0 0))
+none = recordFrom (fieldsOf (refusalWith 0 0 0))
 
 -- and so the whole answer of `edge_sst_open`
 abbrev pub openingFrom : EdgeSstOpened → Opening
-openingFrom c = unless Opening.Refused (c .number) (c .place) (Opening.Good (recordFrom (fieldsOf c)))
+openingFrom c = unless Opening.Refused (c .number) (c .place) (c .beside) (Opening.Good (recordFrom (fieldsOf c)))
 
 pub opening-back : (f : List ℕ) (x : Opening) → openOf f ≡ x → openingFrom (openedTold x) ≡ x
 unfolding openedTold
