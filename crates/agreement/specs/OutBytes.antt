@@ -23,7 +23,7 @@ use Rattle.refusal.specs.Check.Laws.{fine-pick, and-both}
 use Rattle.index.specs.Order.{Rising}
 use Rattle.frame.specs.Open.{knownOf, recordOf, bytesAt, keyAt, offsetAt}
 use Rattle.degrees.specs.Degrees.{groupAt}
-use Rattle.group.specs.Group.{Partners, good, badTag, badVarint, badShape, groupOf, partnersOf}
+use Rattle.group.specs.Group.{Partners, good, bad, groupOf, partnersOf}
 use Rattle.group.specs.Group.Laws.{good-is}
 use Rattle.group.specs.Good as group
 use Rattle.group.specs.Written.{Halves, Above}
@@ -157,9 +157,7 @@ module _ (keys p o : List ℕ) (w : ℕ) (logs dead : List ℕ) (bk : Bytes keys
     where
       go : (x : Partners) → groupIn p o w i ≡ x → Halves (partnersOf x)
       go (good dense ps) q = group.partners-halves (groupAt p o w i) dense ps q (bytes-part p bp (offsetAt o w i) (offsetAt o w (i + 1)))
-      go badTag q = tt
-      go badVarint q = tt
-      go badShape q = tt
+      go (bad f) q = tt
 
   read-fits : (d i e : ℕ) → AllFit (readFrom keys p o w logs dead d i e)
   unfolding readFrom AllFit halvesAt

@@ -31,12 +31,12 @@ use Rattle.degrees.specs.declared.Sum.{Sum}
 use Rattle.degrees.specs.Degrees.{groupAt, degreeAt, edgesBefore, plus, capped}
 use Rattle.degrees.specs.Degrees.Laws.{in-is, degree-is, before-none, before-all}
 use Rattle.codes.specs.Varint.{varintAt}
-use Rattle.group.specs.Group.{Partners, degreeOf, groupOf, isGood, partnersOf, answerOf}
-use Rattle.group.specs.Group.Laws.{good-is, answer-good}
+use Rattle.group.specs.Group.{Partners, degreeOf, groupOf, isGood, partnersOf}
+use Rattle.group.specs.Group.Laws.{good-is}
 use Rattle.group.specs.Good as group
 use Rattle.lookup.specs.declared.groups.GroupSeen.{GroupSeen}
 use Rattle.lookup.specs.Lookup.{Outcome, found, absent, refused, Rooms, groupCheck, markAt, logsFrom, marksFrom, short, lookIn, lookWith, lookOf}
-use Rattle.lookup.specs.Groups.{check-good, groupSeen, toldOf, seen-told}
+use Rattle.lookup.specs.Groups.{check-good, groupSeen, good-seen}
 use Rattle.lookup.specs.Calls as calls
 use Rattle.reader.specs.Opened.{opened-keys, opened-offsets}
 use Rattle.reader.specs.Look.{of-good, with-record}
@@ -308,13 +308,13 @@ module _ (f : List ℕ) (o : Opened) (pass : checkedOf f ≡ Opening.Good o) (k 
 
     -- the group is good
     seen-good : calls.group f o i ≡ GroupSeen.Good (length group-partners)
-    unfolding group-partners toldOf
+    unfolding group-partners
     seen-good =
         let lt = here .0 in
         let risen = up .above i lt in
         let end = up .within (i + 1) (omega arith) in
         let (dense, is) = good-is (groupIn ps os w i) (each-good keys ps os w ls ds (o .keycount) 0 ok i (omega arith) (omega arith)) in
-        seen-told ps (offsetAt os w i) (offsetAt os w (i + 1)) i (omega arith) (omega arith) _ (ap answerOf is ∙ answer-good dense (partnersOf (groupIn ps os w i)))
+        good-seen ps (offsetAt os w i) (offsetAt os w (i + 1)) i (omega arith) (omega arith) dense (partnersOf (groupIn ps os w i)) is
 
     -- its edges lie within the edge count
     through : first + length group-partners ≤ o .edgecount

@@ -12,7 +12,7 @@ use Rattle.base.specs.Pick.{pick}
 use Rattle.codes.specs.Ids.{idAt}
 use Rattle.refusal.specs.declared.Refusal.{Refusal}
 use Rattle.refusal.specs.declared.Check.{Check}
-use Rattle.refusal.specs.Refusal.{numberOf, placeOf, besideOf, refusalOf}
+use Rattle.refusal.specs.Refusal.{numberOf, placeOf, besideOf, refusalTold}
 use Rattle.refusal.specs.Refusal.Laws.{number-some, told-back}
 use Rattle.frame.specs.declared.Opened.{Opened}
 use Rattle.frame.specs.declared.Opening.{Opening}
@@ -41,11 +41,11 @@ use Rattle.edge_sst_c.specs.Refused.{opened-zero}
 
 -- number is 0, and then x is the answer, or it is a refusal's, with its places
 abbrev unless : {A : Type 0} → (Refusal → A) → ℕ → ℕ → ℕ → A → A
-unless bad number place beside x = pick (ltb 0 number) (bad (refusalOf number place beside)) x
+unless bad number place beside x = pick (ltb 0 number) (bad (refusalTold number place beside)) x
 
 unless-told : {A : Type 0} (bad : Refusal → A) (x : A) (r : Refusal) → unless bad (numberOf r) (placeOf r) (besideOf r) x ≡ bad r
 unless-told bad x r =
-    ap (λ (t : Bool). pick t (bad (refusalOf (numberOf r) (placeOf r) (besideOf r))) x) (lt-ltb 0 (numberOf r) (number-some r)) ∙ ap bad (told-back r)
+    ap (λ (t : Bool). pick t (bad (refusalTold (numberOf r) (placeOf r) (besideOf r))) x) (lt-ltb 0 (numberOf r) (number-some r)) ∙ ap bad (told-back r)
 
 abbrev pub lookedFrom : EdgeSstLooked → Looked
 lookedFrom r = unless Looked.Refused (r .number) (r .place) (r .beside) (pick (ltb 0 (r .found)) (Looked.Found (r .degree) (r .index) (r .compared)) (Looked.Absent (r .compared)))

@@ -5,7 +5,8 @@ use mathlib.Core.List.{List, [], _∷_}
 use mathlib.Core.Bool.{true, false}
 use lib.ListN.{length}
 use Rattle.codes.specs.declared.ids.Id.{Id}
-use Rattle.codes.specs.declared.varint.Varint.the-variants.{Value, Long}
+use Rattle.codes.specs.declared.varint.Varint.the-variants.{Value, Bad}
+use Rattle.codes.specs.declared.varint.Unread.the-variants.{Long}
 use Rattle.codes.specs.Little.{leAt, leBytes}
 use Rattle.codes.specs.Ids.{beBytes, idBytes}
 use Rattle.codes.specs.Varint.{lastByte, varFrom, varintAt, bytesFrom, varBytes}
@@ -43,7 +44,7 @@ pub record Marked : Type 0 where
   pub c3 : (varBytes 128 ≡ 0x80 ∷ 0x01 ∷ []) × (varintAt (0x80 ∷ 0x01 ∷ []) 0 ≡ Value 128 2)
   pub c4 : (varBytes 300 ≡ 0xac ∷ 0x02 ∷ []) × (varintAt (0xac ∷ 0x02 ∷ []) 0 ≡ Value 300 2)
   -- "5. `80 00` is refused": as a group's degree, 17 at the group
-  pub c5 : (varintAt (0x80 ∷ 0x00 ∷ []) 0 ≡ Long) × (groupCheck 3 (groupOf (0x80 ∷ 0x00 ∷ [])) ≡ Check.Bad (Refusal.Varint 3))
+  pub c5 : (varintAt (0x80 ∷ 0x00 ∷ []) 0 ≡ Bad Long) × (groupCheck 3 (groupOf (0x80 ∷ 0x00 ∷ [])) ≡ Check.Bad (Refusal.Varint 3))
   -- "6. One partner, upper half 2^49 − 1: cost 15, split. 7. 2^49: cost 16, dense."
   pub c6 : (splitCost 0 (id (2 ^ 49 - 1) 1 ∷ []) ≡ 15) × (isDense 1 (id (2 ^ 49 - 1) 1 ∷ []) ≡ false)
   pub c7 : (splitCost 0 (id (2 ^ 49) 1 ∷ []) ≡ 16) × (isDense 1 (id (2 ^ 49) 1 ∷ []) ≡ true)

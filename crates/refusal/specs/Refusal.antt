@@ -143,5 +143,5 @@ refusalsAt p q =
 -- all: to here
 
 -- the refusal that a number and its places tell
-unfoldable pub refusalOf : ℕ → ℕ → ℕ → Refusal
-refusalOf n p q = getD (refusalsAt p q) (n - 1) Refusal.Size
+unfoldable pub refusalTold : ℕ → ℕ → ℕ → Refusal
+refusalTold n p q = getD (refusalsAt p q) (n - 1) Refusal.Size

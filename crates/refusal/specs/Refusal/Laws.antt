@@ -5,7 +5,7 @@ use mathlib.Core.Bool.{true, _&&_}
 use lib.Dec.{leb}
 use borrow.Author.Tests.{leb-true}
 use Rattle.refusal.specs.declared.Refusal.{Refusal}
-use Rattle.refusal.specs.Refusal.{numberOf, placeOf, besideOf, last, refusalOf}
+use Rattle.refusal.specs.Refusal.{numberOf, placeOf, besideOf, last, refusalTold}
 use Rattle.refusal.specs.Check.Laws.{and-parts}
 
 -- a number of the table
@@ -48,8 +48,8 @@ pub number-most : (r : Refusal) → numberOf r ≤ last
 number-most r = leb-true (numberOf r) last (and-parts (leb 1 (numberOf r)) (leb (numberOf r) last) (numbered r) .1)
 
 -- a refusal's number and places tell that refusal
-pub told-back : (r : Refusal) → refusalOf (numberOf r) (placeOf r) (besideOf r) ≡ r
-unfolding refusalOf
+pub told-back : (r : Refusal) → refusalTold (numberOf r) (placeOf r) (besideOf r) ≡ r
+unfolding refusalTold
 -- told-back: from refusals.txt
 told-back Refusal.Size = refl
 told-back Refusal.Magic = refl
