@@ -357,6 +357,11 @@ module _ (h : Heading) (es : List Edge) (q : Written h es) where
     bits = bits-is j;
   }
 
+  -- its keys
+  pub known-keys : (knownOf f (recordOf f) .keys ≡ keyBytes gs) × (knownOf f (recordOf f) .keycount ≡ n)
+  unfolding known
+  known-keys = (ap (λ (k : Known). k .keys) known-is, ap (λ (k : Known). k .keycount) known-is)
+
   partners-small : length ps < 2 ^ (8 * w)
   partners-small = width-fits (length ps) (few-bytes (t .partners-are))
     where
