@@ -18,7 +18,7 @@ use Rattle.group.specs.Written.{splitFrom, splitBytes, denseBytes}
 use Rattle.batch.specs.declared.Edge.{Edge}
 use Rattle.batch.specs.Batch.{headingOf, edgeAt, edgesAt, edgesOf}
 use Rattle.groups.specs.Groups.{Group, join, groupsOf}
-use Rattle.image.specs.Image.{partnersIn, logsIn, marksIn, keysIn, anyDead, splitCost, denseBy, isDense, groupBytes, anyDense, numbers, partnerBytes, startsFrom, widthOf, octet, octets, fenceCount, fenceBytes, fencesFrom, fencesOf, keyBytes, offsetBytes, logBytes, tombBytes, lastSections, sectionsBy, layoutBy, layoutOf, fileOf}
+use Rattle.image.specs.Image.{partnersIn, logsIn, marksIn, keysIn, anyDead, splitCost, denseBy, isDense, groupBytes, anyDense, numbers, partnerBytes, startsFrom, widthOf, octet, octets, fenced, fenceCount, fenceBytes, fencesFrom, fencesOf, keyBytes, offsetBytes, logBytes, tombBytes, lastSections, sectionsBy, layoutBy, layoutOf, fileOf}
 use Rattle.image.specs.Image.Laws.{length-fences}
 
 -- ---- a group: dense or split
@@ -56,22 +56,33 @@ marks = (refl, refl, refl)
 -- ---- fences: "6 only above 65,536 keys, stride 256", and tombstones: "5 only if an edge is dead"
 
 module _ (w : ℕ) (es : List Edge) (gs : List Group) where
-  abbrev four : ℕ → List Section → List Section
-  four keys last =
+  -- the sections of a file of these edges and keys
+  abbrev sections : Bool → List Section
+  sections dead = sectionsBy (length gs) w dead es gs
+
+  abbrev four : List Section → List Section
+  four last =
       rawSection kind.keys (keyBytes gs)
-      ∷ rawSection kind.offsets (offsetBytes w keys 0 gs)
-      ∷ rawSection kind.partners (partnerBytes keys gs)
+      ∷ rawSection kind.offsets (offsetBytes w (length gs) 0 gs)
+      ∷ rawSection kind.partners (partnerBytes (length gs) gs)
       ∷ rawSection kind.logs (logBytes es)
       ∷ last
 
-  -- the sections of a file of so many keys
-  pub last-sections :
-      (sectionsBy 65536 w false es gs ≡ four 65536 [])
-      × (sectionsBy 65537 w false es gs ≡ four 65537 (rawSection kind.fences (fencesOf (keysIn gs)) ∷ []))
-      × (sectionsBy 65536 w true es gs ≡ four 65536 (rawSection kind.tombstones (tombBytes es) ∷ []))
-      × (sectionsBy 65537 w true es gs ≡ four 65537 (rawSection kind.tombstones (tombBytes es) ∷ rawSection kind.fences (fencesOf (keysIn gs)) ∷ []))
+  abbrev tombstones : Section
+  tombstones = rawSection kind.tombstones (tombBytes es)
+
+  abbrev fences : Section
+  fences = rawSection kind.fences (fencesOf (keysIn gs))
+
+  pub unfenced-at : length gs ≡ 65536 → (sections false ≡ four []) × (sections true ≡ four (tombstones ∷ []))
   unfolding sectionsBy lastSections
-  last-sections = (refl, refl, refl, refl)
+  unfenced-at n =
+      (ap (λ (k : ℕ). four (lastSections false (fenced k) es gs)) n, ap (λ (k : ℕ). four (lastSections true (fenced k) es gs)) n)
+
+  pub fenced-at : length gs ≡ 65537 → (sections false ≡ four (fences ∷ [])) × (sections true ≡ four (tombstones ∷ fences ∷ []))
+  unfolding sectionsBy lastSections
+  fenced-at n =
+      (ap (λ (k : ℕ). four (lastSections false (fenced k) es gs)) n, ap (λ (k : ℕ). four (lastSections true (fenced k) es gs)) n)
 
 -- 65,537 keys at stride 256 make 257 entries, and 65,536 would make 256; a million make 3,907
 pub fence-count : (fenceCount 65536 ≡ 256) × (fenceCount 65537 ≡ 257) × (fenceCount 1000000 ≡ 3907)
