@@ -1,6 +1,7 @@
 -- Document 01's table of refusals: the number of each case, and its place.
 use Prim.Native.Nat.{ℕ}
 use Rattle.refusal.specs.declared.Refusal.{Refusal}
+pub mod Laws
 
 abbrev pub numberOf : Refusal → ℕ
 -- file under 84 or over 2^30 bytes

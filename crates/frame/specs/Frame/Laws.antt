@@ -1,21 +1,23 @@
--- The laws of the section table and of rules 9 to 12.
+-- The laws of the section table and of rules 9 to 12, and what the rules do not see: sections of unknown kinds and the minor
+-- version.
 use mathlib.Core.Path.{_≡_, refl, sym, ap, _∙_}
 use Prim.Native.Nat.{ℕ, zero, suc, _+_, _-_, _*_, _≤_, _<_}
 use native.Mathlib.Omega.{arith}
 use mathlib.Core.List.{List, [], _∷_}
 use mathlib.Core.Bool.{Bool, true, false, not, _&&_, _||_}
-use lib.ListN.{length}
+use lib.ListN.{length, getD}
 use lib.Dec.{leb, eqb}
-use borrow.Author.Tests.{eqb-true, leb-true, eq-eqb, le-leb}
+use borrow.Author.Tests.{eqb-true, leb-true, eq-eqb, ne-eqb, le-leb}
 use Rattle.base.specs.Pick.{pick}
-use Rattle.codes.specs.Little.{leBytes}
+use Rattle.codes.specs.Little.{leAt, leBytes}
+use Rattle.codes.specs.Little.Laws.{leAt-same}
 use Rattle.refusal.specs.declared.Refusal.{Refusal}
 use Rattle.refusal.specs.declared.Check.{Check}
-use Rattle.refusal.specs.Check.Laws.{pick-fine, and-parts, and-both}
+use Rattle.refusal.specs.Check.Laws.{pick-fine, fine-pick, and-parts, and-both}
 use Rattle.frame.specs.declared.Row.{Row}
 use Rattle.frame.specs.declared.Range.{Range}
 use Rattle.frame.specs.Kind as kind
-use Rattle.frame.specs.Frame.{rowAt, nextAt, rowsFrom, endFrom, countOf, rowsOf, endOf, sectionOf, rangeOf, nowhere, rangeGood, ranges, all, nameGood, kindsGood, fills, tableGood}
+use Rattle.frame.specs.Frame.{rowAt, nextAt, rowsFrom, endFrom, countOf, rowsOf, endOf, has, twice, once, sectionOf, rangeOf, nowhere, rangeGood, ranges, all, nameGood, kindsGood, fills, tableGood, codecGood, codecs, sizesGood, presenceGood, countsGood, flagsOf, headCheck}
 
 -- the magic's number is that of its bytes
 pub magic-is : leBytes 8 kind.magic ≡ kind.magicBytes
@@ -95,3 +97,98 @@ section-within limit q (r ∷ rs) floor k e =
         → pick b (rangeOf r) (sectionOf q rs) .start + pick b (rangeOf r) (sectionOf q rs) .len ≤ limit
     go true a ih = a
     go false a ih = ih
+
+-- rule 11 in numbers: each section begins at the floor or later, where the one before it ends, and ends at the limit or before
+unfoldable pub Apart : ℕ → ℕ → List Row → Type 0
+Apart limit floor [] = Unit {0}
+Apart limit floor (r ∷ rs) = (floor ≤ r .start) × (r .start + r .len ≤ limit) × Apart limit (r .start + r .len) rs
+
+pub ranges-made : (limit floor : ℕ) (rs : List Row) (k : ℕ) → Apart limit floor rs → ranges limit rs floor k ≡ Check.Fine
+unfolding ranges Apart
+ranges-made limit floor [] k a = refl
+ranges-made limit floor (r ∷ rs) k a =
+    let good : rangeGood limit floor r ≡ true = and-both (le-leb floor (r .start) (a .0)) (le-leb (r .start + r .len) limit (a .1)) in
+    fine-pick (Check.Bad (Refusal.Range k)) good (ranges-made limit (r .start + r .len) rs (k + 1) (a .2))
+
+-- ---- "Every other kind is skipped"
+
+-- what the rules ask a table of known kinds is the same of both: whether one is there, whether twice, and how long it is
+pub record SameKnown (rs ts : List Row) : Type 0 where
+  pub there : (k : ℕ) → kind.unknown k ≡ false → has k ts ≡ has k rs
+  pub doubled : (k : ℕ) → kind.unknown k ≡ false → twice k ts ≡ twice k rs
+  pub len : (k : ℕ) → kind.unknown k ≡ false → sectionOf k ts .len ≡ sectionOf k rs .len
+
+module _ (rs ts : List Row) (s : SameKnown rs ts) where
+  once-known : (k : ℕ) → kind.unknown k ≡ false → once k ts ≡ once k rs
+  once-known k h = λ j. s .there k h j && not (s .doubled k h j)
+
+  -- rule 9 asks for no unknown kind
+  pub kinds-known : kindsGood ts ≡ kindsGood rs
+  unfolding kindsGood
+  kinds-known = λ j.
+      once-known kind.keys refl j && (once-known kind.offsets refl j && (once-known kind.partners refl j && (once-known kind.logs refl j
+      && (not (s .doubled kind.tombstones refl j) && not (s .doubled kind.fences refl j)))))
+
+  -- nor does rule 12
+  pub counts-known : (flags n e bits : ℕ) → countsGood flags n e bits ts ≡ countsGood flags n e bits rs
+  unfolding countsGood
+  counts-known flags n e bits = λ j.
+      sizesGood n e bits (s .len kind.keys refl j) (s .len kind.offsets refl j) (s .len kind.logs refl j) (s .there kind.tombstones refl j) (s .len kind.tombstones refl j)
+      && presenceGood flags n e (s .there kind.tombstones refl j) (s .there kind.fences refl j) (s .there kind.properties refl j)
+
+-- a table with the kinds of rule 9 has an entry
+pub kinds-some : (rs : List Row) → kindsGood rs ≡ true → 1 ≤ length rs
+unfolding kindsGood has
+kinds-some [] e = let z : _≡_ {A = ℕ} 0 1 = cc in absurd (omega arith)
+kinds-some (r ∷ rs) e = omega arith
+
+-- names have at most 63 bytes
+unfoldable pub Short : List Row → Type 0
+Short [] = Unit {0}
+Short (r ∷ rs) = (r .namelen ≤ kind.longestName) × Short rs
+
+module _ (r : Row) (rs : List Row) (u : kind.unknown (r .kind) ≡ true) where
+  unlike : (k : ℕ) → kind.unknown k ≡ false → eqb (r .kind) k ≡ false
+  unlike k h = ne-eqb (r .kind) k (λ e. let v : kind.unknown k ≡ true = (rw e at u) in let w : true ≡ false = sym v ∙ h in let z : _≡_ {A = ℕ} 0 1 = cc in omega arith)
+
+  not-fixed : kind.fixed (r .kind) ≡ false
+  not-fixed = go (kind.fixed (r .kind)) u
+    where
+      go : (x : Bool) → not (x || eqb (r .kind) kind.properties) ≡ true → x ≡ false
+      go true e = let z : _≡_ {A = ℕ} 0 1 = cc in absurd (omega arith)
+      go false e = refl
+
+  -- an entry of an unknown kind makes no difference to what is asked of known ones
+  pub skipped : SameKnown (r ∷ rs) rs
+  unfolding has twice sectionOf
+  skipped = record { there = λ k h. rw (unlike k h); doubled = λ k h. rw (unlike k h); len = λ k h. rw (unlike k h) }
+
+  -- so none to rule 9's kinds
+  pub kinds-skipped : kindsGood (r ∷ rs) ≡ kindsGood rs
+  kinds-skipped = sym (kinds-known (r ∷ rs) rs skipped)
+
+  -- its codec and its name's bytes are its writer's own
+  pub codec-skipped : (k : ℕ) → codecs (r ∷ rs) k ≡ codecs rs (k + 1)
+  unfolding codecs
+  codec-skipped k = rw not-fixed
+
+  pub name-skipped : r .namelen ≤ kind.longestName → nameGood r ≡ true
+  name-skipped h = rw (le-leb (r .namelen) kind.longestName h, not-fixed)
+
+-- ---- "minor u8, any"
+
+-- two headers that differ in the minor version at most
+abbrev pub ButMinor : List ℕ → List ℕ → Type 0
+ButMinor g h = (i : ℕ) → i < 64 → (i ≡ 9 → ⊥) → getD g i 0 ≡ getD h i 0
+
+module _ (g h : List ℕ) (same : ButMinor g h) where
+  pub flags-minor : flagsOf g ≡ flagsOf h
+  flags-minor = leAt-same g h 12 12 4 (λ k l. same (12 + k) (omega arith) (λ e. omega arith))
+
+  -- rules 2 to 5 do not see it
+  pub head-minor : headCheck g ≡ headCheck h
+  unfolding headCheck
+  head-minor =
+      let magic = leAt-same g h 0 0 8 (λ k l. same (0 + k) (omega arith) (λ e. omega arith)) in
+      let size = leAt-same g h 10 10 2 (λ k l. same (10 + k) (omega arith) (λ e. omega arith)) in
+      rw (magic, same 8 (omega arith) (λ e. omega arith), size, flags-minor)

@@ -6,8 +6,9 @@ use mathlib.Core.List.{List}
 use mathlib.Core.Bool.{Bool, true, false, not, _&&_, _||_}
 use lib.ListN.{length}
 use lib.Dec.{ltb, leb, eqb}
-use borrow.Author.Tests.{ltb-false, leb-true, eqb-true}
+use borrow.Author.Tests.{ltb-true, ltb-false, leb-true, eqb-true, eqb-false, not-true, le-ltb, lt-ltb, eq-eqb, ne-eqb}
 use Rattle.codes.specs.Little.{leAt}
+use Rattle.xxh3_spec.specs.Xxh3.{xxh3}
 use Rattle.refusal.specs.declared.Refusal.{Refusal}
 use Rattle.refusal.specs.declared.Check.{Check}
 use Rattle.refusal.specs.Check.{_⊳_, refuse}
@@ -73,6 +74,19 @@ tail-parts n t e =
     let p = fine-parts (refuse Refusal.TailMagic (not (eqb (leAt t (length t - 8) 8) kind.magic))) _ e in
     let a = either-parts Refusal.FooterLength (ltb (footLen t) 39) (ltb (n - 64) (footLen t)) (p .1) in
     (ltb-false (footLen t) 39 (a .0), ltb-false (n - 64) (footLen t) (a .1))
+
+-- rules 1, 6 and 7, and 8, from the numbers
+pub size-made : (n : ℕ) → 84 ≤ n → n ≤ kind.mostBytes → sizeCheck n ≡ Check.Fine
+unfolding sizeCheck
+size-made n a b = rw (le-ltb n 84 a, le-ltb kind.mostBytes n b)
+
+pub tail-made : (n : ℕ) (t : List ℕ) → leAt t (length t - 8) 8 ≡ kind.magic → 39 ≤ footLen t → footLen t ≤ n - 64 → tailCheck n t ≡ Check.Fine
+unfolding tailCheck
+tail-made n t m a b = rw (eq-eqb (leAt t (length t - 8) 8) kind.magic m, le-ltb (footLen t) 39 a, le-ltb (n - 64) (footLen t) b)
+
+pub sum-made : (t : List ℕ) → xxh3 (bodyOf t) ≡ leAt t (length t - 20) 8 → sumCheck t ≡ Check.Fine
+unfolding sumCheck
+sum-made t e = rw (eq-eqb (xxh3 (bodyOf t)) (leAt t (length t - 20) 8) e)
 
 -- the bounds and lengths of rule 12
 pub record Sized (n e bits k o l : ℕ) (marked : Bool) (d : ℕ) : Type 0 where
