@@ -224,14 +224,15 @@ module _ (f : List ℕ) where
       let first = head-first f Refusal.Major (omega arith) (omega arith) in
       let a = by-second magicRule (majorRule ⊳ (sizeRule ⊳ flagsRule)) Refusal.Major (refuse-own Refusal.Magic Refusal.Major (otherMagic f) (λ e. omega arith)) in
       let later = numbers-then 4 5 sizeRule flagsRule (numbers-refuse 4 5 Refusal.HeaderSize (otherSize f) refl) (numbers-refuse 4 5 Refusal.Flags (moreFlags f) refl) in
-      let b = by-first majorRule (sizeRule ⊳ flagsRule) Refusal.Major (below 4 5 later Refusal.Major (omega arith)) in
-      (λ e.
-      let x = first .0 e in
-      let y = a .0 (x .1) in
-      record { begins = begins (x .0) (y .0); major = eqb-false _ _ (not-true _ (refuse-bad Refusal.Major (otherMajor f) .0 (b .0 (y .1)))) },
-      λ m.
-      let x = begun (m .begins) in
-      first .1 (x .0, a .1 (x .1, b .1 (refuse-bad Refusal.Major (otherMajor f) .1 (ap not (ne-eqb (getD f 8 0) 1 (m .major)))))))
+      let b = by-first majorRule (sizeRule ⊳ flagsRule) Refusal.Major (below 4 5 later Refusal.Major (omega arith)) in (
+        λ e.
+            let x = first .0 e in
+            let y = a .0 (x .1) in
+            record { begins = begins (x .0) (y .0); major = eqb-false _ _ (not-true _ (refuse-bad Refusal.Major (otherMajor f) .0 (b .0 (y .1)))) },
+        λ m.
+            let x = begun (m .begins) in
+            first .1 (x .0, a .1 (x .1, b .1 (refuse-bad Refusal.Major (otherMajor f) .1 (ap not (ne-eqb (getD f 8 0) 1 (m .major)))))),
+      )
 
   -- 5, exactly, of a file of bytes
   pub flags-exactly : ((j : ℕ) → getD f j 0 < 2 ^ 8) → (fileCheck f ≡ Check.Bad Refusal.Flags) ↔ UnassignedFlag f
@@ -240,25 +241,26 @@ module _ (f : List ℕ) where
       let first = head-first f Refusal.Flags (omega arith) (omega arith) in
       let a = by-second magicRule (majorRule ⊳ (sizeRule ⊳ flagsRule)) Refusal.Flags (refuse-own Refusal.Magic Refusal.Flags (otherMagic f) (λ e. omega arith)) in
       let b = by-second majorRule (sizeRule ⊳ flagsRule) Refusal.Flags (refuse-own Refusal.Major Refusal.Flags (otherMajor f) (λ e. omega arith)) in
-      let c = by-second sizeRule flagsRule Refusal.Flags (refuse-own Refusal.HeaderSize Refusal.Flags (otherSize f) (λ e. omega arith)) in
-      (λ e.
-      let x = first .0 e in
-      let y = a .0 (x .1) in
-      let z = b .0 (y .1) in
-      let v = c .0 (z .1) in
-      let (i, l, m, s) = flag-bits (flagsOf f) (leAt-lt f by 12 4) (ltb-true 15 (flagsOf f) (refuse-bad Refusal.Flags (moreFlags f) .0 (v .1))) in
-      record {
-        begins = begins (x .0) (y .0);
-        major = eqb-true _ _ (not-false _ (refuse-fine Refusal.Major (otherMajor f) .0 (z .0)));
-        header = eqb-true _ _ (not-false _ (refuse-fine Refusal.HeaderSize (otherSize f) .0 (v .0)));
-        bit = i;
-        least = l;
-        most = m;
-        set = s;
-      },
-      λ u.
-      let x = begun (u .begins) in
-      let major = refuse-fine Refusal.Major (otherMajor f) .1 (ap not (eq-eqb (getD f 8 0) 1 (u .major))) in
-      let size = refuse-fine Refusal.HeaderSize (otherSize f) .1 (ap not (eq-eqb (leAt f 10 2) 64 (u .header))) in
-      let flags = refuse-bad Refusal.Flags (moreFlags f) .1 (lt-ltb 15 (flagsOf f) (bits-flag (flagsOf f) (u .bit) (u .least) (u .set))) in
-      first .1 (x .0, a .1 (x .1, b .1 (major, c .1 (size, flags)))))
+      let c = by-second sizeRule flagsRule Refusal.Flags (refuse-own Refusal.HeaderSize Refusal.Flags (otherSize f) (λ e. omega arith)) in (
+        λ e.
+            let x = first .0 e in
+            let y = a .0 (x .1) in
+            let z = b .0 (y .1) in
+            let v = c .0 (z .1) in
+            let (i, l, m, s) = flag-bits (flagsOf f) (leAt-lt f by 12 4) (ltb-true 15 (flagsOf f) (refuse-bad Refusal.Flags (moreFlags f) .0 (v .1))) in
+            record {
+              begins = begins (x .0) (y .0);
+              major = eqb-true _ _ (not-false _ (refuse-fine Refusal.Major (otherMajor f) .0 (z .0)));
+              header = eqb-true _ _ (not-false _ (refuse-fine Refusal.HeaderSize (otherSize f) .0 (v .0)));
+              bit = i;
+              least = l;
+              most = m;
+              set = s;
+            },
+        λ u.
+            let x = begun (u .begins) in
+            let major = refuse-fine Refusal.Major (otherMajor f) .1 (ap not (eq-eqb (getD f 8 0) 1 (u .major))) in
+            let size = refuse-fine Refusal.HeaderSize (otherSize f) .1 (ap not (eq-eqb (leAt f 10 2) 64 (u .header))) in
+            let flags = refuse-bad Refusal.Flags (moreFlags f) .1 (lt-ltb 15 (flagsOf f) (bits-flag (flagsOf f) (u .bit) (u .least) (u .set))) in
+            first .1 (x .0, a .1 (x .1, b .1 (major, c .1 (size, flags)))),
+      )

@@ -1,4 +1,5 @@
 pub mod Group
 pub mod Written
 pub mod Good
+pub mod Tag
 pub mod Cases

@@ -159,9 +159,13 @@ module _ (r : Row) (rs : List Row) (u : kind.unknown (r .kind) ≡ true) where
       go false e = refl
 
   -- an entry of an unknown kind makes no difference to what is asked of known ones
+  pub section-skipped : (k : ℕ) → kind.unknown k ≡ false → sectionOf k rs ≡ sectionOf k (r ∷ rs)
+  unfolding sectionOf
+  section-skipped k h = rw (unlike k h)
+
   pub skipped : SameKnown (r ∷ rs) rs
-  unfolding has twice sectionOf
-  skipped = record { there = λ k h. rw (unlike k h); doubled = λ k h. rw (unlike k h); len = λ k h. rw (unlike k h) }
+  unfolding has twice
+  skipped = record { there = λ k h. rw (unlike k h); doubled = λ k h. rw (unlike k h); len = λ k h. ap (λ (x : Range). x .len) (section-skipped k h) }
 
   -- so none to rule 9's kinds
   pub kinds-skipped : kindsGood (r ∷ rs) ≡ kindsGood rs

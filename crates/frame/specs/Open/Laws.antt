@@ -1,12 +1,13 @@
 -- Opening taken apart and put together: a file opens exactly if each rule is fine.
 use mathlib.Core.Path.{_≡_, refl, sym, ap, _∙_}
+use mathlib.Core.Logic.{_↔_}
 use Prim.Native.Nat.{ℕ, suc, _+_, _-_, _*_, _/_, _^_, _≤_, _<_}
 use native.Mathlib.Omega.{arith}
 use mathlib.Core.List.{List}
 use mathlib.Core.Bool.{Bool, true, false, not, _&&_, _||_}
 use lib.ListN.{length}
 use lib.Dec.{ltb, leb, eqb}
-use borrow.Author.Tests.{ltb-true, ltb-false, leb-true, eqb-true, eqb-false, not-true, le-ltb, lt-ltb, eq-eqb, ne-eqb}
+use borrow.Author.Tests.{ltb-false, leb-true, eqb-true, le-ltb, eq-eqb}
 use Rattle.codes.specs.Little.{leAt}
 use Rattle.xxh3_spec.specs.Xxh3.{xxh3}
 use Rattle.refusal.specs.declared.Refusal.{Refusal}
@@ -179,6 +180,20 @@ opens-made f s =
     ap (refuse Refusal.Fences) (s .fences) in
     let good : fileCheck f ≡ Check.Fine = fine-both (frames-made f (s .frames)) (fine-both (s .keys) (fine-both (s .offsets) fences)) in
     ap (λ (t : Check). opening t (recordOf f)) good
+
+-- what opening answers, exactly: the record where no rule is broken, or the first refusal
+module _ (f : List ℕ) where
+  pub opens-fine : (openOf f ≡ Opening.Good (recordOf f)) ↔ (fileCheck f ≡ Check.Fine)
+  unfolding openOf opening
+  opens-fine = (λ e. opening-good (fileCheck f) (recordOf f) (recordOf f) e .0, λ e. rw e)
+
+  pub opens-refused : (r : Refusal) → (openOf f ≡ Opening.Refused r) ↔ (fileCheck f ≡ Check.Bad r)
+  unfolding openOf opening
+  opens-refused r = (go (fileCheck f), λ e. rw e)
+    where
+      go : (c : Check) → opening c (recordOf f) ≡ Opening.Refused r → c ≡ Check.Bad r
+      go Check.Fine e = let z : _≡_ {A = ℕ} 0 1 = cc in absurd (omega arith)
+      go (Check.Bad q) e = let same : q ≡ r = cc in ap Check.Bad same
 
 -- ---- a chain of rules, one after the other, as the code goes through them
 
