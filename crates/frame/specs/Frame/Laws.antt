@@ -103,6 +103,14 @@ unfoldable pub Apart : ℕ → ℕ → List Row → Type 0
 Apart limit floor [] = Unit {0}
 Apart limit floor (r ∷ rs) = (floor ≤ r .start) × (r .start + r .len ≤ limit) × Apart limit (r .start + r .len) rs
 
+pub ranges-parts : (limit floor : ℕ) (rs : List Row) (k : ℕ) → ranges limit rs floor k ≡ Check.Fine → Apart limit floor rs
+unfolding ranges Apart
+ranges-parts limit floor [] k e = tt
+ranges-parts limit floor (r ∷ rs) k e =
+    let p = pick-fine (rangeGood limit floor r) (ranges limit rs (r .start + r .len) (k + 1)) (Refusal.Range k) e in
+    let w = and-parts (leb floor (r .start)) (leb (r .start + r .len) limit) (p .0) in
+    (leb-true _ _ (w .0), leb-true _ _ (w .1), ranges-parts limit (r .start + r .len) rs (k + 1) (p .1))
+
 pub ranges-made : (limit floor : ℕ) (rs : List Row) (k : ℕ) → Apart limit floor rs → ranges limit rs floor k ≡ Check.Fine
 unfolding ranges Apart
 ranges-made limit floor [] k a = refl
