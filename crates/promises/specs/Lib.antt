@@ -1,4 +1,5 @@
 pub mod Refusals
+pub mod Given
 pub mod Later
 pub mod Marked
 pub mod Calls
