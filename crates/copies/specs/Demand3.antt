@@ -3,6 +3,7 @@
 -- and places included." And the other way: a later writer's file, with such sections and any minor version, opens where that
 -- copy does.
 use mathlib.Core.Path.{_≡_, refl, sym, ap, _∙_}
+use mathlib.Core.Logic.{_↔_}
 use Prim.Native.Nat.{ℕ}
 use mathlib.Core.List.{List}
 use mathlib.Core.Bool.{Bool, true, not}
@@ -14,7 +15,7 @@ use Rattle.frame.specs.Open.{openOf, recordOf}
 use Rattle.lookup.specs.Lookup.{Rooms, lookOf, lookWith}
 use Rattle.reader.specs.Look.{with-record}
 use Rattle.laid_out.specs.Laid.{file-rows}
-use Rattle.copies.specs.Stripped.{Stripped, Later, copy-opens, copy-answers, added-opens}
+use Rattle.copies.specs.Stripped.{Stripped, Later, opened-later, copy-opens, copy-answers, added-opens}
 use Rattle.copies.specs.Strip.{strip, stripped, Bytes, is-copy, h64, small, fits}
 use Rattle.copies.specs.Whole.{Byted, byted-strip, none-unknown}
 
@@ -33,7 +34,7 @@ pub record Copy (f : List ℕ) (o : Opened) (g : List ℕ) : Type 0 where
   pub alike : Alike f o g
 
 -- a later writer's file opens, and gives the answers of its copy g
-pub record Opens (f g : List ℕ) : Type 0 where
+pub record LaterOpens (f g : List ℕ) : Type 0 where
   pub opens : openOf f ≡ Opening.Good (recordOf f)
   pub alike : Alike f (recordOf f) g
 
@@ -44,7 +45,9 @@ pub record Demand3 : Type 0 where
   pub one-copy : (f : List ℕ) → Bytes f → (o : Opened) → openOf f ≡ Opening.Good o → Copy f o (strip f)
   -- a later writer's file: any minor version, and any sections of unknown kinds that keep the rules for names and ranges. It
   -- opens if the copy without them does
-  pub later : (f : List ℕ) → Later f → (g : List ℕ) → Stripped f g → openOf g ≡ Opening.Good (recordOf g) → Opens f g
+  pub later : (f : List ℕ) → Later f → (g : List ℕ) → Stripped f g → openOf g ≡ Opening.Good (recordOf g) → LaterOpens f g
+  -- no more is asked of it than of every file: a file opens exactly if it keeps those rules and `strip` of it opens
+  pub exactly : (f : List ℕ) → Bytes f → (openOf f ≡ Opening.Good (recordOf f)) ↔ (Later f × (openOf (strip f) ≡ Opening.Good (recordOf (strip f))))
 
 alike : (f : List ℕ) (o : Opened) → openOf f ≡ Opening.Good o → (g : List ℕ) → Stripped f g → Alike f o g
 alike f o e g s = record {
@@ -56,16 +59,22 @@ alike f o e g s = record {
 
 stripped-copy : (f : List ℕ) → Bytes f → (o : Opened) → openOf f ≡ Opening.Good o → Copy f o (strip f)
 unfolding strip stripped
-stripped-copy f by o op = record {
-  bytes = byted-strip f by;
-  copy = is-copy f by o op;
-  known = rw (file-rows (stripped f) (h64 f by o op) (small f by o op) (fits f by o op)) (none-unknown f (bodyOf f) (rowsOf (bodyOf f)) 64 2);
-  alike = alike f o op (strip f) (is-copy f by o op);
-}
+stripped-copy f by o op =
+    let l : Later f = opened-later f o op in
+    let copy : Stripped f (strip f) = is-copy f by l in record {
+      bytes = byted-strip f by;
+      copy = copy;
+      known = rw (file-rows (stripped f) (h64 f by l) (small f by l) (fits f by l)) (none-unknown f (bodyOf f) (rowsOf (bodyOf f)) 64 2);
+      alike = alike f o op (strip f) copy;
+    }
 
 pub demand-3 : Demand3
 demand-3 = record {
   any-copy = alike;
   one-copy = stripped-copy;
   later = λ f l g s e. let o = added-opens f g s l e in record { opens = o; alike = alike f (recordOf f) o g s };
+  exactly = λ f by. (
+    λ e. let l = opened-later f (recordOf f) e in (l, copy-opens f (strip f) (is-copy f by l) (recordOf f) e),
+    λ h. added-opens f (strip f) (is-copy f by (h .0)) (h .0) (h .1),
+  );
 }

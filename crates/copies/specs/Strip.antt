@@ -19,17 +19,14 @@ use Rattle.refusal.specs.declared.Refusal.{Refusal}
 use Rattle.refusal.specs.declared.Check.{Check}
 use Rattle.refusal.specs.Check.Laws.{pick-fine, and-parts}
 use Rattle.frame.specs.declared.Row.{Row}
-use Rattle.frame.specs.declared.Opened.{Opened}
-use Rattle.frame.specs.declared.Opening.{Opening}
 use Rattle.frame.specs.Frame.{rangeOf, rowAt, nextAt, rowsFrom, endFrom, rowsOf, endOf, countOf, keyCount, edgeCount, bitsOf, rangeGood, ranges, footLen, bodyOf}
 use Rattle.frame.specs.Kind as kind
-use Rattle.frame.specs.Frame.Laws.{length-rows, end-room, Table, ranges-parts}
-use Rattle.frame.specs.Open.{openOf}
-use Rattle.frame.specs.Open.Laws.{Frames, opens-parts, size-parts, tail-parts}
+use Rattle.frame.specs.Frame.Laws.{length-rows, end-room, ranges-parts, ranges-made}
+use Rattle.frame.specs.Open.Laws.{size-parts, tail-parts}
 use Rattle.frame.specs.Layout.{Section, Layout, payload, entry, entries, bodyBytes, trailer, layOut}
 use Rattle.laid_out.specs.Rows.{rowsIn, Fits, AllFit, Small, length-entry, past-first, length-first, name-back, length-body, body-rows, body-end, keys-back, edges-back, bits-back}
 use Rattle.laid_out.specs.Laid.{length-laid, sum-back, magic-back, body-back, size-fine, tail-fine, file-rows, ranges-fine, head-back, bytes-first}
-use Rattle.copies.specs.Stripped.{Kept, Copied, none, dropped, kept, Outer, Stripped}
+use Rattle.copies.specs.Stripped.{Kept, Copied, none, dropped, kept, Outer, Stripped, Later}
 
 -- an entry of b with its name, and its bytes in f
 unfoldable pub sectionAt : List ℕ → List ℕ → Row → Section
@@ -203,27 +200,19 @@ bytes-part s by a e j = elim (decLt j (e - a)) [
   | no h ↦ rw (List·getD-eq-default (part s a e) 0 {n = j} (simp length-take (omega arith))) (omega arith)
 ]
 
-module _ (f : List ℕ) (by : Bytes f) (o : Opened) (op : openOf f ≡ Opening.Good o) where
+module _ (f : List ℕ) (by : Bytes f) (l : Later f) where
   abbrev b : List ℕ
   b = bodyOf f
 
-  w : Frames f
-  w = opens-parts f o op .frames
+  z : Outer f
+  z = l .outer
 
-  -- the file's size, and its footer's
-  record Sizes : Type 0 where
-    low : 84 ≤ length f
-    high : length f ≤ 2 ^ 30
-    some : 39 ≤ footLen f
-    most : footLen f ≤ length f - 64
-
-  z : Sizes
-  z = let size = size-parts (length f) (w .size) in
-      let tail = tail-parts (length f) f (w .tail) in record { low = size .0; high = size .1; some = tail .0; most = tail .1 }
+  apart : ranges (length f - footLen f) (rowsOf b) 64 0 ≡ Check.Fine
+  apart = ranges-made (length f - footLen f) 64 (rowsOf b) 0 (z .apart)
 
   length-b : length b ≡ footLen f - 20
   unfolding bodyOf
-  length-b = length-part f (length f - footLen f) (length f - 20) (omega arith) ∙ omega (arith, z)
+  length-b = length-part f (length f - footLen f) (length f - 20) (omega arith) ∙ omega (arith, z .low, z .least, z .most)
 
   bytes-b : Bytes b
   unfolding bodyOf
@@ -237,26 +226,26 @@ module _ (f : List ℕ) (by : Bytes f) (o : Opened) (op : openOf f ≡ Opening.G
 
   ok : AllWithin f b (rowsOf b)
   unfolding rowsOf endOf limit
-  ok = within f b bytes-b limit (omega arith) (countOf b) 2 64 0 (omega (arith, w .table .filled)) (w .apart)
+  ok = within f b bytes-b limit (omega arith) (countOf b) 2 64 0 (omega (arith, z .fills)) apart
 
   paid : 64 + length (payload ss) ≤ length f - footLen f
   unfolding rowsOf limit
-  paid = total f b bytes-b limit (omega arith) (countOf b) 2 64 0 (omega (arith, z)) (w .apart)
+  paid = total f b bytes-b limit (omega arith) (countOf b) 2 64 0 (omega (arith, z .low, z .most)) apart
 
   shorter : length (entries 64 ss) + 19 ≤ length b
   unfolding rowsOf endOf
-  shorter = omega (arith, names-total f b (countOf b) 2 64 (omega (arith, w .table .filled)), w .table .filled)
+  shorter = omega (arith, names-total f b (countOf b) 2 64 (omega (arith, z .fills)), z .fills)
 
   pub small : Small ss
   unfolding rowsOf
-  small = (omega (arith, fewer f b (rowsOf b), length-rows (countOf b) b 2, w .table .most), all-fit f b ok 64 (omega (arith, paid, z)))
+  small = (omega (arith, fewer f b (rowsOf b), length-rows (countOf b) b 2, l .few), all-fit f b ok 64 (omega (arith, paid, z .high)))
 
   pub h64 : length (set (take 64 f) 9 0) ≡ 64
-  h64 = rw length-set (length-take-le 64 f (omega (arith, z)))
+  h64 = rw length-set (length-take-le 64 f (omega (arith, z .low)))
 
   pub fits : length (strip f) ≤ 2 ^ 30
   unfolding strip stripped
-  fits = omega (arith, length-laid (stripped f) h64, length-body ss (keyCount b) (edgeCount b) (bitsOf b) small, paid, shorter, length-b, z)
+  fits = omega (arith, length-laid (stripped f) h64, length-body ss (keyCount b) (edgeCount b) (bitsOf b) small, paid, shorter, length-b, z .low, z .high, z .least, z .most)
 
   table-copied : Copied f b (strip f) (bodyBytes ss (keyCount b) (edgeCount b) (bitsOf b)) (rowsOf b) (rowsIn 64 2 ss)
   unfolding strip stripped layOut bodyBytes leBytes
@@ -281,7 +270,7 @@ module _ (f : List ℕ) (by : Bytes f) (o : Opened) (op : openOf f ≡ Opening.G
         apart = ranges-parts _ 64 (rowsOf (bodyOf (layOut x))) 0 (ranges-fine x h64 small fits);
       }
 
-  -- it is a copy
+  -- it is a copy, of a file that opens and of one that keeps the outer rules alone
   pub is-copy : Stripped f (strip f)
   unfolding strip stripped
   is-copy =
@@ -289,7 +278,7 @@ module _ (f : List ℕ) (by : Bytes f) (o : Opened) (op : openOf f ≡ Opening.G
       let head : (i : ℕ) → i < 64 → getD (layOut x) i 0 ≡ getD (set (take 64 f) 9 0) i 0 = head-back x h64 small fits in
       record {
         header = λ i l ne. head i l ∙ getD-set-other (take 64 f) 9 i 0 0 ne ∙ getD-take 64 f i 0 l;
-        minor = head 9 (omega arith) ∙ getD-set-same (take 64 f) 9 0 0 (rw (length-take-le 64 f (omega (arith, z))) (omega arith));
+        minor = head 9 (omega arith) ∙ getD-set-same (take 64 f) 9 0 0 (rw (length-take-le 64 f (omega (arith, z .low))) (omega arith));
         outer = outer;
         table = rw (file-rows x h64 small fits, body-back x h64 small fits) table-copied;
         keys = ap keyCount (body-back x h64 small fits) ∙ keys-back ss (keyCount b) (edgeCount b) (bitsOf b) small (leAt-lt b bytes-b (length b - 17) 8);

@@ -2,7 +2,7 @@
 -- mended". It opens exactly if the file does, and it knows the same.
 use mathlib.Core.Path.{_≡_, refl, sym, ap, ap₂, _∙_}
 use mathlib.Core.Logic.{_↔_, _⊎_}
-use Prim.Native.Nat.{ℕ, zero, suc, _+_, _-_, _≤_, _<_}
+use Prim.Native.Nat.{ℕ, _+_, _-_, _^_, _≤_, _<_}
 use native.Mathlib.Omega.{arith}
 use mathlib.Core.List.{List, [], _∷_}
 use mathlib.Core.Bool.{Bool, true, false, not, _&&_, _||_}
@@ -22,16 +22,15 @@ use Rattle.frame.specs.declared.Opened.{Opened}
 use Rattle.frame.specs.declared.Opening.{Opening}
 use Rattle.frame.specs.Kind as kind
 use Rattle.frame.specs.Frame.{has, twice, rangeOf, sectionOf, all, nameGood, kindsGood, codecGood, codecs, ranges, countOf, rowsOf, endOf, countsGood, keyCount, edgeCount, bitsOf, bodyOf, footLen, flagsOf, sizeCheck, tailCheck, sumCheck, frameCheck}
-use Rattle.frame.specs.Frame.Laws.{length-rows, Table, Apart, Short, ranges-made, SameKnown, skipped, section-skipped, kinds-known, kinds-some, counts-known, codec-skipped, name-skipped, ButMinor, flags-minor, head-minor}
+use Rattle.frame.specs.Frame.Laws.{length-rows, Table, Apart, Short, names-short, ranges-parts, ranges-made, SameKnown, skipped, section-skipped, kinds-known, kinds-some, counts-known, codec-skipped, name-skipped, ButMinor, flags-minor, head-minor}
 use Rattle.frame.specs.Open.{Known, knownOf, bytesAt, recordFrom, recordOf, framedFrom, framedOf, contentCheck, fileCheck, openOf}
-use Rattle.frame.specs.Open.Laws.{Frames, frames-made, opens-parts, opens-record, opens-fine, size-made, tail-made, sum-made}
+use Rattle.frame.specs.Open.Laws.{frames-made, opens-parts, opens-record, opens-fine, size-parts, size-made, tail-parts, tail-magic, tail-made, sum-parts, sum-made}
 use Rattle.lookup.specs.Lookup.{Rooms, lookOf}
 use Rattle.reader.specs.Look.{look-known}
 
 -- ---- the copy's table
 
--- an entry of f's body b, and its copy of g's body c: only the section's place and the name's may differ, and a stored
--- checksum may be mended
+-- an entry of f's body b, and its copy of g's body c: only the section's place, the name's and the stored checksum may differ
 pub record Kept (f b g c : List ℕ) (r t : Row) : Type 0 where
   pub kind : t .kind ≡ r .kind
   pub codec : t .codec ≡ r .codec
@@ -39,6 +38,7 @@ pub record Kept (f b g c : List ℕ) (r t : Row) : Type 0 where
   pub name : part c (t .nameat) (t .nameat + t .namelen) ≡ part b (r .nameat) (r .nameat + r .namelen)
   pub len : t .len ≡ r .len
   pub bytes : bytesAt g (rangeOf t) ≡ bytesAt f (rangeOf r)
+  -- as it was stored, or mended
   pub sum : (t .sum ≡ r .sum) ⊎ (t .sum ≡ xxh3 (bytesAt f (rangeOf r)))
 
 -- the entries of f, and those of the copy g
@@ -53,7 +53,7 @@ pub data Copied (f b g c : List ℕ) : List Row → List Row → Type 0 where
 -- part of 9, in numbers
 pub record Outer (f : List ℕ) : Type 0 where
   pub low : 84 ≤ length f
-  pub high : length f ≤ kind.mostBytes
+  pub high : length f ≤ 2 ^ 30
   pub magic : leAt f (length f - 8) 8 ≡ kind.magic
   pub least : 39 ≤ footLen f
   pub most : footLen f ≤ length f - 64
@@ -77,7 +77,7 @@ pub record Stripped (f g : List ℕ) : Type 0 where
 -- what is asked of a later writer's file besides: at most 64 sections, and names of at most 63 bytes
 pub record Later (f : List ℕ) : Type 0 where
   pub outer : Outer f
-  pub few : countOf (bodyOf f) ≤ kind.mostSections
+  pub few : countOf (bodyOf f) ≤ 64
   pub names : Short (rowsOf (bodyOf f))
 
 -- ---- what a copied table keeps, of a kind that is known
@@ -168,6 +168,24 @@ outer-checks : (f : List ℕ) → Outer f
     → (sizeCheck (length f) ≡ Check.Fine) × (tailCheck (length f) f ≡ Check.Fine) × (sumCheck f ≡ Check.Fine) × (ranges (length f - footLen f) (rowsOf (bodyOf f)) 64 0 ≡ Check.Fine)
 outer-checks f o =
     (size-made (length f) (o .low) (o .high), tail-made (length f) f (o .magic) (o .least) (o .most), sum-made f (o .sum), ranges-made _ 64 (rowsOf (bodyOf f)) 0 (o .apart))
+
+-- a file that opens keeps them
+pub opened-later : (f : List ℕ) (o : Opened) → openOf f ≡ Opening.Good o → Later f
+opened-later f o e =
+    let w = opens-parts f o e .frames in
+    let size = size-parts (length f) (w .size) in
+    let foot = tail-parts (length f) f (w .tail) in
+    let outer : Outer f = record {
+      low = size .0;
+      high = size .1;
+      magic = tail-magic (length f) f (w .tail);
+      least = foot .0;
+      most = foot .1;
+      sum = sum-parts f (w .sum);
+      fills = w .table .filled;
+      apart = ranges-parts _ 64 (rowsOf (bodyOf f)) 0 (w .apart);
+    } in
+    record { outer = outer; few = w .table .most; names = names-short (rowsOf (bodyOf f)) (w .table .names) }
 
 module _ (f g : List ℕ) (s : Stripped f g) where
   abbrev b : List ℕ

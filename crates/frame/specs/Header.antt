@@ -147,7 +147,7 @@ module _ (f : List ℕ) where
 -- a size within the bounds, and the magic
 pub record Begins (f : List ℕ) : Type 0 where
   pub low : 84 ≤ length f
-  pub high : length f ≤ kind.mostBytes
+  pub high : length f ≤ 2 ^ 30
   pub magic : leAt f 0 8 ≡ kind.magic
 
 -- "major not 1", and no earlier rule is broken

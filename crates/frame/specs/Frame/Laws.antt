@@ -1,13 +1,14 @@
 -- The laws of the section table and of rules 9 to 12, and what the rules do not see: sections of unknown kinds and the minor
 -- version.
 use mathlib.Core.Path.{_≡_, refl, sym, ap, _∙_}
+use mathlib.Core.Logic.{_↔_}
 use Prim.Native.Nat.{ℕ, zero, suc, _+_, _-_, _*_, _≤_, _<_}
 use native.Mathlib.Omega.{arith}
 use mathlib.Core.List.{List, [], _∷_}
 use mathlib.Core.Bool.{Bool, true, false, not, _&&_, _||_}
 use lib.ListN.{length, getD}
 use lib.Dec.{leb, eqb}
-use borrow.Author.Tests.{eqb-true, leb-true, eq-eqb, ne-eqb, le-leb}
+use borrow.Author.Tests.{eqb-true, eqb-false, leb-true, eq-eqb, ne-eqb, le-leb}
 use Rattle.base.specs.Pick.{pick}
 use Rattle.codes.specs.Little.{leAt, leBytes}
 use Rattle.codes.specs.Little.Laws.{leAt-same}
@@ -120,6 +121,21 @@ ranges-made limit floor (r ∷ rs) k a =
 
 -- ---- "Every other kind is skipped"
 
+-- which kinds those are: neither 1 to 6 nor 0x0100
+pub unknown-kinds : (k : ℕ) → (kind.unknown k ≡ true) ↔ ((1 ≤ k → k ≤ 6 → ⊥) × (k ≡ 0x0100 → ⊥))
+unknown-kinds k = (go (kind.fixed k) refl (eqb k 0x0100) refl, back (leb 1 k) refl (leb k 6) refl)
+  where
+    go : (x : Bool) → kind.fixed k ≡ x → (y : Bool) → eqb k 0x0100 ≡ y → not (x || y) ≡ true → (1 ≤ k → k ≤ 6 → ⊥) × (k ≡ 0x0100 → ⊥)
+    go true p y q e = let z : _≡_ {A = ℕ} 0 1 = cc in absurd (omega arith)
+    go false p true q e = let z : _≡_ {A = ℕ} 0 1 = cc in absurd (omega arith)
+    go false p false q e =
+        (λ a b. let t : kind.fixed k ≡ true = and-both (le-leb 1 k a) (le-leb k 6 b) in let z : _≡_ {A = ℕ} 0 1 = cc in omega arith, eqb-false k 0x0100 q)
+
+    back : (x : Bool) → leb 1 k ≡ x → (y : Bool) → leb k 6 ≡ y → (1 ≤ k → k ≤ 6 → ⊥) × (k ≡ 0x0100 → ⊥) → not ((x && y) || eqb k 0x0100) ≡ true
+    back true p true q h = absurd (h .0 (leb-true 1 k p) (leb-true k 6 q))
+    back true p false q h = rw (ne-eqb k 0x0100 (h .1))
+    back false p y q h = rw (ne-eqb k 0x0100 (h .1))
+
 -- what the rules ask a table of known kinds is the same of both: whether one is there, whether twice, and how long it is
 pub record SameKnown (rs ts : List Row) : Type 0 where
   pub there : (k : ℕ) → kind.unknown k ≡ false → has k ts ≡ has k rs
@@ -153,7 +169,14 @@ kinds-some (r ∷ rs) e = omega arith
 -- names have at most 63 bytes
 unfoldable pub Short : List Row → Type 0
 Short [] = Unit {0}
-Short (r ∷ rs) = (r .namelen ≤ kind.longestName) × Short rs
+Short (r ∷ rs) = (r .namelen ≤ 63) × Short rs
+
+pub names-short : (rs : List Row) → all nameGood rs ≡ true → Short rs
+unfolding all Short
+names-short [] e = tt
+names-short (r ∷ rs) e =
+    let p = and-parts (nameGood r) (all nameGood rs) e in
+    (leb-true (r .namelen) 63 (and-parts (leb (r .namelen) 63) _ (p .0) .0), names-short rs (p .1))
 
 module _ (r : Row) (rs : List Row) (u : kind.unknown (r .kind) ≡ true) where
   unlike : (k : ℕ) → kind.unknown k ≡ false → eqb (r .kind) k ≡ false
@@ -184,8 +207,8 @@ module _ (r : Row) (rs : List Row) (u : kind.unknown (r .kind) ≡ true) where
   unfolding codecs
   codec-skipped k = rw not-fixed
 
-  pub name-skipped : r .namelen ≤ kind.longestName → nameGood r ≡ true
-  name-skipped h = rw (le-leb (r .namelen) kind.longestName h, not-fixed)
+  pub name-skipped : r .namelen ≤ 63 → nameGood r ≡ true
+  name-skipped h = rw (le-leb (r .namelen) 63 h, not-fixed)
 
 -- ---- "minor u8, any"
 

@@ -76,10 +76,20 @@ tail-parts n t e =
     let a = either-parts Refusal.FooterLength (ltb (footLen t) 39) (ltb (n - 64) (footLen t)) (p .1) in
     (ltb-false (footLen t) 39 (a .0), ltb-false (n - 64) (footLen t) (a .1))
 
+pub tail-magic : (n : ℕ) (t : List ℕ) → tailCheck n t ≡ Check.Fine → leAt t (length t - 8) 8 ≡ kind.magic
+unfolding tailCheck
+tail-magic n t e =
+    let magic : Bool = eqb (leAt t (length t - 8) 8) kind.magic in
+    eqb-true _ _ (good-parts Refusal.TailMagic magic (fine-parts (refuse Refusal.TailMagic (not magic)) _ e .0))
+
+pub sum-parts : (t : List ℕ) → sumCheck t ≡ Check.Fine → xxh3 (bodyOf t) ≡ leAt t (length t - 20) 8
+unfolding sumCheck
+sum-parts t e = eqb-true _ _ (good-parts Refusal.FooterSum (eqb (xxh3 (bodyOf t)) (leAt t (length t - 20) 8)) e)
+
 -- rules 1, 6 and 7, and 8, from the numbers
-pub size-made : (n : ℕ) → 84 ≤ n → n ≤ kind.mostBytes → sizeCheck n ≡ Check.Fine
+pub size-made : (n : ℕ) → 84 ≤ n → n ≤ 2 ^ 30 → sizeCheck n ≡ Check.Fine
 unfolding sizeCheck
-size-made n a b = rw (le-ltb n 84 a, le-ltb kind.mostBytes n b)
+size-made n a b = rw (le-ltb n 84 a, le-ltb (2 ^ 30) n b)
 
 pub tail-made : (n : ℕ) (t : List ℕ) → leAt t (length t - 8) 8 ≡ kind.magic → 39 ≤ footLen t → footLen t ≤ n - 64 → tailCheck n t ≡ Check.Fine
 unfolding tailCheck
