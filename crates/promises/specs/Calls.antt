@@ -6,7 +6,8 @@ use Prim.Native.Nat.{ℕ, suc, _+_, _*_, _^_, _≤_, _<_}
 use native.Mathlib.Omega.{arith}
 use mathlib.Core.List.{List, [], _∷_, _++_}
 use mathlib.Core.Bool.{true, false}
-use lib.ListN.{length, getD, drop, length-append}
+use lib.ListN.{length, getD, take, drop, length-append}
+use lib.Seq.{take-at}
 use lib.Dec.{ltb}
 use borrow.Author.Tests.{ltb-false}
 use Rattle.base.specs.Over.{over}
@@ -78,6 +79,10 @@ module _ (s : List ℕ) (lawful : Lawful s) where
   writes o h =
       let w = wrote-all s o (length f) (sym needs) h (over f o) refl in
       (sym (w .answer), sym (w .output))
+
+  -- the first bytes of its output, as many as it answers, are the file: what a caller lends to the calls below
+  pub written-first : (o : List ℕ) → take (length f) (over f o) ≡ f
+  written-first o = take-at f (drop (length f) o) (length f) refl
 
   checked : checkedOf f ≡ Opening.Good (recordOf f)
   checked = fine-checked f (demand-2 s lawful .passes-check)
@@ -170,8 +175,17 @@ pub second-key : (r : Looked) (o out l logs m marks : List ℕ) → EdgesGiven (
 unfolding mixed edgesOf edgesAt edgeAt halvesAt beAt leAt beBytes idAt idBytes bytesOf order turn findFrom findIn comparedOf join groupsOf keysIn ofKey partnersIn logsIn marksIn indexIn
 second-key r o out l logs m marks given = given .written (omega arith)
 
+pub second-partners : (r : Looked) (o out : List ℕ) → PartnersGiven (2 ^ 64 + 3) (edgesOf mixed) r o out
+    → (r ≡ Looked.Found 1 1 1) × (out ≡ 0 ∷ 2 ∷ 0 ∷ 0 ∷ 0 ∷ 0 ∷ 0 ∷ 0 ∷ 0 ∷ 0 ∷ 0 ∷ 0 ∷ 0 ∷ 0 ∷ 0 ∷ 1 ∷ drop 16 o)
+unfolding mixed edgesOf edgesAt edgeAt halvesAt beAt leAt beBytes idAt idBytes bytesOf order turn findFrom findIn comparedOf join groupsOf keysIn ofKey partnersIn indexIn
+second-partners r o out given = given .written (omega arith)
+
 -- and of a key that it does not have
 pub other-key : (r : Looked) (o out l logs m marks : List ℕ) → EdgesGiven (2 ^ 64 + 1) (edgesOf mixed) r o out l logs m marks
     → (r ≡ Looked.Absent 2) × (out ≡ o) × (logs ≡ l) × (marks ≡ m)
 unfolding mixed edgesOf edgesAt edgeAt halvesAt beAt leAt beBytes idAt idBytes bytesOf order turn findFrom findIn comparedOf join groupsOf keysIn ofKey indexIn
 other-key r o out l logs m marks given = given .unwritten refl
+
+pub other-partners : (r : Looked) (o out : List ℕ) → PartnersGiven (2 ^ 64 + 1) (edgesOf mixed) r o out → (r ≡ Looked.Absent 2) × (out ≡ o)
+unfolding mixed edgesOf edgesAt edgeAt halvesAt beAt leAt beBytes idAt idBytes bytesOf order turn findFrom findIn comparedOf join groupsOf keysIn ofKey indexIn
+other-partners r o out given = given .unwritten refl

@@ -1,5 +1,5 @@
 -- Document 01's twelve marked cases, one table, computed through the definitions.
-use mathlib.Core.Path.{_≡_, refl, ap, _∙_}
+use mathlib.Core.Path.{_≡_, refl, sym, ap, _∙_}
 use Prim.Native.Nat.{ℕ, zero, suc, _+_, _-_, _*_, _^_}
 use mathlib.Core.List.{List, [], _∷_, _++_}
 use mathlib.Core.Bool.{Bool, true, false, _||_}
@@ -55,6 +55,13 @@ rising (suc n) lo = id 5 lo ∷ rising n (lo + 1)
 -- a rule that is broken, told by its number and place
 abbrev pub Tells : Check → ℕ → ℕ → Type 0
 Tells c number place = (r : Refusal) × (c ≡ Check.Bad r) × (numberOf r ≡ number) × (placeOf r ≡ place)
+
+-- it tells one number and one place
+pub tells-one : (c : Check) (n m p q : ℕ) → Tells c n p → Tells c m q → (n ≡ m) × (p ≡ q)
+tells-one c n m p q (r, e, a, b) (s, f, g, h) =
+    let same : Check.Bad r ≡ Check.Bad s = sym e ∙ f in
+    let one : r ≡ s = cc in
+    (sym a ∙ ap numberOf one ∙ g, sym b ∙ ap placeOf one ∙ h)
 
 pub record Marked : Type 0 where
   -- "1. Varint 0: `00`. 2. 127: `7F`. 3. 128: `80 01`. 4. 300: `AC 02`."
