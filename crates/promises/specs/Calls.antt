@@ -42,7 +42,7 @@ use Rattle.agreement.specs.SameEdges.{ofKey, partnersIn, logsIn, marksIn}
 use Rattle.writer.specs.declared.Written.{Written}
 use Rattle.writer.specs.Written.{neededCheck, neededOf, writtenOf, leaves, fileIn, answerOf}
 use Rattle.writer.specs.Written.Laws.{needed-done, wrote-all}
-use Rattle.back.specs.Answers.{indexIn, comparedIn, outcomeBy, outcomeFor}
+use Rattle.back.specs.Answers.{indexIn, comparisonsIn, outcomeBy, outcomeFor}
 use Rattle.back.specs.Demand2.{fileFor, Lawful, lawful-is, demand-2}
 
 -- ---- the writer
@@ -110,15 +110,15 @@ module _ (s : List ℕ) (lawful : Lawful s) where
 -- has edges and at its index, and they lie over the start of the output; any other is absent, and the output stays
 pub record PartnersGiven (key : ℕ) (es : List Edge) (r : Looked) (o out : List ℕ) : Type 0 where
   pub written : 1 ≤ length (ofKey key es)
-      → (r ≡ Looked.Found (length (ofKey key es)) (indexIn key (groupsOf es)) (comparedIn key (groupsOf es))) × (out ≡ over (bytesOf (partnersIn (ofKey key es))) o)
-  pub unwritten : ofKey key es ≡ [] → (r ≡ Looked.Absent (comparedIn key (groupsOf es))) × (out ≡ o)
+      → (r ≡ Looked.Found (length (ofKey key es)) (indexIn key (groupsOf es)) (comparisonsIn key (groupsOf es))) × (out ≡ over (bytesOf (partnersIn (ofKey key es))) o)
+  pub unwritten : ofKey key es ≡ [] → (r ≡ Looked.Absent (comparisonsIn key (groupsOf es))) × (out ≡ o)
 
 -- with log numbers and dead marks
 pub record EdgesGiven (key : ℕ) (es : List Edge) (r : Looked) (o out l logs m marks : List ℕ) : Type 0 where
   pub written : 1 ≤ length (ofKey key es)
-      → (r ≡ Looked.Found (length (ofKey key es)) (indexIn key (groupsOf es)) (comparedIn key (groupsOf es))) × (out ≡ over (bytesOf (partnersIn (ofKey key es))) o)
+      → (r ≡ Looked.Found (length (ofKey key es)) (indexIn key (groupsOf es)) (comparisonsIn key (groupsOf es))) × (out ≡ over (bytesOf (partnersIn (ofKey key es))) o)
       × (logs ≡ over (logsIn (ofKey key es)) l) × (marks ≡ over (marksIn (ofKey key es)) m)
-  pub unwritten : ofKey key es ≡ [] → (r ≡ Looked.Absent (comparedIn key (groupsOf es))) × (out ≡ o) × (logs ≡ l) × (marks ≡ m)
+  pub unwritten : ofKey key es ≡ [] → (r ≡ Looked.Absent (comparisonsIn key (groupsOf es))) × (out ≡ o) × (logs ≡ l) × (marks ≡ m)
 
 count-partners : (es : List Edge) → length (partnersIn es) ≡ length es
 unfolding partnersIn
@@ -154,7 +154,7 @@ pub partners-given : (key : ℕ) (es : List Edge) (x : Outcome) → x ≡ outcom
 partners-given key es x is r o out call =
     let told = alone-as (sym is) call in
     let i = indexIn key (groupsOf es) in
-    let c = comparedIn key (groupsOf es) in
+    let c = comparisonsIn key (groupsOf es) in
     record { written = λ some. alone-some i c r o out (ofKey key es) some told; unwritten = λ nothing. alone-none i c r o out (ofKey key es) nothing told }
 
 pub edges-given : (key : ℕ) (es : List Edge) (x : Outcome) → x ≡ outcomeFor true key es → (r : Looked) (o out l logs m marks : List ℕ) → Whole x r o out l logs m marks
@@ -162,7 +162,7 @@ pub edges-given : (key : ℕ) (es : List Edge) (x : Outcome) → x ≡ outcomeFo
 edges-given key es x is r o out l logs m marks call =
     let told = whole-as (sym is) call in
     let i = indexIn key (groupsOf es) in
-    let c = comparedIn key (groupsOf es) in
+    let c = comparisonsIn key (groupsOf es) in
     record {
       written = λ some. whole-some i c r o out l logs m marks (ofKey key es) some told;
       unwritten = λ nothing. whole-none i c r o out l logs m marks (ofKey key es) nothing told;
