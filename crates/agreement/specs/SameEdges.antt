@@ -74,16 +74,22 @@ Says full (found i c ps logs marks) es = (1 ≤ length es) × (ps ≡ partnersIn
 Says full (absent c) es = es ≡ []
 Says full (refused r) es = ⊥
 
--- what an outcome tells of a key: whether it is there, its partners, log numbers and dead marks
-unfoldable pub toldBy : Outcome → Bool × List Id × List ℕ × List ℕ
-toldBy (found i c ps logs marks) = (true, ps, logs, marks)
-toldBy (absent c) = (false, [], [], [])
-toldBy (refused r) = (false, [], [], [])
+-- what an outcome shows of a key: whether it is there, its partners, log numbers and dead marks
+pub record Shown : Type 0 where
+  pub there : Bool
+  pub partners : List Id
+  pub logs : List ℕ
+  pub marks : List ℕ
 
--- the sentence leaves nothing open: two outcomes that say the same edges tell the same
-pub says-one : (full : Bool) (x y : Outcome) (es : List Edge) → Says full x es → Says full y es → toldBy x ≡ toldBy y
-unfolding Says toldBy
-says-one full (found i c ps ls ms) (found j d qs ks ns) es h k = λ t. (true, (h .1 ∙ sym (k .1)) t, (h .2 ∙ sym (k .2)) t, (h .3 ∙ sym (k .3)) t)
+unfoldable pub shownBy : Outcome → Shown
+shownBy (found i c ps logs marks) = record { there = true; partners = ps; logs = logs; marks = marks }
+shownBy (absent c) = record { there = false; partners = []; logs = []; marks = [] }
+shownBy (refused r) = record { there = false; partners = []; logs = []; marks = [] }
+
+-- the sentence leaves nothing open: two outcomes that say the same edges show the same
+pub says-one : (full : Bool) (x y : Outcome) (es : List Edge) → Says full x es → Says full y es → shownBy x ≡ shownBy y
+unfolding Says shownBy
+says-one full (found i c ps ls ms) (found j d qs ks ns) es h k = λ t. record { there = true; partners = (h .1 ∙ sym (k .1)) t; logs = (h .2 ∙ sym (k .2)) t; marks = (h .3 ∙ sym (k .3)) t }
 says-one full (found i c ps ls ms) (absent d) es h k = let some = h .0 in absurd (omega (arith, ap length k))
 says-one full (found i c ps ls ms) (refused r) es h k = absurd k
 says-one full (absent c) (found j d qs ks ns) es h k = let some = k .0 in absurd (omega (arith, ap length h))

@@ -30,8 +30,8 @@ indexIn k [] = 0
 indexIn k (g ∷ gs) = pick (ltb (numberOf (g .key)) k) 1 0 + indexIn k gs
 
 -- the keys that the halving rule compares to find it, or to find that it is not there
-abbrev pub comparedIn : ℕ → List Group → ℕ
-comparedIn k gs = comparedOf (findIn (keyBytes gs) (length gs) k)
+abbrev pub comparisonsIn : ℕ → List Group → ℕ
+comparisonsIn k gs = comparedOf (findIn (keyBytes gs) (length gs) k)
 
 -- the outcome for a key that has the edges es; full: with log numbers and dead marks
 unfoldable pub outcomeBy : Bool → ℕ → ℕ → List Edge → Outcome
@@ -40,7 +40,7 @@ outcomeBy full i c (e ∷ es) = found i c (partnersIn (e ∷ es)) (pick full (lo
 
 -- key k among the edges es, in order
 abbrev pub outcomeFor : Bool → ℕ → List Edge → Outcome
-outcomeFor full k es = outcomeBy full (indexIn k (groupsOf es)) (comparedIn k (groupsOf es)) (ofKey k es)
+outcomeFor full k es = outcomeBy full (indexIn k (groupsOf es)) (comparisonsIn k (groupsOf es)) (ofKey k es)
 
 -- ---- the index
 
@@ -98,8 +98,8 @@ module _ (gs : List Group) (order : Grouped 0 gs) (k : ℕ) where
 
 -- index and count of an outcome, if it has them
 unfoldable pub Placed : ℕ → List Group → Outcome → Type 0
-Placed k gs (found i c ps logs marks) = (i ≡ indexIn k gs) × (c ≡ comparedIn k gs)
-Placed k gs (absent c) = c ≡ comparedIn k gs
+Placed k gs (found i c ps logs marks) = (i ≡ indexIn k gs) × (c ≡ comparisonsIn k gs)
+Placed k gs (absent c) = c ≡ comparisonsIn k gs
 Placed k gs (refused r) = Unit {0}
 
 module _ (known : Known) (gs : List Group) (order : Grouped 0 gs) (keys : known .keys ≡ keyBytes gs) (count : known .keycount ≡ length gs) (full : Bool) (rooms : Rooms) (k : ℕ) where
@@ -121,7 +121,7 @@ module _ (known : Known) (gs : List Group) (order : Grouped 0 gs) (keys : known 
 
 -- with the edges that it says, an outcome is the one that the edges give
 pub outcome-is : (full : Bool) (k : ℕ) (gs : List Group) (es : List Edge) (x : Outcome) → Says full x es → Placed k gs x
-    → x ≡ outcomeBy full (indexIn k gs) (comparedIn k gs) es
+    → x ≡ outcomeBy full (indexIn k gs) (comparisonsIn k gs) es
 unfolding Says Placed outcomeBy
 outcome-is full k gs [] (found i c ps logs marks) h p = absurd (omega (arith, h .0))
 outcome-is full k gs (e ∷ es) (found i c ps logs marks) h p = λ j. found (p .0 j) (p .1 j) (h .1 j) (h .2 j) (h .3 j)

@@ -42,10 +42,10 @@ use Rattle.listing.proofs.One.{Listed-post}
 
 -- with such a result the contract admits no other content of lent memory at exit than `lent`
 --     T and Post as for `Determined` (crate base)
-abbrev pub Leaves :
+abbrev pub LeavesOnly :
     (T : Ended) → ((κs : Lfts (T .signature .lifetimes)) → Args (T .signature) κs → Res (T .signature) κs → AtExit T κs → Type 0) →
     ((κs : Lfts (T .signature .lifetimes)) → Res (T .signature) κs → Type 0) → ((κs : Lfts (T .signature .lifetimes)) (a : Args (T .signature) κs) → Lasts T κs a) → Type 0
-Leaves T Post such lent =
+LeavesOnly T Post such lent =
     (κs : Lfts (T .signature .lifetimes)) (a : Args (T .signature) κs) (r : Res (T .signature) κs) (w : Lasts T κs a) →
     such κs r → Post κs a r (atExit T κs a w) → w ≡ lent κs a
 
@@ -86,34 +86,34 @@ module _ (x : Outcome) (r : Looked) (o out : List ℕ) where
     whole-absent : Absent r → Whole x r o out l logs m marks → (out ≡ o) × (logs ≡ l) × (marks ≡ m)
     whole-absent (n, e) c = let left = left-absent x o l m (n, sym (c .answer) ∙ e) in (c .partners ∙ left .0, c .numbers ∙ left .1, c .dead ∙ left .2)
 
-pub partners-refused : Leaves c-partners.ended c-partners-reads.Post (λ κs r. Refused r) (λ κs a. (tt {0}, (tt {0}, (now (a .1 .1 .0), tt {0}))))
+pub partners-refused : LeavesOnly c-partners.ended c-partners-reads.Post (λ κs r. Refused r) (λ κs a. (tt {0}, (tt {0}, (now (a .1 .1 .0), tt {0}))))
 partners-refused κs a r w such call = ap (λ (o : List ℕ). (tt {0}, (tt {0}, (o, tt {0})))) (alone-refused _ r _ _ such call)
 
-pub partners-absent : Leaves c-partners.ended c-partners-reads.Post (λ κs r. Absent r) (λ κs a. (tt {0}, (tt {0}, (now (a .1 .1 .0), tt {0}))))
+pub partners-absent : LeavesOnly c-partners.ended c-partners-reads.Post (λ κs r. Absent r) (λ κs a. (tt {0}, (tt {0}, (now (a .1 .1 .0), tt {0}))))
 partners-absent κs a r w such call = ap (λ (o : List ℕ). (tt {0}, (tt {0}, (o, tt {0})))) (alone-absent _ r _ _ such call)
 
-pub partners-with-refused : Leaves c-partners-with.ended c-partners-with-reads.Post (λ κs r. Refused r) (λ κs a. (tt {0}, (tt {0}, (tt {0}, (now (a .1 .1 .1 .0), tt {0})))))
+pub partners-with-refused : LeavesOnly c-partners-with.ended c-partners-with-reads.Post (λ κs r. Refused r) (λ κs a. (tt {0}, (tt {0}, (tt {0}, (now (a .1 .1 .1 .0), tt {0})))))
 partners-with-refused κs a r w such call = ap (λ (o : List ℕ). (tt {0}, (tt {0}, (tt {0}, (o, tt {0}))))) (alone-refused _ r _ _ such call)
 
-pub partners-with-absent : Leaves c-partners-with.ended c-partners-with-reads.Post (λ κs r. Absent r) (λ κs a. (tt {0}, (tt {0}, (tt {0}, (now (a .1 .1 .1 .0), tt {0})))))
+pub partners-with-absent : LeavesOnly c-partners-with.ended c-partners-with-reads.Post (λ κs r. Absent r) (λ κs a. (tt {0}, (tt {0}, (tt {0}, (now (a .1 .1 .1 .0), tt {0})))))
 partners-with-absent κs a r w such call = ap (λ (o : List ℕ). (tt {0}, (tt {0}, (tt {0}, (o, tt {0}))))) (alone-absent _ r _ _ such call)
 
-pub lookup-refused : Leaves c-lookup.ended c-lookup-reads.Post (λ κs r. Refused r)
+pub lookup-refused : LeavesOnly c-lookup.ended c-lookup-reads.Post (λ κs r. Refused r)
     (λ κs a. (tt {0}, (tt {0}, (now (a .1 .1 .0), (now (a .1 .1 .1 .0), (now (a .1 .1 .1 .1 .0), tt {0}))))))
 lookup-refused κs a r w such call =
     let left = whole-refused _ r _ _ _ _ _ _ such call in λ i. (tt {0}, (tt {0}, (left .0 i, (left .1 i, (left .2 i, tt {0})))))
 
-pub lookup-absent : Leaves c-lookup.ended c-lookup-reads.Post (λ κs r. Absent r)
+pub lookup-absent : LeavesOnly c-lookup.ended c-lookup-reads.Post (λ κs r. Absent r)
     (λ κs a. (tt {0}, (tt {0}, (now (a .1 .1 .0), (now (a .1 .1 .1 .0), (now (a .1 .1 .1 .1 .0), tt {0}))))))
 lookup-absent κs a r w such call =
     let left = whole-absent _ r _ _ _ _ _ _ such call in λ i. (tt {0}, (tt {0}, (left .0 i, (left .1 i, (left .2 i, tt {0})))))
 
-pub lookup-with-refused : Leaves c-lookup-with.ended c-lookup-with-reads.Post (λ κs r. Refused r)
+pub lookup-with-refused : LeavesOnly c-lookup-with.ended c-lookup-with-reads.Post (λ κs r. Refused r)
     (λ κs a. (tt {0}, (tt {0}, (tt {0}, (now (a .1 .1 .1 .0), (now (a .1 .1 .1 .1 .0), (now (a .1 .1 .1 .1 .1 .0), tt {0})))))))
 lookup-with-refused κs a r w such call =
     let left = whole-refused _ r _ _ _ _ _ _ such call in λ i. (tt {0}, (tt {0}, (tt {0}, (left .0 i, (left .1 i, (left .2 i, tt {0}))))))
 
-pub lookup-with-absent : Leaves c-lookup-with.ended c-lookup-with-reads.Post (λ κs r. Absent r)
+pub lookup-with-absent : LeavesOnly c-lookup-with.ended c-lookup-with-reads.Post (λ κs r. Absent r)
     (λ κs a. (tt {0}, (tt {0}, (tt {0}, (now (a .1 .1 .1 .0), (now (a .1 .1 .1 .1 .0), (now (a .1 .1 .1 .1 .1 .0), tt {0})))))))
 lookup-with-absent κs a r w such call =
     let left = whole-absent _ r _ _ _ _ _ _ such call in λ i. (tt {0}, (tt {0}, (tt {0}, (left .0 i, (left .1 i, (left .2 i, tt {0}))))))
@@ -128,7 +128,7 @@ batch-stays f o q e = go (readCheck f (length o)) e
     go Check.Fine h = let z : _≡_ {A = ℕ} 0 1 = cc in absurd (omega arith)
     go (Check.Bad r) h = refl
 
-pub read-out-refused : Leaves c-read-out.ended c-read-out-reads.Post (λ κs r. (q : Refusal) × (r ≡ ReadOut.Refused q)) (λ κs a. (tt {0}, (now (a .1 .0), tt {0})))
+pub read-out-refused : LeavesOnly c-read-out.ended c-read-out-reads.Post (λ κs r. (q : Refusal) × (r ≡ ReadOut.Refused q)) (λ κs a. (tt {0}, (now (a .1 .0), tt {0})))
 read-out-refused κs a r w (q, e) call =
     ap (λ (o : List ℕ). (tt {0}, (o, tt {0}))) (call .1 ∙ batch-stays (now (a .0)) (now (a .1 .0)) q (sym (call .0) ∙ e))
 
@@ -138,11 +138,11 @@ file-stays : (s o : List ℕ) (r : Written) (o′ : List ℕ) (q : Refusal) → 
 unfolding writer.leaves
 file-stays s o r o′ q e c = c .output ∙ ap (λ (x : Written). writer.leaves x (fileIn s) o) (sym (c .answer) ∙ e)
 
-pub write-refused : Leaves c-write.ended c-write-reads.Post (λ κs r. (q : Refusal) × (r ≡ Written.Refused q)) (λ κs a. (tt {0}, (now (a .1 .0), tt {0})))
+pub write-refused : LeavesOnly c-write.ended c-write-reads.Post (λ κs r. (q : Refusal) × (r ≡ Written.Refused q)) (λ κs a. (tt {0}, (now (a .1 .0), tt {0})))
 write-refused κs a r w (q, e) call = ap (λ (o : List ℕ). (tt {0}, (o, tt {0}))) (file-stays (now (a .0)) (now (a .1 .0)) r (w .1 .0) q e call)
 
 -- ---- the section list: the caller's table of rows
 
-pub list-refused : Leaves c-sections.ended Listed-post (λ κs r. (q : Refusal) × (r ≡ Listed.Refused q)) (λ κs a. (tt {0}, (now (a .1 .0), tt {0})))
+pub list-refused : LeavesOnly c-sections.ended Listed-post (λ κs r. (q : Refusal) × (r ≡ Listed.Refused q)) (λ κs a. (tt {0}, (now (a .1 .0), tt {0})))
 list-refused κs a r w (q, e) call =
     ap (λ (t : List Row). (tt {0}, (t, tt {0}))) (call .1 ∙ refused-leaves (now (a .0)) (length (now (a .1 .0))) q (now (a .1 .0)) (sym (call .0) ∙ e))

@@ -6,7 +6,8 @@ use Prim.Native.Nat.{ℕ, suc, _+_, _*_, _^_, _≤_, _<_}
 use native.Mathlib.Omega.{arith}
 use mathlib.Core.List.{List, [], _∷_, _++_}
 use mathlib.Core.Bool.{true, false}
-use lib.ListN.{length, getD, drop, length-append}
+use lib.ListN.{length, getD, take, drop, length-append}
+use lib.Seq.{take-at}
 use lib.Dec.{ltb}
 use borrow.Author.Tests.{ltb-false}
 use Rattle.base.specs.Over.{over}
@@ -41,7 +42,7 @@ use Rattle.agreement.specs.SameEdges.{ofKey, partnersIn, logsIn, marksIn}
 use Rattle.writer.specs.declared.Written.{Written}
 use Rattle.writer.specs.Written.{neededCheck, neededOf, writtenOf, leaves, fileIn, answerOf}
 use Rattle.writer.specs.Written.Laws.{needed-done, wrote-all}
-use Rattle.back.specs.Answers.{indexIn, comparedIn, outcomeBy, outcomeFor}
+use Rattle.back.specs.Answers.{indexIn, comparisonsIn, outcomeBy, outcomeFor}
 use Rattle.back.specs.Demand2.{fileFor, Lawful, lawful-is, demand-2}
 
 -- ---- the writer
@@ -79,6 +80,10 @@ module _ (s : List ℕ) (lawful : Lawful s) where
       let w = wrote-all s o (length f) (sym needs) h (over f o) refl in
       (sym (w .answer), sym (w .output))
 
+  -- the first bytes of its output, as many as it answers, are the file: what a caller lends to the calls below
+  pub written-first : (o : List ℕ) → take (length f) (over f o) ≡ f
+  written-first o = take-at f (drop (length f) o) (length f) refl
+
   checked : checkedOf f ≡ Opening.Good (recordOf f)
   checked = fine-checked f (demand-2 s lawful .passes-check)
 
@@ -105,15 +110,15 @@ module _ (s : List ℕ) (lawful : Lawful s) where
 -- has edges and at its index, and they lie over the start of the output; any other is absent, and the output stays
 pub record PartnersGiven (key : ℕ) (es : List Edge) (r : Looked) (o out : List ℕ) : Type 0 where
   pub written : 1 ≤ length (ofKey key es)
-      → (r ≡ Looked.Found (length (ofKey key es)) (indexIn key (groupsOf es)) (comparedIn key (groupsOf es))) × (out ≡ over (bytesOf (partnersIn (ofKey key es))) o)
-  pub unwritten : ofKey key es ≡ [] → (r ≡ Looked.Absent (comparedIn key (groupsOf es))) × (out ≡ o)
+      → (r ≡ Looked.Found (length (ofKey key es)) (indexIn key (groupsOf es)) (comparisonsIn key (groupsOf es))) × (out ≡ over (bytesOf (partnersIn (ofKey key es))) o)
+  pub unwritten : ofKey key es ≡ [] → (r ≡ Looked.Absent (comparisonsIn key (groupsOf es))) × (out ≡ o)
 
 -- with log numbers and dead marks
 pub record EdgesGiven (key : ℕ) (es : List Edge) (r : Looked) (o out l logs m marks : List ℕ) : Type 0 where
   pub written : 1 ≤ length (ofKey key es)
-      → (r ≡ Looked.Found (length (ofKey key es)) (indexIn key (groupsOf es)) (comparedIn key (groupsOf es))) × (out ≡ over (bytesOf (partnersIn (ofKey key es))) o)
+      → (r ≡ Looked.Found (length (ofKey key es)) (indexIn key (groupsOf es)) (comparisonsIn key (groupsOf es))) × (out ≡ over (bytesOf (partnersIn (ofKey key es))) o)
       × (logs ≡ over (logsIn (ofKey key es)) l) × (marks ≡ over (marksIn (ofKey key es)) m)
-  pub unwritten : ofKey key es ≡ [] → (r ≡ Looked.Absent (comparedIn key (groupsOf es))) × (out ≡ o) × (logs ≡ l) × (marks ≡ m)
+  pub unwritten : ofKey key es ≡ [] → (r ≡ Looked.Absent (comparisonsIn key (groupsOf es))) × (out ≡ o) × (logs ≡ l) × (marks ≡ m)
 
 count-partners : (es : List Edge) → length (partnersIn es) ≡ length es
 unfolding partnersIn
@@ -149,7 +154,7 @@ pub partners-given : (key : ℕ) (es : List Edge) (x : Outcome) → x ≡ outcom
 partners-given key es x is r o out call =
     let told = alone-as (sym is) call in
     let i = indexIn key (groupsOf es) in
-    let c = comparedIn key (groupsOf es) in
+    let c = comparisonsIn key (groupsOf es) in
     record { written = λ some. alone-some i c r o out (ofKey key es) some told; unwritten = λ nothing. alone-none i c r o out (ofKey key es) nothing told }
 
 pub edges-given : (key : ℕ) (es : List Edge) (x : Outcome) → x ≡ outcomeFor true key es → (r : Looked) (o out l logs m marks : List ℕ) → Whole x r o out l logs m marks
@@ -157,7 +162,7 @@ pub edges-given : (key : ℕ) (es : List Edge) (x : Outcome) → x ≡ outcomeFo
 edges-given key es x is r o out l logs m marks call =
     let told = whole-as (sym is) call in
     let i = indexIn key (groupsOf es) in
-    let c = comparedIn key (groupsOf es) in
+    let c = comparisonsIn key (groupsOf es) in
     record {
       written = λ some. whole-some i c r o out l logs m marks (ofKey key es) some told;
       unwritten = λ nothing. whole-none i c r o out l logs m marks (ofKey key es) nothing told;
@@ -170,8 +175,17 @@ pub second-key : (r : Looked) (o out l logs m marks : List ℕ) → EdgesGiven (
 unfolding mixed edgesOf edgesAt edgeAt halvesAt beAt leAt beBytes idAt idBytes bytesOf order turn findFrom findIn comparedOf join groupsOf keysIn ofKey partnersIn logsIn marksIn indexIn
 second-key r o out l logs m marks given = given .written (omega arith)
 
+pub second-partners : (r : Looked) (o out : List ℕ) → PartnersGiven (2 ^ 64 + 3) (edgesOf mixed) r o out
+    → (r ≡ Looked.Found 1 1 1) × (out ≡ 0 ∷ 2 ∷ 0 ∷ 0 ∷ 0 ∷ 0 ∷ 0 ∷ 0 ∷ 0 ∷ 0 ∷ 0 ∷ 0 ∷ 0 ∷ 0 ∷ 0 ∷ 1 ∷ drop 16 o)
+unfolding mixed edgesOf edgesAt edgeAt halvesAt beAt leAt beBytes idAt idBytes bytesOf order turn findFrom findIn comparedOf join groupsOf keysIn ofKey partnersIn indexIn
+second-partners r o out given = given .written (omega arith)
+
 -- and of a key that it does not have
 pub other-key : (r : Looked) (o out l logs m marks : List ℕ) → EdgesGiven (2 ^ 64 + 1) (edgesOf mixed) r o out l logs m marks
     → (r ≡ Looked.Absent 2) × (out ≡ o) × (logs ≡ l) × (marks ≡ m)
 unfolding mixed edgesOf edgesAt edgeAt halvesAt beAt leAt beBytes idAt idBytes bytesOf order turn findFrom findIn comparedOf join groupsOf keysIn ofKey indexIn
 other-key r o out l logs m marks given = given .unwritten refl
+
+pub other-partners : (r : Looked) (o out : List ℕ) → PartnersGiven (2 ^ 64 + 1) (edgesOf mixed) r o out → (r ≡ Looked.Absent 2) × (out ≡ o)
+unfolding mixed edgesOf edgesAt edgeAt halvesAt beAt leAt beBytes idAt idBytes bytesOf order turn findFrom findIn comparedOf join groupsOf keysIn ofKey indexIn
+other-partners r o out given = given .unwritten refl

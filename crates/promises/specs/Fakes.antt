@@ -18,7 +18,7 @@ use Rattle.lookup.specs.Lookup.{Outcome, found, absent, refused, Rooms, lookOf,
 use Rattle.batch.specs.declared.Edge.{Edge}
 use Rattle.batch.specs.Batch.{edgeAt, edgesAt, edgesOf}
 use Rattle.image.specs.Cases.{mixed, mixed-edges}
-use Rattle.agreement.specs.SameEdges.{ofKey, partnersIn, Says, Enough}
+use Rattle.agreement.specs.SameEdges.{ofKey, partnersIn, Says, shownBy, Enough}
 use Rattle.agreement.specs.OutBytes.{byted, bytes-are}
 use Rattle.full_check.specs.Full.{fullCheck}
 use Rattle.writer.specs.declared.Written.{Written}
@@ -120,30 +120,21 @@ absent-always look promise fake =
 
 -- ---- 3: "read the first group and repeat it (demand 2, every key)"
 
-unfoldable pub partnersGiven : Outcome → List Id
-partnersGiven (found i c ps logs marks) = ps
-partnersGiven (absent c) = []
-partnersGiven (refused r) = []
-
-unfoldable pub isFound : Outcome → Bool
-isFound (found i c ps logs marks) = true
-isFound (absent c) = false
-isFound (refused r) = false
-
--- a key that has edges is found, and given their partners
-says-given : (x : Outcome) (es fs : List Edge) → es ≡ fs → 1 ≤ length fs → Says true x es → (isFound x ≡ true) × (partnersGiven x ≡ partnersIn fs)
-unfolding Says isFound partnersGiven
-says-given (found i c ps logs marks) es fs e some h = (refl, h .1 ∙ ap partnersIn e)
-says-given (absent c) es fs e some h = absurd (omega (arith, ap length (sym e ∙ h)))
-says-given (refused r) es fs e some h = absurd h
+-- a key that has edges is there, with their partners
+says-shown : (x : Outcome) (es fs : List Edge) → es ≡ fs → 1 ≤ length fs → Says true x es → (shownBy x .there ≡ true) × (shownBy x .partners ≡ partnersIn fs)
+unfolding Says shownBy
+says-shown (found i c ps logs marks) es fs e some h = (refl, h .1 ∙ ap partnersIn e)
+says-shown (absent c) es fs e some h = absurd (omega (arith, ap length (sym e ∙ h)))
+says-shown (refused r) es fs e some h = absurd h
 
 -- whichever key is found, it is given the same partners
 pub first-group-again : (look : Reader) → Looks look
-    → ((rooms : Rooms) (k l : ℕ) (f : List ℕ) → isFound (look rooms k f) ≡ true → isFound (look rooms l f) ≡ true → partnersGiven (look rooms k f) ≡ partnersGiven (look rooms l f)) → ⊥
+    → ((rooms : Rooms) (k l : ℕ) (f : List ℕ) → shownBy (look rooms k f) .there ≡ true → shownBy (look rooms l f) .there ≡ true
+    → shownBy (look rooms k f) .partners ≡ shownBy (look rooms l f) .partners) → ⊥
 unfolding partnersIn
 first-group-again look promise fake =
-    let (here, a) = says-given _ _ firsts mixed-first (omega arith) (promise mixed mixed-lawful first room (enough _ _ mixed-first (omega arith))) in
-    let (there, b) = says-given _ _ seconds mixed-second (omega arith) (promise mixed mixed-lawful second room (enough _ _ mixed-second (omega arith))) in
+    let (here, a) = says-shown _ _ firsts mixed-first (omega arith) (promise mixed mixed-lawful first room (enough _ _ mixed-first (omega arith))) in
+    let (there, b) = says-shown _ _ seconds mixed-second (omega arith) (promise mixed mixed-lawful second room (enough _ _ mixed-second (omega arith))) in
     let n : _≡_ {A = ℕ} 2 1 = ap length (sym a ∙ fake room first second (fileFor mixed) here there ∙ b) in
     omega arith
 

@@ -36,6 +36,13 @@ pub record Gives {A : Type 0} (refusing : Refusal → A) (a : A) (n p s : ℕ) :
 pub gives-is : {A : Type 0} (refusing : Refusal → A) (a : A) (r : Refusal) → Gives refusing a (numberOf r) (placeOf r) (besideOf r) ↔ (a ≡ refusing r)
 gives-is refusing a r = (λ g. g .is ∙ ap refusing (told-once (g .refusal) r (g .number) (g .place) (g .beside)), λ e. record { refusal = r; is = e; number = refl; place = refl; beside = refl })
 
+-- of a check: one number and one place, and one beside it
+pub gives-one : (c : Check) (n m p q s t : ℕ) → Gives Check.Bad c n p s → Gives Check.Bad c m q t → (n ≡ m) × (p ≡ q) × (s ≡ t)
+gives-one c n m p q s t a b =
+    let same : Check.Bad (a .refusal) ≡ Check.Bad (b .refusal) = sym (a .is) ∙ b .is in
+    let one : a .refusal ≡ b .refusal = cc in
+    (sym (a .number) ∙ ap numberOf one ∙ b .number, sym (a .place) ∙ ap placeOf one ∙ b .place, sym (a .beside) ∙ ap besideOf one ∙ b .beside)
+
 -- every call on the file f gives n at p, with s beside it, exactly if A: opening; lookups, partners alone or in full, of every key and in any room;
 -- the full check, and what it answers with the record; the read-out and the section list, in any room
 pub record Every (f : List ℕ) (n p s : ℕ) (A : Type 0) : Type 0 where
