@@ -3,7 +3,7 @@
 //! The workbench opens a file once and looks up keys: [`EdgeSst::open`],
 //! [`Opened::partners`], [`Opened::lookup`]. The release desk takes nothing from a
 //! file with one wrong section byte: [`check`], [`read_out`]. [`write`] makes a
-//! file of a batch, and [`sum`] is XXH3-64 alone.
+//! file of a batch, [`Batch`] reads its records, and [`sum`] is XXH3-64 alone.
 //!
 //! Any bytes may be given: each call answers, or refuses with a [`Refusal`].
 //!
@@ -21,18 +21,16 @@
 //! }
 //! ```
 
+mod batch;
 mod ffi;
 mod opened;
 mod refusal;
 
+pub use batch::{Batch, Heading, Record};
 pub use opened::{Edge, EdgeSst, Edges, Id, Opened, Partners, Section};
 pub use refusal::Refusal;
 
 use refusal::refuse_if;
-
-/// Bytes of a batch: its heading, and each edge.
-const HEADING: usize = 50;
-const EDGE: usize = 41;
 
 /// Checks a file in full: opening, the checksum of every section, every group, and
 /// what they say together. Refusals 1 to 18, 22 and 23.
@@ -49,7 +47,7 @@ pub fn read_out(file: &[u8]) -> Result<Vec<u8>, Refusal> {
     // A file that passes has as many edges as opening says; what one has to open
     // holds 8 bytes for each, so that no small file asks for much room.
     let edges = EdgeSst::open(file)?.edge_count() as usize;
-    let mut batch = vec![0; HEADING + EDGE * edges];
+    let mut batch = vec![0; Heading::LEN + Record::LEN * edges];
     // SAFETY: the pointers and lengths are of slices, and none is null.
     let done = unsafe {
         ffi::edge_sst_read_out(file.as_ptr(), file.len(), batch.as_mut_ptr(), batch.len())

@@ -343,7 +343,7 @@ module _ (f : List ℕ) (bytes : Bytes f) (pass : fullCheck f ≡ Check.Fine) wh
   unfolding batchIn
   out-edges = edges-of-batch (headingIn f) (edgesOfFile f) long fits
 
-  -- and the writer takes it
+  -- and has no fault; the writer takes it where it is within the bounds (26 is possible: a file that passes may be smaller than ours)
   pub out-fine : batchCheck (batchIn f) ≡ Check.Fine
   unfolding batchIn headingIn
   out-fine = batch-fine (headingIn f) (edgesOfFile f) long (omega arith) fits chain

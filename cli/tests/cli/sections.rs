@@ -1,0 +1,158 @@
+//! `edge-sst sections`.
+
+use crate::corpora::{inputs, lines};
+use crate::json::Json;
+use crate::run::{run_on, sample};
+use std::collections::HashMap;
+
+/// The answer for each file of the corpus, and its rows.
+fn expected() -> HashMap<String, (String, Vec<String>)> {
+    let mut expected = HashMap::new();
+    let mut last = String::new();
+    for line in lines("list_corpus") {
+        if let Some(row) = line.strip_prefix("  section ") {
+            let listed: &mut (String, Vec<String>) = expected.get_mut(&last).unwrap();
+            listed.1.push(row.to_string());
+        } else if let Some((name, told)) = line.split_once(": ") {
+            last = name.to_string();
+            expected.insert(last.clone(), (told.to_string(), Vec::new()));
+        }
+    }
+    expected
+}
+
+/// Kind, codec, offset, length, checksum and name: the corpus has the name's place
+/// and length, and so its bytes.
+#[test]
+fn the_corpus_is_listed_as_by_the_second_program() {
+    let expected = expected();
+    let files = inputs("list_corpus");
+    assert!(files.len() > 100);
+    for file in files {
+        let (told, rows) = &expected[&file.name];
+        let ran = run_on(&["sections", "--json", "-"], &file.bytes);
+        let object = Json::parse(ran.text().trim_end());
+        if let Some(refused) = told.strip_prefix("refused ") {
+            let told = object.at("refused");
+            let number = |name| told.at(name).number();
+            assert_eq!(
+                format!("{} at {}", number("number"), number("place")),
+                refused
+            );
+            assert_eq!((ran.status, ran.err.as_str()), (1, ""));
+            continue;
+        }
+        assert_eq!(object.names(), ["file", "ok", "sections"]);
+        let sections = object.at("sections").array();
+        assert_eq!(format!("{} sections", sections.len()), *told);
+        assert_eq!(ran.status, 0);
+        for (i, (section, row)) in sections.iter().zip(rows).enumerate() {
+            assert_eq!(section.at("entry").number(), i as u64);
+            same(section, row, &file.bytes);
+        }
+    }
+}
+
+fn same(section: &Json, row: &str, file: &[u8]) {
+    let words: Vec<&str> = row.split(' ').collect();
+    let [kind, codec, place, length, start, len, sum] = words[..] else {
+        panic!("{row}");
+    };
+    let number = |name| section.at(name).number().to_string();
+    assert_eq!(
+        (number("kind"), number("codec")),
+        (kind.into(), codec.into())
+    );
+    assert_eq!(
+        (number("offset"), number("length")),
+        (start.into(), len.into())
+    );
+    assert_eq!(section.at("checksum").text(), sum);
+    let place: usize = place.parse().unwrap();
+    let name = &file[place..place + length.parse::<usize>().unwrap()];
+    let hex: String = name.iter().map(|byte| format!("{byte:02x}")).collect();
+    assert_eq!(section.at("name_hex").text(), hex);
+    match std::str::from_utf8(name) {
+        Ok(name) => assert_eq!(section.at("name").text(), name),
+        Err(_) => assert_eq!(section.at("name"), &Json::Null),
+    }
+}
+
+/// The kinds have the names of the format's rules; the rows are those of the board in
+/// the second program's corpus of the full check.
+#[test]
+fn the_board_in_text() {
+    let expected = [
+        "0 1 keys raw 64 192",
+        "1 2 offsets raw 256 39",
+        "2 0x0777 skipped raw 295 1 later",
+        "3 3 partners raw 296 440",
+        "4 4 log numbers raw 736 320",
+        "5 5 tombstones raw 1056 5",
+        "6 0x0100 property stream raw 1061 13 weight",
+    ];
+    let told = run_on(&["sections", "-"], &sample("board.edges")).fine();
+    let told = String::from_utf8(told).unwrap();
+    let lines: Vec<Vec<&str>> = told
+        .lines()
+        .map(|l| l.split_whitespace().collect())
+        .collect();
+    let heads = [
+        "entry", "kind", "codec", "offset", "length", "checksum", "name",
+    ];
+    assert_eq!(lines[0], heads);
+    assert_eq!(lines.len(), 8);
+    let board = sample("board.edges");
+    for (line, expected) in lines[1..].iter().zip(expected) {
+        let sum = *line
+            .iter()
+            .find(|word| word.len() == 16)
+            .expect("a checksum");
+        let rest: Vec<&str> = line.iter().copied().filter(|word| *word != sum).collect();
+        assert_eq!(rest.join(" "), expected);
+        // The stored sum is that of the section's bytes; tests/cli/sum.rs holds
+        // `sum` to the reference program.
+        let numbers: Vec<usize> = rest.iter().filter_map(|word| word.parse().ok()).collect();
+        let (start, length) = (numbers[numbers.len() - 2], numbers[numbers.len() - 1]);
+        let bytes = &board[start..start + length];
+        let told = run_on(&["sum", "-"], bytes).fine();
+        assert_eq!(told, format!("{sum}  -\n").as_bytes());
+    }
+}
+
+#[test]
+fn a_file_that_does_not_open_is_refused() {
+    let ran = run_on(&["sections", "-"], &[0; 100]);
+    ran.fails(1, "standard input: 2: magic\n");
+}
+
+/// A name that is no text has no name in JSON, and its bytes in the text.
+#[test]
+fn names_that_are_no_text() {
+    let mut board = sample("board.edges");
+    let place = board
+        .windows(6)
+        .rposition(|bytes| bytes == b"weight")
+        .unwrap();
+    board[place..place + 6].copy_from_slice(b"\xff\x1b\"\\\na");
+    mend(&mut board);
+    let told = run_on(&["sections", "-"], &board).fine();
+    let told = String::from_utf8(told).unwrap();
+    assert!(told.ends_with("  \\xff\\u{1b}\"\\\\na\n"), "{told}");
+    let told = run_on(&["sections", "--json", "-"], &board).fine();
+    let told = Json::parse(std::str::from_utf8(&told).unwrap().trim_end());
+    let last = &told.at("sections").array()[6];
+    assert_eq!(last.at("name"), &Json::Null);
+    assert_eq!(last.at("name_hex").text(), "ff1b225c0a61");
+}
+
+/// Mends the footer's checksum.
+fn mend(file: &mut [u8]) {
+    let length = file.len();
+    let footer = u32::from_le_bytes(file[length - 12..length - 8].try_into().unwrap());
+    let body = &file[length - footer as usize..length - 20];
+    let told = run_on(&["sum", "-"], body).fine();
+    let sum = std::str::from_utf8(&told[..16]).unwrap();
+    let sum = u64::from_str_radix(sum, 16).unwrap().to_le_bytes();
+    file[length - 20..length - 12].copy_from_slice(&sum);
+}

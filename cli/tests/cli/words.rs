@@ -1,0 +1,182 @@
+//! Refusals in words: of damaged files by `check`, of batches by `write`.
+
+use crate::corpora::{inputs, refusals, Named};
+use crate::json::Json;
+use crate::run::{folder, run_on, sample, second};
+
+/// What `check` says of these bytes after the file's name.
+#[track_caller]
+fn said(bytes: &[u8]) -> String {
+    let ran = run_on(&["check", "-"], bytes);
+    assert_eq!((ran.status, ran.err.as_str()), (1, ""));
+    let line = ran
+        .text()
+        .strip_prefix("standard input: ")
+        .expect("the name");
+    line.strip_suffix('\n').expect("one line").to_string()
+}
+
+/// The board with one byte changed.
+fn changed(place: usize) -> Vec<u8> {
+    let mut board = sample("board.edges");
+    board[place] ^= 0x40;
+    board
+}
+
+#[test]
+fn a_wrong_header_is_told() {
+    assert_eq!(said(&changed(0)), "2: magic");
+    assert_eq!(said(&changed(8)), "3: major version not 1");
+    assert_eq!(said(&changed(10)), "4: header size not 64");
+    assert_eq!(said(&changed(12)), "5: a flag bit 4 to 31 is set");
+}
+
+#[test]
+fn a_wrong_end_is_told() {
+    let length = sample("board.edges").len();
+    assert_eq!(said(&changed(length - 1)), "6: tail magic");
+    assert_eq!(said(&changed(length - 9)), "7: footer length");
+    assert_eq!(said(&changed(length - 20)), "8: footer checksum");
+}
+
+/// Entry 3 of the board is the partners, as the issue's own example has it.
+#[test]
+fn a_wrong_section_is_named() {
+    let folder = folder("words_section");
+    let mut board = sample("board.edges");
+    board[700] ^= 0x40;
+    folder.put("board.edges", &board);
+    let ran = folder.run(&["check", "board.edges"]);
+    let line = "board.edges: 22: a section's checksum, entry 3 (partners)\n";
+    assert_eq!((ran.status, ran.text(), ran.err.as_str()), (1, line, ""));
+}
+
+/// The corpus damages each section of the board, and names the entry and kind.
+#[test]
+fn sections_are_named_by_kind_and_name() {
+    let expected = [
+        (0, "keys", "keys"),
+        (1, "offsets", "offsets"),
+        (2, "later", "kind 0x0777 'later'"),
+        (3, "partners", "partners"),
+        (4, "log numbers", "log numbers"),
+        (5, "tombstones", "tombstones"),
+        (6, "weight", "property stream 'weight'"),
+    ];
+    let files = inputs("check_corpus");
+    for (entry, _, words) in expected {
+        let begin = format!("check-sum-board-entry-{entry}-");
+        let file = files.iter().find(|file| file.name.starts_with(&begin));
+        let line = format!("22: a section's checksum, entry {entry} ({words})");
+        assert_eq!(said(&file.expect("a damaged board").bytes), line);
+    }
+}
+
+/// Some file of the corpus that the second program refuses so, and that fits.
+fn refused_so(number: u64, place: u64, fits: fn(&[u8]) -> bool) -> Vec<u8> {
+    let refusals = refusals("check_corpus", "check");
+    let so = |file: &Named| refusals.get(&file.name) == Some(&(number, place));
+    let found = inputs("check_corpus")
+        .into_iter()
+        .find(|file| so(file) && fits(&file.bytes));
+    found.expect("such a file").bytes
+}
+
+/// A file that does not open has no list of its sections: the entry stands alone.
+#[test]
+fn places_of_files_that_do_not_open() {
+    for (number, text) in [
+        (10, "a section of kind 1 to 6 is not raw, entry"),
+        (11, "section range, entry"),
+        (13, "key not above the one before, key"),
+        (14, "offset, offset"),
+    ] {
+        for place in [1, 2, 3] {
+            let bytes = refused_so(number, place, |_| true);
+            assert_eq!(said(&bytes), format!("{number}: {text} {place}"));
+        }
+    }
+}
+
+/// Groups are told with their key, which is at 64 + 16 i where the keys come first.
+#[test]
+fn groups_are_named_by_their_key() {
+    for (number, text) in [
+        (16, "unknown tag of a group"),
+        (17, "varint cut, too long or too large"),
+        (
+            18,
+            "group: degree 0, order, upper half too large, cut or overlong",
+        ),
+    ] {
+        for group in [0, 1, 2] {
+            let bytes = refused_so(number, group, |bytes| first_section(bytes) == (1, 64));
+            let key = &bytes[64 + 16 * group as usize..][..16];
+            let key: String = key.iter().map(|byte| format!("{byte:02x}")).collect();
+            let line = format!("{number}: {text}, group {group} (key {key})");
+            assert_eq!(said(&bytes), line);
+        }
+    }
+}
+
+/// Kind and offset of the first entry of the table.
+fn first_section(bytes: &[u8]) -> (u64, u64) {
+    let number = |at: usize, width: usize| {
+        let digits = bytes[at..at + width].iter().rev();
+        digits.fold(0, |sum, byte| 256 * sum + u64::from(*byte))
+    };
+    let body = bytes.len() - number(bytes.len() - 12, 4) as usize;
+    (number(body + 2, 2), number(body + 6, 8))
+}
+
+#[test]
+fn refusals_without_a_place_have_none() {
+    assert_eq!(said(&[]), "1: file under 84 or over 2^30 bytes");
+    for (number, text) in [
+        (9, "section table"),
+        (12, "counts, lengths or presence of sections"),
+        (15, "fence section"),
+        (23, "degree sum, flag bit 1 or 2, or unused tombstone bits"),
+    ] {
+        let bytes = refused_so(number, 0, |_| true);
+        assert_eq!(said(&bytes), format!("{number}: {text}"));
+    }
+}
+
+#[test]
+fn json_has_the_same_words() {
+    let ran = run_on(&["check", "--json", "-"], &changed(700));
+    assert_eq!((ran.status, ran.err.as_str()), (1, ""));
+    let told = Json::parse(ran.text().trim_end());
+    assert_eq!(told.names(), ["file", "ok", "refused"]);
+    let refused = told.at("refused");
+    assert_eq!(refused.at("number").number(), 22);
+    assert_eq!(refused.at("place").number(), 3);
+    assert_eq!(refused.at("text").text(), "a section's checksum");
+    assert_eq!(refused.at("where").text(), "entry 3 (partners)");
+}
+
+/// Places of a batch are bytes; an edge's number stands beside it.
+#[test]
+fn records_of_a_batch_are_named() {
+    let batch = second(&["read-out"], &sample("board.edges"));
+    let edge = |i: usize| 50 + 41 * i..91 + 41 * i;
+    let said = |bytes: &[u8]| {
+        let ran = run_on(&["write", "-", "-o", "-"], bytes);
+        assert_eq!((ran.status, ran.text()), (1, ""));
+        ran.err
+    };
+    let unknown = "standard input: 24: batch record unknown, cut or misplaced, ";
+    assert_eq!(said(&[]), format!("{unknown}byte 0 (the heading)\n"));
+    assert_eq!(
+        said(&batch[1..]),
+        format!("{unknown}byte 0 (the heading)\n")
+    );
+    assert_eq!(said(&batch[..100]), format!("{unknown}byte 91 (edge 1)\n"));
+    let mut odd = batch.clone();
+    odd[50 + 41 * 7] = 9;
+    assert_eq!(said(&odd), format!("{unknown}byte 337 (edge 7)\n"));
+    let again = [&batch[..edge(2).end], &batch[edge(2)]].concat();
+    let line = "standard input: 25: batch order, byte 173 (edge 3)\n";
+    assert_eq!(said(&again), line);
+}
