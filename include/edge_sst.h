@@ -12,8 +12,9 @@
  *   Records and runs of uint64_t are aligned as their type asks.
  * - A call reads and writes only what it is lent. An output overlaps nothing else that
  *   is lent, and nobody writes what is lent while the call runs.
- * - number is 0 where there is no refusal, otherwise the refusal's number, and place
- *   is its place. Fields that do not apply are 0.
+ * - number is 0 where there is no refusal, otherwise the refusal's number. place is
+ *   its place; beside is a second place beside it, which no refusal of this version
+ *   has. Fields that do not apply are 0.
  * - A refusal, or the absence of a key, leaves every output as it was. Of an answer,
  *   what lies past it stays.
  * - Not enough room is EDGE_SST_ROOM (20), and its place is what is needed: ask with
@@ -61,10 +62,10 @@ extern "C" {
  * number, 100 for the minor one, 1 for the patch. A new patch changes nothing in this
  * header. Until 1.0 a new minor number may add calls, refusals and fields, and may tell
  * a fault by a finer number in the place of a coarse one. Numbers keep their meaning,
- * new ones follow after the last; fields are only added at the end of a struct: a
- * refusal may get a second place, the record another range, a row another number. As
- * structs are given by value and rows lie back to back, an archive goes with the
- * header of its own version and no other. */
+ * new ones follow after the last; fields are only added at the end of a struct: the
+ * record may get another range, a row another number. As structs are given by value
+ * and rows lie back to back, an archive goes with the header of its own version and no
+ * other. */
 #define EDGE_SST_VERSION_MAJOR 0
 #define EDGE_SST_VERSION_MINOR 1
 #define EDGE_SST_VERSION_PATCH 0
@@ -176,11 +177,11 @@ static inline const char *edge_sst_text(uint64_t number) {
     return number < sizeof texts / sizeof texts[0] ? texts[number] : "unknown refusal";
 }
 
-/* The opened record: what opening a file gives. Where it is refused, all but number
- * and place is 0. The start of a range counts from the file's first byte. marked is 1
+/* The opened record: what opening a file gives. Where it is refused, all but the
+ * refusal is 0. The start of a range counts from the file's first byte. marked is 1
  * where the file has tombstones, 0 where it has none. */
 typedef struct {
-    uint64_t number, place;
+    uint64_t number, place, beside;
     uint64_t keystart, keylen;
     uint64_t offsetstart, offsetlen;
     uint64_t partnerstart, partnerlen;
@@ -196,13 +197,13 @@ EdgeSstOpened edge_sst_open(const uint8_t *p, size_t n);
  * its index among the keys; compared is the count of keys that were compared, of an
  * absent key too. */
 typedef struct {
-    uint64_t number, place;
+    uint64_t number, place, beside;
     uint64_t found, degree, index, compared;
 } EdgeSstLooked;
 
 /* Writes the partners of the key, EDGE_SST_KEY_BYTES each, over the start of the m
  * bytes at out. o is what edge_sst_open gave for these n bytes, or any numbers: its
- * number and place are not looked at, a mark other than 0 is 1, and numbers that cannot
+ * refusal is not looked at, a mark other than 0 is 1, and numbers that cannot
  * be of these bytes are refusal 21. A record of other bytes is answered with what these
  * bytes say at its ranges: open again when the bytes change. */
 EdgeSstLooked edge_sst_partners_with(const uint8_t *p, size_t n, const EdgeSstOpened *o,
@@ -222,9 +223,9 @@ EdgeSstLooked edge_sst_lookup_with(const uint8_t *p, size_t n, const EdgeSstOpen
 EdgeSstLooked edge_sst_lookup(const uint8_t *p, size_t n, const uint8_t key[16], uint8_t *out,
                               size_t m, uint64_t *logs, size_t l, uint8_t *marks, size_t k);
 
-/* What a check gives: 0 and 0 where the file passes. */
+/* What a check gives: zeros where the file passes. */
 typedef struct {
-    uint64_t number, place;
+    uint64_t number, place, beside;
 } EdgeSstTold;
 
 /* Checks the n bytes at p in full: opening, the checksum of every section, every
@@ -233,7 +234,7 @@ EdgeSstTold edge_sst_check(const uint8_t *p, size_t n);
 
 /* What a read-out and the writer give: how many bytes were written, or are needed. */
 typedef struct {
-    uint64_t number, place, bytes;
+    uint64_t number, place, beside, bytes;
 } EdgeSstDone;
 
 /* Writes the batch of the n bytes at p over the start of the m bytes at out, once the
@@ -260,7 +261,7 @@ typedef struct {
 
 /* What the section list gives: how many rows were written. */
 typedef struct {
-    uint64_t number, place, rows;
+    uint64_t number, place, beside, rows;
 } EdgeSstListed;
 
 /* Lists the sections of the n bytes at p, in table order, skipped kinds too:

@@ -1,11 +1,17 @@
 /* Records with a number changed: refusal 21 exactly where the record cannot be of
  * the file. */
 #include <inttypes.h>
+#include <stddef.h>
 #include <string.h>
 
 #include "test.h"
 
-enum { NUMBERS = sizeof(EdgeSstOpened) / sizeof(uint64_t), FIRST = 2, MARKED = 12 };
+/* The record's numbers, those that are looked at, and the mark's. */
+enum {
+    NUMBERS = sizeof(EdgeSstOpened) / sizeof(uint64_t),
+    FIRST = offsetof(EdgeSstOpened, keystart) / sizeof(uint64_t),
+    MARKED = offsetof(EdgeSstOpened, marked) / sizeof(uint64_t)
+};
 
 static int within(uint64_t start, uint64_t len, uint64_t size) { return start <= size && len <= size - start; }
 
@@ -26,7 +32,7 @@ static void hold_refused(const char *name, EdgeSstLooked got, int is_possible, c
     int i;
     if (is_possible ? got.number == EDGE_SST_RECORD : got.number != EDGE_SST_RECORD)
         differ("%s: a changed record is %" PRIu64, name, got.number);
-    if (!is_possible && (got.place != 0 || got.found != 0 || got.degree != 0 || got.index != 0 || got.compared != 0))
+    if (!is_possible && (got.place != 0 || got.beside != 0 || got.found != 0 || got.degree != 0 || got.index != 0 || got.compared != 0))
         differ("%s: 21 with other numbers", name);
     if (got.number == 0 && got.found)
         return;

@@ -9,6 +9,7 @@
 pub struct Opened {
     pub number: u64,
     pub place: u64,
+    pub beside: u64,
     pub keystart: u64,
     pub keylen: u64,
     pub offsetstart: u64,
@@ -30,6 +31,7 @@ pub struct Opened {
 pub struct Looked {
     pub number: u64,
     pub place: u64,
+    pub beside: u64,
     pub found: u64,
     pub degree: u64,
     pub index: u64,
@@ -41,6 +43,7 @@ pub struct Looked {
 pub struct Told {
     pub number: u64,
     pub place: u64,
+    pub beside: u64,
 }
 
 #[repr(C)]
@@ -48,6 +51,7 @@ pub struct Told {
 pub struct Done {
     pub number: u64,
     pub place: u64,
+    pub beside: u64,
     pub bytes: u64,
 }
 
@@ -56,6 +60,7 @@ pub struct Done {
 pub struct Listed {
     pub number: u64,
     pub place: u64,
+    pub beside: u64,
     pub rows: u64,
 }
 

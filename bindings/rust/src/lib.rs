@@ -37,7 +37,7 @@ use refusal::refuse_if;
 pub fn check(file: &[u8]) -> Result<(), Refusal> {
     // SAFETY: the pointer and length are of one slice, and not null.
     let told = unsafe { ffi::edge_sst_check(file.as_ptr(), file.len()) };
-    refuse_if(told.number, told.place)
+    refuse_if(told.number, told.place, told.beside)
 }
 
 /// Reads a file out to a batch, after checking it in full: a heading of 50 bytes
@@ -52,7 +52,7 @@ pub fn read_out(file: &[u8]) -> Result<Vec<u8>, Refusal> {
     let done = unsafe {
         ffi::edge_sst_read_out(file.as_ptr(), file.len(), batch.as_mut_ptr(), batch.len())
     };
-    refuse_if(done.number, done.place)?;
+    refuse_if(done.number, done.place, done.beside)?;
     batch.truncate(done.bytes as usize);
     Ok(batch)
 }
@@ -64,7 +64,7 @@ pub fn write(batch: &[u8]) -> Result<Vec<u8>, Refusal> {
     // SAFETY: the pointers and lengths are of slices, and none is null.
     let done =
         unsafe { ffi::edge_sst_write(batch.as_ptr(), batch.len(), file.as_mut_ptr(), file.len()) };
-    refuse_if(done.number, done.place)?;
+    refuse_if(done.number, done.place, done.beside)?;
     file.truncate(done.bytes as usize);
     Ok(file)
 }
@@ -73,7 +73,7 @@ pub fn write(batch: &[u8]) -> Result<Vec<u8>, Refusal> {
 pub fn needed(batch: &[u8]) -> Result<usize, Refusal> {
     // SAFETY: the pointer and length are of one slice, and not null.
     let done = unsafe { ffi::edge_sst_needed(batch.as_ptr(), batch.len()) };
-    refuse_if(done.number, done.place)?;
+    refuse_if(done.number, done.place, done.beside)?;
     Ok(done.bytes as usize)
 }
 

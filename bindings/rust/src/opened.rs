@@ -50,7 +50,7 @@ impl EdgeSst {
     pub fn open(file: &[u8]) -> Result<Opened<'_>, Refusal> {
         // SAFETY: the pointer and length are of one slice, and not null.
         let record = unsafe { ffi::edge_sst_open(file.as_ptr(), file.len()) };
-        refuse_if(record.number, record.place)?;
+        refuse_if(record.number, record.place, record.beside)?;
         Ok(Opened { file, record })
     }
 }
@@ -147,7 +147,7 @@ impl<'a> Opened<'a> {
 
 /// How many partners were found, `None` where the key is absent.
 fn degree_of(looked: &ffi::Looked) -> Result<Option<usize>, Refusal> {
-    refuse_if(looked.number, looked.place)?;
+    refuse_if(looked.number, looked.place, looked.beside)?;
     Ok((looked.found != 0).then_some(looked.degree as usize))
 }
 
@@ -157,6 +157,7 @@ fn with_room<T>(ask: impl Fn(usize) -> Result<T, Refusal>) -> Result<T, Refusal>
         Err(Refusal {
             number: Refusal::ROOM,
             place,
+            ..
         }) => ask(place as usize),
         answer => answer,
     }
@@ -195,7 +196,7 @@ mod sections {
                     numbers.len(),
                 )
             };
-            refuse_if(listed.number, listed.place)?;
+            refuse_if(listed.number, listed.place, listed.beside)?;
             let rows = numbers.chunks_exact(ROW).take(listed.rows as usize);
             Ok(rows.map(|row| self.section(row)).collect())
         }

@@ -3,11 +3,13 @@
 use std::error::Error;
 use std::fmt;
 
-/// A refusal's number and its place: an index, a count or a byte, by the number.
+/// A refusal's number and its place: an index, a count or a byte, by the number. `beside` is a second
+/// place beside it, 0 where there is none.
 #[derive(Clone, Copy, Debug, PartialEq, Eq, Hash)]
 pub struct Refusal {
     pub number: u64,
     pub place: u64,
+    pub beside: u64,
 }
 
 /// The text of each number, as in the C header.
@@ -69,9 +71,13 @@ impl fmt::Display for Refusal {
 impl Error for Refusal {}
 
 /// Fine where the number is 0.
-pub(crate) fn refuse_if(number: u64, place: u64) -> Result<(), Refusal> {
+pub(crate) fn refuse_if(number: u64, place: u64, beside: u64) -> Result<(), Refusal> {
     match number {
         0 => Ok(()),
-        _ => Err(Refusal { number, place }),
+        _ => Err(Refusal {
+            number,
+            place,
+            beside,
+        }),
     }
 }

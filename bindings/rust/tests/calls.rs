@@ -184,6 +184,14 @@ fn sums_of_known_bytes() {
     assert_eq!(sum(&sample("example")[64..80]), 0xc4846c74c4b320ad);
 }
 
+fn refusal_of(number: u64, place: u64) -> Refusal {
+    Refusal {
+        number,
+        place,
+        beside: 0,
+    }
+}
+
 /// The texts are those of the C header.
 #[test]
 fn texts_are_the_headers() {
@@ -192,22 +200,12 @@ fn texts_are_the_headers() {
     let (_, table) = header.split_once("texts[] = {").unwrap();
     let (table, _) = table.split_once("};").unwrap();
     let texts: Vec<&str> = table.split('"').skip(1).step_by(2).collect();
-    assert_eq!(texts.len(), 27);
+    assert!(texts.len() > 26);
     for (number, text) in (0..).zip(&texts) {
-        assert_eq!(Refusal { number, place: 0 }.text(), *text);
+        assert_eq!(refusal_of(number, 0).text(), *text);
     }
-    assert_eq!(
-        Refusal {
-            number: 27,
-            place: 0
-        }
-        .text(),
-        "unknown refusal"
-    );
-    let error: Box<dyn std::error::Error> = Box::new(Refusal {
-        number: 14,
-        place: 3,
-    });
+    assert_eq!(refusal_of(texts.len() as u64, 0).text(), "unknown refusal");
+    let error: Box<dyn std::error::Error> = Box::new(refusal_of(14, 3));
     assert_eq!(error.to_string(), "refused 14 at 3: offset");
 }
 

@@ -6,10 +6,10 @@ use Prim.Native.Nat.{ℕ, suc, _+_, _-_, _*_, _≤_, _<_}
 use native.Mathlib.Nat.{add-zero}
 use native.Mathlib.Omega.{arith}
 use native.Mathlib.Decide.{decLe}
-use mathlib.Core.List.{List, [], _∷_, _++_}
+use mathlib.Core.List.{List, [], _∷_, _++_, append-assoc}
 use mathlib.Core.Bool.{Bool, true, false}
-use lib.ListN.{length, getD, take, drop, set, length-take, length-drop, length-set, take-append-drop}
-use lib.Seq.{drop-drop, getD-drop, drop-append-le, take-append-le, length-take-le, take-set-le, drop-set-lt}
+use lib.ListN.{length, getD, take, drop, set, length-append, length-take, length-drop, length-set, take-append-drop}
+use lib.Seq.{drop-drop, getD-drop, drop-append-le, take-append-le, length-take-le, take-set-le, drop-set-lt, take-at, drop-at}
 use lib.Dec.{eqb, leb}
 use borrow.Author.Tests.{eqb-true, ne-eqb, eq-eqb, leb-true}
 use Rattle.base.specs.Pick.{pick}
@@ -42,6 +42,19 @@ one-byte f r i b h l = record {
   before = take-set-le (r .start) f i b h;
   after = drop-set-lt (r .start + r .len) f i b l;
 }
+
+-- and any bytes in place of its own, as many of them
+pub any-bytes : (f : List ℕ) (r : Row) (new : List ℕ) → length new ≡ r .len → r .start + r .len ≤ length f
+    → Changed f (take (r .start) f ++ (new ++ drop (r .start + r .len) f)) r
+any-bytes f r new n h =
+    let front = length-take-le (r .start) f (omega arith) in
+    let left = length-drop (r .start + r .len) f in
+    let both : length (take (r .start) f ++ new) ≡ r .start + r .len = length-append (take (r .start) f) new ∙ omega arith in
+    record {
+      size = simp length-append (omega arith);
+      before = take-at (take (r .start) f) _ (r .start) front;
+      after = ap (drop (r .start + r .len)) (sym (append-assoc (take (r .start) f) new _)) ∙ drop-at (take (r .start) f ++ new) _ (r .start + r .len) both;
+    }
 
 -- ---- parts of a list that are not touched
 

@@ -9,7 +9,7 @@ use mathlib.Core.Bool.{Bool, true, false, _&&_, _||_}
 use lib.ListN.{length, getD, take, drop, length-append, length-take, List·getD-eq-default}
 use lib.Seq.{append-snoc, getD-append-seam, getD-take, getD-drop}
 use lib.Dec.{ltb, leb, eqb}
-use borrow.Author.Tests.{eq-eqb, lt-ltb, le-leb}
+use borrow.Author.Tests.{eq-eqb, lt-ltb, le-leb, leb-true}
 use Rattle.base.specs.Pick.{pick}
 use Rattle.base.specs.Over.{part}
 use Rattle.codes.specs.declared.ids.Id.{Id}
@@ -19,11 +19,12 @@ use Rattle.codes.specs.Ids.{beAt, halvesAt, numberOf, idBytes}
 use Rattle.codes.specs.Ids.Laws.{beAt-lt, halves-back, length-idBytes, number-halves}
 use Rattle.refusal.specs.declared.Refusal.{Refusal}
 use Rattle.refusal.specs.declared.Check.{Check}
-use Rattle.refusal.specs.Check.Laws.{fine-pick, and-both}
+use Rattle.refusal.specs.Check.Laws.{fine-pick, and-parts, and-both}
 use Rattle.index.specs.Order.{Rising}
 use Rattle.frame.specs.Open.{knownOf, recordOf, bytesAt, keyAt, offsetAt}
+use Rattle.frame.specs.Cases.{oneEdge}
 use Rattle.degrees.specs.Degrees.{groupAt}
-use Rattle.group.specs.Group.{Partners, good, badTag, badVarint, badShape, groupOf, partnersOf}
+use Rattle.group.specs.Group.{Partners, good, bad, groupOf, partnersOf}
 use Rattle.group.specs.Group.Laws.{good-is}
 use Rattle.group.specs.Good as group
 use Rattle.group.specs.Written.{Halves, Above}
@@ -40,6 +41,7 @@ use Rattle.readout.specs.Edges.{edgeOf, edgesFrom, degreeIn, keyEdges, readFrom
 use Rattle.readout.specs.Edges.{edgesIn}
 use Rattle.readout.specs.ReadOut.{headingIn, batchIn}
 use Rattle.readout.specs.ReadOut.Laws.{checked-edges, checked-size, length-heading}
+use Rattle.readout.specs.Cases.{passed}
 use Rattle.agreement.specs.SameEdges.{each-good, edgesOfFile}
 
 -- ---- a record reads back
@@ -130,8 +132,19 @@ edges-of-batch h es l f =
 
 -- ---- the edges of a file fit
 
-abbrev Bytes : List ℕ → Type 0
+abbrev pub Bytes : List ℕ → Type 0
 Bytes s = (j : ℕ) → getD s j 0 < 2 ^ 8
+
+-- the same by computing
+unfoldable pub byted : List ℕ → Bool
+byted [] = true
+byted (x ∷ xs) = leb x 255 && byted xs
+
+pub bytes-are : (s : List ℕ) → byted s ≡ true → Bytes s
+unfolding byted
+bytes-are [] e j = omega arith
+bytes-are (x ∷ xs) e zero = let h = leb-true x 255 (and-parts (leb x 255) (byted xs) e .0) in omega arith
+bytes-are (x ∷ xs) e (suc j) = bytes-are xs (and-parts (leb x 255) (byted xs) e .1) j
 
 pub bytes-part : (s : List ℕ) → Bytes s → (a e : ℕ) → Bytes (part s a e)
 bytes-part s by a e j = elim (decLt j (e - a)) [
@@ -157,9 +170,7 @@ module _ (keys p o : List ℕ) (w : ℕ) (logs dead : List ℕ) (bk : Bytes keys
     where
       go : (x : Partners) → groupIn p o w i ≡ x → Halves (partnersOf x)
       go (good dense ps) q = group.partners-halves (groupAt p o w i) dense ps q (bytes-part p bp (offsetAt o w i) (offsetAt o w (i + 1)))
-      go badTag q = tt
-      go badVarint q = tt
-      go badShape q = tt
+      go (bad f) q = tt
 
   read-fits : (d i e : ℕ) → AllFit (readFrom keys p o w logs dead d i e)
   unfolding readFrom AllFit halvesAt
@@ -347,3 +358,8 @@ module _ (f : List ℕ) (bytes : Bytes f) (pass : fullCheck f ≡ Check.Fine) wh
   pub out-fine : batchCheck (batchIn f) ≡ Check.Fine
   unfolding batchIn headingIn
   out-fine = batch-fine (headingIn f) (edgesOfFile f) long (omega arith) fits chain
+
+-- as the file of one edge, whose checksums have bytes of every size
+pub one-edge-out : (edgesOf (batchIn oneEdge) ≡ edgesOfFile oneEdge) × (batchCheck (batchIn oneEdge) ≡ Check.Fine)
+unfolding byted oneEdge
+one-edge-out = (out-edges oneEdge (bytes-are oneEdge refl) (passed .1), out-fine oneEdge (bytes-are oneEdge refl) (passed .1))

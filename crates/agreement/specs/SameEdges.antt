@@ -10,15 +10,17 @@ use mathlib.Core.List.{List, [], _∷_, _++_, append-nil}
 use mathlib.Core.Bool.{Bool, true, false}
 use lib.ListN.{length}
 use lib.Dec.{eqb, ltb}
-use borrow.Author.Tests.{eq-eqb, ne-eqb, le-ltb}
+use borrow.Author.Tests.{eq-eqb, ne-eqb, le-ltb, ltb-false}
 use Rattle.base.specs.Pick.{pick}
 use Rattle.base.specs.Over.{part}
 use Rattle.codes.specs.declared.ids.Id.{Id}
 use Rattle.codes.specs.declared.varint.Varint.{Varint}
 use Rattle.codes.specs.Ids.{numberOf, halvesAt}
 use Rattle.codes.specs.Ids.Laws.{number-halves}
+use Rattle.refusal.specs.declared.Refusal.{Refusal}
 use Rattle.refusal.specs.declared.Check.{Check}
-use Rattle.refusal.specs.Check.Laws.{fine-parts}
+use Rattle.refusal.specs.Check.{refuse}
+use Rattle.refusal.specs.Check.Laws.{fine-parts, either-parts}
 use Rattle.frame.specs.declared.Opened.{Opened}
 use Rattle.frame.specs.declared.Opening.{Opening}
 use Rattle.frame.specs.Open.{knownOf, recordOf, bytesAt, keyAt, offsetAt, openOf}
@@ -31,12 +33,12 @@ use Rattle.degrees.specs.declared.Sum.{Sum}
 use Rattle.degrees.specs.Degrees.{groupAt, degreeAt, edgesBefore, plus, capped}
 use Rattle.degrees.specs.Degrees.Laws.{in-is, degree-is, before-none, before-all}
 use Rattle.codes.specs.Varint.{varintAt}
-use Rattle.group.specs.Group.{Partners, degreeOf, groupOf, isGood, partnersOf, answerOf}
-use Rattle.group.specs.Group.Laws.{good-is, answer-good}
+use Rattle.group.specs.Group.{Partners, degreeOf, groupOf, isGood, partnersOf}
+use Rattle.group.specs.Group.Laws.{good-is}
 use Rattle.group.specs.Good as group
 use Rattle.lookup.specs.declared.groups.GroupSeen.{GroupSeen}
 use Rattle.lookup.specs.Lookup.{Outcome, found, absent, refused, Rooms, groupCheck, markAt, logsFrom, marksFrom, short, lookIn, lookWith, lookOf}
-use Rattle.lookup.specs.Groups.{check-good, groupSeen, toldOf, seen-told}
+use Rattle.lookup.specs.Groups.{check-good, groupSeen, good-seen}
 use Rattle.lookup.specs.Calls as calls
 use Rattle.reader.specs.Opened.{opened-keys, opened-offsets}
 use Rattle.reader.specs.Look.{of-good, with-record}
@@ -71,6 +73,30 @@ unfoldable pub Says : Bool → Outcome → List Edge → Type 0
 Says full (found i c ps logs marks) es = (1 ≤ length es) × (ps ≡ partnersIn es) × (logs ≡ pick full (logsIn es) []) × (marks ≡ pick full (marksIn es) [])
 Says full (absent c) es = es ≡ []
 Says full (refused r) es = ⊥
+
+-- what an outcome tells of a key: whether it is there, its partners, log numbers and dead marks
+unfoldable pub toldBy : Outcome → Bool × List Id × List ℕ × List ℕ
+toldBy (found i c ps logs marks) = (true, ps, logs, marks)
+toldBy (absent c) = (false, [], [], [])
+toldBy (refused r) = (false, [], [], [])
+
+-- the sentence leaves nothing open: two outcomes that say the same edges tell the same
+pub says-one : (full : Bool) (x y : Outcome) (es : List Edge) → Says full x es → Says full y es → toldBy x ≡ toldBy y
+unfolding Says toldBy
+says-one full (found i c ps ls ms) (found j d qs ks ns) es h k = λ t. (true, (h .1 ∙ sym (k .1)) t, (h .2 ∙ sym (k .2)) t, (h .3 ∙ sym (k .3)) t)
+says-one full (found i c ps ls ms) (absent d) es h k = let some = h .0 in absurd (omega (arith, ap length k))
+says-one full (found i c ps ls ms) (refused r) es h k = absurd k
+says-one full (absent c) (found j d qs ks ns) es h k = let some = k .0 in absurd (omega (arith, ap length h))
+says-one full (absent c) (absent d) es h k = refl
+says-one full (absent c) (refused r) es h k = absurd k
+says-one full (refused r) y es h k = absurd h
+
+-- and an outcome says one run of edges: another has the same partners, log numbers and dead marks
+pub says-edges : (x : Outcome) (es fs : List Edge) → Says true x es → Says true x fs → (partnersIn es ≡ partnersIn fs) × (logsIn es ≡ logsIn fs) × (marksIn es ≡ marksIn fs)
+unfolding Says
+says-edges (found i c ps ls ms) es fs h k = (sym (h .1) ∙ k .1, sym (h .2) ∙ k .2, sym (h .3) ∙ k .3)
+says-edges (absent c) es fs h k = let e : es ≡ fs = h ∙ sym k in (ap partnersIn e, ap logsIn e, ap marksIn e)
+says-edges (refused r) es fs h k = absurd h
 
 -- ---- edges of a key
 
@@ -308,13 +334,13 @@ module _ (f : List ℕ) (o : Opened) (pass : checkedOf f ≡ Opening.Good o) (k 
 
     -- the group is good
     seen-good : calls.group f o i ≡ GroupSeen.Good (length group-partners)
-    unfolding group-partners toldOf
+    unfolding group-partners
     seen-good =
         let lt = here .0 in
         let risen = up .above i lt in
         let end = up .within (i + 1) (omega arith) in
         let (dense, is) = good-is (groupIn ps os w i) (each-good keys ps os w ls ds (o .keycount) 0 ok i (omega arith) (omega arith)) in
-        seen-told ps (offsetAt os w i) (offsetAt os w (i + 1)) i (omega arith) (omega arith) _ (ap answerOf is ∙ answer-good dense (partnersOf (groupIn ps os w i)))
+        good-seen ps (offsetAt os w i) (offsetAt os w (i + 1)) i (omega arith) (omega arith) dense (partnersOf (groupIn ps os w i)) is
 
     -- its edges lie within the edge count
     through : first + length group-partners ≤ o .edgecount
@@ -378,6 +404,17 @@ pub record Enough (rooms : Rooms) (d : ℕ) : Type 0 where
   pub logs : d ≤ rooms .logs
   pub marks : d ≤ rooms .marks
 
+-- it is enough exactly where no output is too short
+pub enough-room : (rooms : Rooms) (d : ℕ) → short true rooms d ≡ false → Enough rooms d
+unfolding short
+enough-room rooms d e =
+    let a = either-parts (Refusal.Room d) (ltb (rooms .bytes) (16 * d)) _ (ap (refuse (Refusal.Room d)) e) in
+    let b = either-parts (Refusal.Room d) (ltb (rooms .logs) d) (ltb (rooms .marks) d) (ap (refuse (Refusal.Room d)) (a .1)) in
+    record { bytes = ltb-false _ _ (a .0); logs = ltb-false _ _ (b .0); marks = ltb-false _ _ (b .1) }
+
+pub room-enough : (rooms : Rooms) (d : ℕ) → Enough rooms d → short true rooms d ≡ false
+room-enough rooms d room = let bytes = room .bytes in let logs = room .logs in let marks = room .marks in calls.short-none rooms d (omega arith) (omega arith) (omega arith)
+
 module _ (f : List ℕ) (pass : fullCheck f ≡ Check.Fine) (k : ℕ) where
   good : checkedOf f ≡ Opening.Good (recordOf f)
   good = fine-checked f pass
@@ -387,7 +424,7 @@ module _ (f : List ℕ) (pass : fullCheck f ≡ Check.Fine) (k : ℕ) where
     pub same-edges : Says true (lookOf true rooms k f) (ofKey k (edgesOfFile f))
     same-edges =
         says-as true (ofKey k (edgesOfFile f)) (of-good true rooms k f (recordOf f) (checked-opened f (recordOf f) good))
-        (full-says f (recordOf f) good k rooms (calls.short-none rooms (length (ofKey k (edgesOfFile f))) (room .bytes) (room .logs) (room .marks)))
+        (full-says f (recordOf f) good k rooms (room-enough rooms (length (ofKey k (edgesOfFile f))) room))
 
     pub same-edges-with : Says true (lookWith true rooms k f (recordOf f)) (ofKey k (edgesOfFile f))
     same-edges-with = says-as true (ofKey k (edgesOfFile f)) (with-record true rooms k f (recordOf f) (checked-opened f (recordOf f) good)) same-edges

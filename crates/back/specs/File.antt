@@ -26,7 +26,7 @@ use Rattle.frame.specs.Frame.Laws.{Table}
 use Rattle.frame.specs.Open.{Known, knownOf, bytesAt, recordFrom, recordOf, framedFrom, framedOf, contentCheck, offsetsFrom, fencesGood, fileCheck, opening, openOf}
 use Rattle.frame.specs.Open.Laws.{Frames, frames-made}
 use Rattle.frame.specs.Layout.{Section, Layout, rawSection, headBytes, payload, bodyBytes, trailer, layOut}
-use Rattle.laid_out.specs.Rows.{rowsIn, Small, leAt-at, count-back, body-end, keys-back, edges-back, bits-back, length-body}
+use Rattle.laid_out.specs.Rows.{rowsIn, Small, small-is, leAt-at, count-back, body-end, keys-back, edges-back, bits-back, length-body}
 use Rattle.laid_out.specs.Laid.{length-laid, body-back, size-fine, tail-fine, sum-fine, file-rows, ranges-fine}
 use Rattle.batch.specs.declared.Edge.{Edge}
 use Rattle.batch.specs.Batch.{Heading, batchBytes}
@@ -41,7 +41,7 @@ use Rattle.back.specs.Rows.{width-fits, bit-is}
 use Rattle.back.specs.Contents.{keys-fine, tombs, Read, read-back}
 use Rattle.back.specs.Rules.{offsets-fine, dead-back, unused-back}
 use Rattle.back.specs.Fences.{fences-fine}
-use Rattle.back.specs.Sections.{AllRaw, raw-is, contentOf, hasKind, twiceKind, has-is, twice-is, names-fine, codecs-fine, all-fit, content-is, len-is, sums-fine, length-content}
+use Rattle.back.specs.Sections.{AllRaw, raw-is, contentOf, hasKind, twiceKind, has-is, twice-is, names-fine, codecs-fine, raw-numbers, content-is, len-is, sums-fine, length-content}
 
 -- ---- the sections, whichever are there
 
@@ -189,7 +189,7 @@ module _ (h : Heading) (es : List Edge) (q : Written h es) where
   size-is = length-laid x h64
 
   small : Small ss
-  small = let few = t .few in let size = size-is in let bound = q .size in (omega arith, all-fit ss 64 raw (omega arith))
+  small = let few = t .few in let size = size-is in let bound = q .size in small-is ss (omega arith) (raw-numbers ss raw) (omega arith)
 
   rows : rowsOf (bodyOf f) ≡ rowsIn 64 2 ss
   unfolding fileOf layoutOf layoutBy
@@ -356,6 +356,11 @@ module _ (h : Heading) (es : List Edge) (q : Written h es) where
     edgecount = edgecount-is j;
     bits = bits-is j;
   }
+
+  -- its keys
+  pub known-keys : (knownOf f (recordOf f) .keys ≡ keyBytes gs) × (knownOf f (recordOf f) .keycount ≡ n)
+  unfolding known
+  known-keys = (ap (λ (k : Known). k .keys) known-is, ap (λ (k : Known). k .keycount) known-is)
 
   partners-small : length ps < 2 ^ (8 * w)
   partners-small = width-fits (length ps) (few-bytes (t .partners-are))

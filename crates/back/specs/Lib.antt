@@ -4,4 +4,6 @@ pub mod Rules
 pub mod Fences
 pub mod Sections
 pub mod File
+pub mod Answers
 pub mod Demand2
+pub mod Cases

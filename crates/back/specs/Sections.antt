@@ -18,7 +18,7 @@ use Rattle.frame.specs.Frame.{rangeOf, has, twice, sectionOf, all, nameGood, co
 use Rattle.frame.specs.Open.{bytesAt}
 use Rattle.frame.specs.Layout.{Section, rawSection, payload}
 use Rattle.laid_out.specs.Sum.{xxh3-lt}
-use Rattle.laid_out.specs.Rows.{rowsIn, Fits, AllFit}
+use Rattle.laid_out.specs.Rows.{rowsIn, AllNumbers}
 use Rattle.laid_out.specs.Laid.{bytes-first}
 use Rattle.full_check.specs.Full.{sumsFrom}
 
@@ -85,13 +85,10 @@ codecs-fine (s ∷ ss) at i k r = fine-pick (Check.Bad (Refusal.Codec k)) (raw (
     raw true c z = eq-eqb c 0 z
     raw false c z = refl
 
-pub all-fit : (ss : List Section) (at : ℕ) → AllRaw ss → at + length (payload ss) < 2 ^ 64 → AllFit at ss
-unfolding AllFit AllRaw payload
-all-fit [] at r h = tt
-all-fit (s ∷ ss) at r h =
-    let l = length-append (s .bytes) (payload ss) in
-    let sum : s .sum < 2 ^ 64 = rw (r .0 .sum) (xxh3-lt (s .bytes)) in
-    (record { kind = r .0 .known; start = omega arith; len = omega arith; sum = sum }, all-fit ss (at + length (s .bytes)) (r .1) (omega arith))
+pub raw-numbers : (ss : List Section) → AllRaw ss → AllNumbers ss
+unfolding AllNumbers AllRaw
+raw-numbers [] r = tt
+raw-numbers (s ∷ ss) r = let sum : s .sum < 2 ^ 64 = rw (r .0 .sum) (xxh3-lt (s .bytes)) in (r .0 .known, sum, raw-numbers ss (r .1))
 
 -- ---- of the file f in which they lie after p
 

@@ -6,14 +6,20 @@ ghost use lib.ListN.{length};
 ghost use Rattle.base.specs.Put.{Put};
 ghost use Rattle.codes.specs.Varint.{varintAt, varBytes};
 
-pub enum Varint {
-    Value { value: u64, next: usize },
+// Why no number is read.
+pub enum Unread {
     // no byte is left
     Cut,
     // a last byte of 0 after others: not the shortest form
     Long,
     // 2^64 or more
     Large,
+}
+
+// A number and the place after it, or why there is none.
+pub enum Varint {
+    Value { value: u64, next: usize },
+    Bad { why: Unread },
 }
 
 // The number at `at`, and the place after it.
@@ -26,13 +32,13 @@ pub fn varint_at(s: &[u8], at: usize) -> Varint
     let mut k: usize = 0;
     while k < 10 {
         if s.len() <= i {
-            return Varint::Cut;
+            return Varint::Bad { why: Unread::Cut };
         }
         let b = s[i] as u64;
         if b < 128 {
             if b == 0 {
                 if 1 < m {
-                    return Varint::Long;
+                    return Varint::Bad { why: Unread::Long };
                 }
                 return Varint::Value {
                     value: x,
@@ -41,7 +47,7 @@ pub fn varint_at(s: &[u8], at: usize) -> Varint
             }
             if k == 9 {
                 if 1 < b {
-                    return Varint::Large;
+                    return Varint::Bad { why: Unread::Large };
                 }
                 return Varint::Value {
                     value: x + m,
@@ -54,14 +60,14 @@ pub fn varint_at(s: &[u8], at: usize) -> Varint
             };
         }
         if k == 9 {
-            return Varint::Large;
+            return Varint::Bad { why: Unread::Large };
         }
         x = x + b % 128 * m;
         m = m * 128;
         i = i + 1;
         k = k + 1;
     }
-    Varint::Large
+    Varint::Bad { why: Unread::Large }
 }
 
 // How many bytes the number takes.

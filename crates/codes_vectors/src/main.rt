@@ -16,6 +16,7 @@ use codes::little::le40;
 use codes::little::le48;
 use codes::little::le64;
 use codes::little::put_le;
+use codes::varint::Unread;
 use codes::varint::Varint;
 use codes::varint::put_varint;
 use codes::varint::varint_at;
@@ -42,6 +43,21 @@ fn hex_front(s: &[u8], n: usize) {
     }
 }
 
+// Why no number is read.
+fn unread(why: Unread) {
+    match why {
+        Unread::Cut => {
+            io::write_all(OUT, b"cut");
+        }
+        Unread::Long => {
+            io::write_all(OUT, b"long");
+        }
+        Unread::Large => {
+            io::write_all(OUT, b"large");
+        }
+    }
+}
+
 // The varint at the front of v.
 fn varint_line(v: &[u8]) {
     match varint_at(v, 0) {
@@ -51,15 +67,7 @@ fn varint_line(v: &[u8]) {
             io::write_all(OUT, b" next ");
             io::print_decimal(OUT, next as u64);
         }
-        Varint::Cut => {
-            io::write_all(OUT, b"cut");
-        }
-        Varint::Long => {
-            io::write_all(OUT, b"long");
-        }
-        Varint::Large => {
-            io::write_all(OUT, b"large");
-        }
+        Varint::Bad { why } => unread(why),
     }
     io::write_all(OUT, b"\n");
 }

@@ -25,9 +25,7 @@ groupAt p o w i = part p (offsetAt o w i) (offsetAt o w (i + 1))
 -- "an earlier degree unreadable or 0"
 unfoldable pub positive : Varint → Degree
 positive (Varint.Value v n) = pick (eqb v 0) Degree.Bad (Degree.Is v)
-positive Varint.Cut = Degree.Bad
-positive Varint.Long = Degree.Bad
-positive Varint.Large = Degree.Bad
+positive (Varint.Bad why) = Degree.Bad
 
 -- the degree of the group from a to e, by its first varint alone
 unfoldable pub degreeIn : List ℕ → ℕ → ℕ → Degree

@@ -37,9 +37,7 @@ pub fn degree_in(partners: &[u8], a: usize, e: usize) -> Degree
             }
             Degree::Is { degree: value }
         }
-        Varint::Cut => Degree::Bad,
-        Varint::Long => Degree::Bad,
-        Varint::Large => Degree::Bad,
+        Varint::Bad { why: _ } => Degree::Bad,
     }
 }
 

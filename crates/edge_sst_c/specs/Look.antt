@@ -1,6 +1,6 @@
 -- What the C lookups tell of the library's answers, and which record C lends.
 use mathlib.Core.Path.{_≡_, ap, _∙_}
-use Prim.Native.Nat.{ℕ, _≤_, _<_}
+use Prim.Native.Nat.{ℕ, _+_, _≤_, _<_}
 use mathlib.Core.Bool.{Bool, true, false}
 use mathlib.Core.List.{List}
 use lib.ListN.{getD}
@@ -8,41 +8,73 @@ use lib.Dec.{ltb}
 use borrow.Author.Tests.{lt-ltb, le-ltb}
 use Rattle.base.specs.Pick.{pick}
 use Rattle.refusal.specs.declared.Refusal.{Refusal}
-use Rattle.refusal.specs.Refusal.{numberOf, placeOf}
+use Rattle.refusal.specs.Refusal.{numberOf, placeOf, besideOf}
 use Rattle.frame.specs.declared.Opened.{Opened}
+use Rattle.frame.specs.declared.Range.{Range}
 use Rattle.lookup.specs.declared.Looked.{Looked}
 use Rattle.lookup.specs.Lookup.{Outcome, answerOf, partnersLeft, logsLeft, marksLeft}
 use Rattle.lookup.specs.Calls.{Alone, Whole}
 use Rattle.edge_sst_c.specs.declared.look.EdgeSstLooked.{EdgeSstLooked}
 
-abbrev pub refusedTold : ℕ → ℕ → EdgeSstLooked
-refusedTold n p = record { number = n; place = p; found = 0; degree = 0; index = 0; compared = 0 }
+abbrev pub refusedTold : ℕ → ℕ → ℕ → EdgeSstLooked
+refusedTold n p s = record { number = n; place = p; beside = s; found = 0; degree = 0; index = 0; compared = 0 }
 
 unfoldable pub lookedTold : Looked → EdgeSstLooked
-lookedTold (Looked.Found d i c) = record { number = 0; place = 0; found = 1; degree = d; index = i; compared = c }
-lookedTold (Looked.Absent c) = record { number = 0; place = 0; found = 0; degree = 0; index = 0; compared = c }
-lookedTold (Looked.Refused r) = refusedTold (numberOf r) (placeOf r)
+lookedTold (Looked.Found d i c) = record { number = 0; place = 0; beside = 0; found = 1; degree = d; index = i; compared = c }
+lookedTold (Looked.Absent c) = record { number = 0; place = 0; beside = 0; found = 0; degree = 0; index = 0; compared = c }
+lookedTold (Looked.Refused r) = refusedTold (numberOf r) (placeOf r) (besideOf r)
 
 -- offset bits above 255 are none
 unfoldable pub byteOr : ℕ → ℕ
 byteOr x = pick (ltb x 256) x 0
 
--- the record that C lends, an EdgeSstOpened seen as its numbers in order, with b for its offset bits
+-- the places of an EdgeSstOpened that is seen as its numbers in order: of each section's start, with its length after it, and of the rest
+abbrev keysPlace : ℕ
+keysPlace = 3
+
+abbrev offsetsPlace : ℕ
+offsetsPlace = 5
+
+abbrev partnersPlace : ℕ
+partnersPlace = 7
+
+abbrev logsPlace : ℕ
+logsPlace = 9
+
+abbrev deadPlace : ℕ
+deadPlace = 11
+
+abbrev markedPlace : ℕ
+markedPlace = 13
+
+abbrev keycountPlace : ℕ
+keycountPlace = 14
+
+abbrev edgecountPlace : ℕ
+edgecountPlace = 15
+
+abbrev bitsPlace : ℕ
+bitsPlace = 16
+
+abbrev rangeAt : List ℕ → ℕ → Range
+rangeAt c i = record { start = getD c i 0; len = getD c (i + 1) 0 }
+
+-- the record that C lends, with b for its offset bits
 abbrev pub recordWithBits : List ℕ → ℕ → Opened
 recordWithBits c b = record {
-  keys = record { start = getD c 2 0; len = getD c 3 0 };
-  offsets = record { start = getD c 4 0; len = getD c 5 0 };
-  partners = record { start = getD c 6 0; len = getD c 7 0 };
-  logs = record { start = getD c 8 0; len = getD c 9 0 };
-  marked = ltb 0 (getD c 12 0);
-  dead = record { start = getD c 10 0; len = getD c 11 0 };
-  keycount = getD c 13 0;
-  edgecount = getD c 14 0;
+  keys = rangeAt c keysPlace;
+  offsets = rangeAt c offsetsPlace;
+  partners = rangeAt c partnersPlace;
+  logs = rangeAt c logsPlace;
+  marked = ltb 0 (getD c markedPlace 0);
+  dead = rangeAt c deadPlace;
+  keycount = getD c keycountPlace 0;
+  edgecount = getD c edgecountPlace 0;
   bits = b;
 }
 
 abbrev pub recordFrom : List ℕ → Opened
-recordFrom c = recordWithBits c (byteOr (getD c 15 0))
+recordFrom c = recordWithBits c (byteOr (getD c bitsPlace 0))
 
 -- what a call of partners alone tells and leaves
 pub record PartnersTold (x : Outcome) (r : EdgeSstLooked) (o out : List ℕ) : Type 0 where
@@ -58,15 +90,15 @@ pub record EdgesTold (x : Outcome) (r : EdgeSstLooked) (o out l logs m marks : L
 
 -- ---- laws
 
-pub looked-found : (l : Looked) (d i c : ℕ) → l ≡ Looked.Found d i c → lookedTold l ≡ record { number = 0; place = 0; found = 1; degree = d; index = i; compared = c }
+pub looked-found : (l : Looked) (d i c : ℕ) → l ≡ Looked.Found d i c → lookedTold l ≡ record { number = 0; place = 0; beside = 0; found = 1; degree = d; index = i; compared = c }
 unfolding lookedTold
 looked-found l d i c e = rw e
 
-pub looked-absent : (l : Looked) (c : ℕ) → l ≡ Looked.Absent c → lookedTold l ≡ record { number = 0; place = 0; found = 0; degree = 0; index = 0; compared = c }
+pub looked-absent : (l : Looked) (c : ℕ) → l ≡ Looked.Absent c → lookedTold l ≡ record { number = 0; place = 0; beside = 0; found = 0; degree = 0; index = 0; compared = c }
 unfolding lookedTold
 looked-absent l c e = rw e
 
-pub looked-refused : (l : Looked) (r : Refusal) → l ≡ Looked.Refused r → lookedTold l ≡ refusedTold (numberOf r) (placeOf r)
+pub looked-refused : (l : Looked) (r : Refusal) → l ≡ Looked.Refused r → lookedTold l ≡ refusedTold (numberOf r) (placeOf r) (besideOf r)
 unfolding lookedTold
 looked-refused l r e = rw e
 

@@ -9,7 +9,7 @@ use lib.ListN.{length, set, length-append}
 use lib.Seq.{sets, length-sets}
 use Rattle.base.specs.Over.{over, sets-append, sets-over}
 use Rattle.refusal.specs.declared.Refusal.{Refusal}
-use Rattle.refusal.specs.Refusal.{numberOf, placeOf}
+use Rattle.refusal.specs.Refusal.{numberOf, placeOf, besideOf}
 use Rattle.frame.specs.declared.Row.{Row}
 use Rattle.listing.specs.declared.Listed.{Listed}
 use Rattle.listing.specs.declared.Plan.{Plan}
@@ -19,8 +19,8 @@ use Rattle.listing.specs.Table.{rowsTo}
 use Rattle.edge_sst_c.specs.declared.section_list.EdgeSstListed.{EdgeSstListed}
 
 unfoldable pub listedTold : Listed → EdgeSstListed
-listedTold (Listed.Done n) = record { number = 0; place = 0; rows = n }
-listedTold (Listed.Refused r) = record { number = numberOf r; place = placeOf r; rows = 0 }
+listedTold (Listed.Done n) = record { number = 0; place = 0; beside = 0; rows = n }
+listedTold (Listed.Refused r) = record { number = numberOf r; place = placeOf r; beside = besideOf r; rows = 0 }
 
 -- the seven numbers of a row, "kind, codec, name's place and length, offset, length, checksum"
 abbrev pub numbersOf : Row → List ℕ
@@ -33,14 +33,14 @@ numbered f (suc n) o = sets (numbered f n o) (7 * n) (numbersOf (rowIs f n))
 
 -- ---- laws
 
-pub listed-done : (x : Listed) (n : ℕ) → x ≡ Listed.Done n → record { number = 0; place = 0; rows = n } ≡ listedTold x
+pub listed-done : (x : Listed) (n : ℕ) → x ≡ Listed.Done n → record { number = 0; place = 0; beside = 0; rows = n } ≡ listedTold x
 unfolding listedTold
 listed-done x n e = sym (ap listedTold e)
 
-pub listed-refused : (x : Listed) (r : Refusal) {n p : ℕ} → x ≡ Listed.Refused r → n ≡ numberOf r → p ≡ placeOf r
-    → record { number = n; place = p; rows = 0 } ≡ listedTold x
+pub listed-refused : (x : Listed) (r : Refusal) {n p s : ℕ} → x ≡ Listed.Refused r → n ≡ numberOf r → p ≡ placeOf r → s ≡ besideOf r
+    → record { number = n; place = p; beside = s; rows = 0 } ≡ listedTold x
 unfolding listedTold
-listed-refused x r e a b = (λ i. record { number = a i; place = b i; rows = 0 }) ∙ sym (ap listedTold e)
+listed-refused x r e a b c = (λ i. record { number = a i; place = b i; beside = c i; rows = 0 }) ∙ sym (ap listedTold e)
 
 -- seven stores in a row
 pub seven : (o : List ℕ) (i a b c d e g h : ℕ)

@@ -3,7 +3,7 @@ use mathlib.Core.Path.{_≡_}
 use Prim.Native.Nat.{ℕ}
 use mathlib.Core.Bool.{Bool, true, false}
 use Rattle.refusal.specs.declared.Refusal.{Refusal}
-use Rattle.refusal.specs.Refusal.{numberOf, placeOf}
+use Rattle.refusal.specs.Refusal.{numberOf, placeOf, besideOf}
 use Rattle.frame.specs.declared.Opened.{Opened}
 use Rattle.frame.specs.declared.Opening.{Opening}
 use Rattle.edge_sst_c.specs.declared.EdgeSstOpened.{EdgeSstOpened}
@@ -17,6 +17,7 @@ abbrev pub recordWith : Opened → ℕ → EdgeSstOpened
 recordWith o m = record {
   number = 0;
   place = 0;
+  beside = 0;
   keystart = o .keys .start;
   keylen = o .keys .len;
   offsetstart = o .offsets .start;
@@ -33,11 +34,12 @@ recordWith o m = record {
   bits = o .bits;
 }
 
--- a number and a place, without a record
-abbrev pub refusalWith : ℕ → ℕ → EdgeSstOpened
-refusalWith number place = record {
+-- a number and its places, without a record
+abbrev pub refusalWith : ℕ → ℕ → ℕ → EdgeSstOpened
+refusalWith number place beside = record {
   number = number;
   place = place;
+  beside = beside;
   keystart = 0;
   keylen = 0;
   offsetstart = 0;
@@ -56,7 +58,7 @@ refusalWith number place = record {
 
 unfoldable pub openedTold : Opening → EdgeSstOpened
 openedTold (Opening.Good o) = recordWith o (truth (o .marked))
-openedTold (Opening.Refused r) = refusalWith (numberOf r) (placeOf r)
+openedTold (Opening.Refused r) = refusalWith (numberOf r) (placeOf r) (besideOf r)
 
 -- ---- laws
 
@@ -64,6 +66,6 @@ pub told-good : (x : Opening) (o : Opened) → x ≡ Opening.Good o → openedTo
 unfolding openedTold
 told-good x o e = rw e
 
-pub told-refused : (x : Opening) (r : Refusal) → x ≡ Opening.Refused r → openedTold x ≡ refusalWith (numberOf r) (placeOf r)
+pub told-refused : (x : Opening) (r : Refusal) → x ≡ Opening.Refused r → openedTold x ≡ refusalWith (numberOf r) (placeOf r) (besideOf r)
 unfolding openedTold
 told-refused x r e = rw e

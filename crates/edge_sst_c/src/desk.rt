@@ -15,6 +15,7 @@ use refusal::told_of;
 pub struct EdgeSstTold {
     pub number: u64,
     pub place: u64,
+    pub beside: u64,
 }
 
 // The same, and how many bytes were written; 0 where it is refused.
@@ -22,6 +23,7 @@ pub struct EdgeSstTold {
 pub struct EdgeSstDone {
     pub number: u64,
     pub place: u64,
+    pub beside: u64,
     pub bytes: u64,
 }
 
@@ -34,12 +36,14 @@ pub extern "C" fn edge_sst_check(file: &[u8]) -> EdgeSstTold
         Check::Fine => EdgeSstTold {
             number: 0,
             place: 0,
+            beside: 0,
         },
         Check::Bad { refusal } => {
             let t = told_of(refusal);
             EdgeSstTold {
                 number: t.number as u64,
                 place: t.place,
+                beside: t.beside,
             }
         }
     }
@@ -54,6 +58,7 @@ pub extern "C" fn edge_sst_read_out(file: &[u8], out: &mut [u8]) -> EdgeSstDone
         ReadOut::Done { bytes } => EdgeSstDone {
             number: 0,
             place: 0,
+            beside: 0,
             bytes,
         },
         ReadOut::Refused { refusal } => {
@@ -61,6 +66,7 @@ pub extern "C" fn edge_sst_read_out(file: &[u8], out: &mut [u8]) -> EdgeSstDone
             EdgeSstDone {
                 number: t.number as u64,
                 place: t.place,
+                beside: t.beside,
                 bytes: 0,
             }
         }

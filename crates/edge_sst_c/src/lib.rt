@@ -1,7 +1,7 @@
 // The calls for C. Each is thin over the library and gives numbers: 0 is no refusal. See include/edge_sst.h.
 ghost use mathlib.Core.Path.{_≡_};
 ghost use Rattle.frame.specs.Open.{openOf};
-ghost use Rattle.refusal.specs.Refusal.{numberOf, placeOf};
+ghost use Rattle.refusal.specs.Refusal.{numberOf, placeOf, besideOf};
 ghost use Rattle.edge_sst_c.specs.Told.{truth, recordWith, refusalWith, openedTold};
 
 pub mod desk;
@@ -20,6 +20,7 @@ use refusal::told_of;
 pub struct EdgeSstOpened {
     pub number: u64,
     pub place: u64,
+    pub beside: u64,
     pub keystart: u64,
     pub keylen: u64,
     pub offsetstart: u64,
@@ -34,6 +35,27 @@ pub struct EdgeSstOpened {
     pub keycount: u64,
     pub edgecount: u64,
     pub bits: u64,
+}
+
+impl EdgeSstOpened {
+    // Its places as a run of numbers: where the start of each section stands, with its length after it, and the rest.
+    pub const KEYS: usize = 3;
+
+    pub const OFFSETS: usize = 5;
+
+    pub const PARTNERS: usize = 7;
+
+    pub const LOGS: usize = 9;
+
+    pub const DEAD: usize = 11;
+
+    pub const MARKED: usize = 13;
+
+    pub const KEYCOUNT: usize = 14;
+
+    pub const EDGECOUNT: usize = 15;
+
+    pub const BITS: usize = 16;
 }
 
 fn truth(b: bool) -> u64
@@ -56,6 +78,7 @@ fn record_told(o: Opened) -> EdgeSstOpened
     EdgeSstOpened {
         number: 0,
         place: 0,
+        beside: 0,
         keystart: keys.start,
         keylen: keys.len,
         offsetstart: offsets.start,
@@ -74,12 +97,13 @@ fn record_told(o: Opened) -> EdgeSstOpened
 }
 
 fn refusal_told(r: Refusal) -> EdgeSstOpened
-    ensures { λ x. ⌜ x ≡ refusalWith (numberOf r) (placeOf r) ⌝ }
+    ensures { λ x. ⌜ x ≡ refusalWith (numberOf r) (placeOf r) (besideOf r) ⌝ }
 {
     let t = told_of(r);
     EdgeSstOpened {
         number: t.number as u64,
         place: t.place,
+        beside: t.beside,
         keystart: 0,
         keylen: 0,
         offsetstart: 0,

@@ -8,7 +8,8 @@ ghost use Rattle.codes.specs.Ids.{idAt};
 ghost use Rattle.lookup.specs.Lookup.{lookOf, lookWith};
 ghost use Rattle.lookup.specs.Calls.{alone, lent};
 ghost use Rattle.edge_sst_c.specs.Look.{lookedTold, refusedTold, byteOr, recordFrom, PartnersTold, EdgesTold};
-ghost use Rattle.refusal.specs.Refusal.{numberOf, placeOf};
+ghost use Rattle.refusal.specs.Refusal.{numberOf, placeOf, besideOf};
+use super::EdgeSstOpened;
 use frame::Opened;
 use frame::Range;
 use lookup::Looked;
@@ -24,6 +25,7 @@ use refusal::told_of;
 pub struct EdgeSstLooked {
     pub number: u64,
     pub place: u64,
+    pub beside: u64,
     pub found: u64,
     pub degree: u64,
     pub index: u64,
@@ -31,12 +33,13 @@ pub struct EdgeSstLooked {
 }
 
 fn refused_told(r: Refusal) -> EdgeSstLooked
-    ensures { λ x. ⌜ x ≡ refusedTold (numberOf r) (placeOf r) ⌝ }
+    ensures { λ x. ⌜ x ≡ refusedTold (numberOf r) (placeOf r) (besideOf r) ⌝ }
 {
     let t = told_of(r);
     EdgeSstLooked {
         number: t.number as u64,
         place: t.place,
+        beside: t.beside,
         found: 0,
         degree: 0,
         index: 0,
@@ -55,6 +58,7 @@ fn looked_told(l: Looked) -> EdgeSstLooked
         } => EdgeSstLooked {
             number: 0,
             place: 0,
+            beside: 0,
             found: 1,
             degree,
             index,
@@ -63,6 +67,7 @@ fn looked_told(l: Looked) -> EdgeSstLooked
         Looked::Absent { compared } => EdgeSstLooked {
             number: 0,
             place: 0,
+            beside: 0,
             found: 0,
             degree: 0,
             index: 0,
@@ -84,34 +89,34 @@ fn byte_or(x: u64) -> u8
 
 // The record that C lends, an EdgeSstOpened seen as its numbers in order; a mark other than 0 says that there are
 // tombstones.
-fn record_from(c: &[u64; 16]) -> Opened
+fn record_from(c: &[u64; 17]) -> Opened
     ensures { λ r. ⌜ r ≡ recordFrom (now (c .entry)) ⌝ }
 {
     Opened {
         keys: Range {
-            start: c[2],
-            len: c[3],
+            start: c[EdgeSstOpened::KEYS],
+            len: c[EdgeSstOpened::KEYS + 1],
         },
         offsets: Range {
-            start: c[4],
-            len: c[5],
+            start: c[EdgeSstOpened::OFFSETS],
+            len: c[EdgeSstOpened::OFFSETS + 1],
         },
         partners: Range {
-            start: c[6],
-            len: c[7],
+            start: c[EdgeSstOpened::PARTNERS],
+            len: c[EdgeSstOpened::PARTNERS + 1],
         },
         logs: Range {
-            start: c[8],
-            len: c[9],
+            start: c[EdgeSstOpened::LOGS],
+            len: c[EdgeSstOpened::LOGS + 1],
         },
-        marked: 0 < c[12],
+        marked: 0 < c[EdgeSstOpened::MARKED],
         dead: Range {
-            start: c[10],
-            len: c[11],
+            start: c[EdgeSstOpened::DEAD],
+            len: c[EdgeSstOpened::DEAD + 1],
         },
-        keycount: c[13],
-        edgecount: c[14],
-        bits: byte_or(c[15]),
+        keycount: c[EdgeSstOpened::KEYCOUNT],
+        edgecount: c[EdgeSstOpened::EDGECOUNT],
+        bits: byte_or(c[EdgeSstOpened::BITS]),
     }
 }
 
@@ -119,7 +124,7 @@ fn record_from(c: &[u64; 16]) -> Opened
 #[no_mangle]
 pub extern "C" fn edge_sst_partners_with(
     file: &[u8],
-    o: &[u64; 16],
+    o: &[u64; 17],
     key: &[u8; 16],
     out: &mut [u8],
 ) -> EdgeSstLooked
@@ -140,7 +145,7 @@ pub extern "C" fn edge_sst_partners(file: &[u8], key: &[u8; 16], out: &mut [u8])
 #[no_mangle]
 pub extern "C" fn edge_sst_lookup_with(
     file: &[u8],
-    o: &[u64; 16],
+    o: &[u64; 17],
     key: &[u8; 16],
     out: &mut [u8],
     logs: &mut [u64],

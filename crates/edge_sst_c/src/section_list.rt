@@ -16,6 +16,7 @@ use refusal::told_of;
 pub struct EdgeSstListed {
     pub number: u64,
     pub place: u64,
+    pub beside: u64,
     pub rows: u64,
 }
 
@@ -26,6 +27,7 @@ fn listed_told(l: Listed) -> EdgeSstListed
         Listed::Done { rows } => EdgeSstListed {
             number: 0,
             place: 0,
+            beside: 0,
             rows,
         },
         Listed::Refused { refusal } => {
@@ -33,6 +35,7 @@ fn listed_told(l: Listed) -> EdgeSstListed
             EdgeSstListed {
                 number: t.number as u64,
                 place: t.place,
+                beside: t.beside,
                 rows: 0,
             }
         }

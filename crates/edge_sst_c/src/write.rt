@@ -18,6 +18,7 @@ fn written_told(w: Written) -> EdgeSstDone
         Written::Done { bytes } => EdgeSstDone {
             number: 0,
             place: 0,
+            beside: 0,
             bytes,
         },
         Written::Refused { refusal } => {
@@ -25,6 +26,7 @@ fn written_told(w: Written) -> EdgeSstDone
             EdgeSstDone {
                 number: t.number as u64,
                 place: t.place,
+                beside: t.beside,
                 bytes: 0,
             }
         }

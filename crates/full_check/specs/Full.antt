@@ -14,7 +14,7 @@ use Rattle.frame.specs.Frame.{rangeOf, rowsOf, flag, flagsOf, bodyOf}
 use Rattle.frame.specs.declared.Opening.{Opening}
 use Rattle.frame.specs.Open.{Known, knownOf, recordOf, bytesAt, fileCheck, opening}
 use Rattle.degrees.specs.Degrees.{groupAt}
-use Rattle.group.specs.Group.{Partners, good, badTag, badVarint, badShape, groupOf, partnersOf}
+use Rattle.group.specs.Group.{Partners, good, bad, groupOf, partnersOf}
 use Rattle.lookup.specs.Lookup.{groupCheck, markAt}
 use Rattle.full_check.specs.declared.groups.Groups.{Groups}
 use Rattle.full_check.specs.declared.marks.Marks.{Marks}
@@ -33,11 +33,9 @@ sumsFrom f (r ∷ rs) k = pick (sumGood f r) (sumsFrom f rs (k + 1)) (Check.Bad 
 
 unfoldable pub denseOf : Partners → Bool
 denseOf (good dense ps) = dense
-denseOf badTag = false
-denseOf badVarint = false
-denseOf badShape = false
+denseOf (bad f) = false
 
--- ---- "all groups": 16, 17, 18 at the first group that has a fault. d groups from group i on; p the partners, o the
+-- ---- "all groups": the first group that has a fault, by that fault. d groups from group i on; p the partners, o the
 -- offsets, w bytes each
 
 module _ (p o : List ℕ) (w : ℕ) where

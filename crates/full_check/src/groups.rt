@@ -8,6 +8,7 @@ ghost use Rattle.full_check.specs.declared.groups.Groups.{Groups};
 ghost use Rattle.full_check.specs.Full.{groupsOf};
 use group::Group;
 use group::check_group;
+use group::fault::refusal_of;
 use index::offsets::offset_at;
 use refusal::Refusal;
 
@@ -50,14 +51,8 @@ pub fn groups_of(partners: &[u8], offs: &[u8], w: usize, n: usize) -> Groups
                 a = e;
                 i = i + 1;
             }
-            Group::BadTag => {
-                return refused(Refusal::Tag { group: i as u64 });
-            }
-            Group::BadVarint => {
-                return refused(Refusal::Varint { group: i as u64 });
-            }
-            Group::BadShape => {
-                return refused(Refusal::Group { group: i as u64 });
+            Group::Bad { fault } => {
+                return refused(refusal_of(i as u64, fault));
             }
         }
     }

@@ -3,6 +3,8 @@ use mathlib.Core.Path.{refl, sym, _∙_, ap}
 use mathlib.Core.List.{List}
 use Prim.Native.Nat.{ℕ}
 use Rattle.base.proofs.Determined.{Determined}
+use Rattle.group.proofs.fault.refusal_of as refusal-of
+use Rattle.group.proofs.fault.refusal_of.Reads as refusal-of-reads
 use Rattle.group.proofs.head.head_of as head-of
 use Rattle.group.proofs.head.head_of.Reads as head-of-reads
 use Rattle.group.proofs.split.split_step as split-step
@@ -19,6 +21,9 @@ use Rattle.group.proofs.check_group as check-group
 use Rattle.group.proofs.check_group.Reads as check-group-reads
 use Rattle.group.proofs.fill_group as fill-group
 use Rattle.group.proofs.fill_group.Reads as fill-group-reads
+
+pub refusal-of-determined : Determined refusal-of.ended refusal-of-reads.Pre refusal-of-reads.Post
+refusal-of-determined κs a pre r₁ r₂ w₁ w₂ p q = (p ∙ sym q, refl)
 
 pub head-of-determined : Determined head-of.ended head-of-reads.Pre head-of-reads.Post
 head-of-determined κs a pre r₁ r₂ w₁ w₂ p q = (p ∙ sym q, refl)

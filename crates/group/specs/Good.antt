@@ -17,10 +17,11 @@ use Rattle.codes.specs.Ids.{beAt, beBytes, numberOf, idBytes, halvesAt}
 use Rattle.codes.specs.Ids.Laws.{beAt-lt}
 use Rattle.codes.specs.Varint.{varintAt, varBytes}
 use Rattle.codes.specs.Varint.Laws.{varint-next, varint-bytes}
+use Rattle.group.specs.declared.fault.Fault.{Fault}
 use Rattle.group.specs.declared.head.Head.{Head}
 use Rattle.group.specs.declared.split.Step.{Step}
-use Rattle.group.specs.Group.{Partners, good, badTag, badVarint, badShape, splitStep, stepAt, walkFrom, degreeOf, headOf, groupOf, isGood, partnersOf, bytesOf}
-use Rattle.group.specs.Group.Laws.{SplitRead, split-read, split-varint, dense-read, step-split, step-dense, step-next, headIs, tagOf, Headed, headed, group-walk, group-tag, group-varint, group-shape, good-turn, good-end, good-is, length-bytesOf}
+use Rattle.group.specs.Group.{Partners, good, bad, splitStep, stepAt, walkFrom, degreeOf, headOf, groupOf, isGood, partnersOf, bytesOf}
+use Rattle.group.specs.Group.Laws.{SplitRead, split-read, split-varint, dense-read, step-split, step-dense, step-next, headIs, tagOf, Headed, headed, group-walk, group-bad, good-turn, good-end, good-is, length-bytesOf}
 use Rattle.group.specs.Written.{Halves, Above, Rising, stepBytes, payloadOf, payload-none, payload-cons, writtenAs, written-is}
 
 abbrev pub Bytes : List ℕ → Type 0
@@ -161,9 +162,6 @@ pub record Grouped (g : List ℕ) (dense : Bool) (ps : List Id) : Type 0 where
 pub grouped : (g : List ℕ) (dense : Bool) (ps : List Id) → groupOf g ≡ good dense ps → Grouped g dense ps
 grouped g dense ps e = go (headOf g) refl
   where
-    bad : (w : Partners) → groupOf g ≡ w → w ≡ good dense ps
-    bad w q = sym q ∙ e
-
     walk : (c : Bool) (d i : ℕ) → headOf g ≡ headIs c d i → Grouped g dense ps
     walk c d i q =
         let w = walked c d g i 0 0 dense ps (sym (group-walk g c d i q) ∙ e) in
@@ -176,9 +174,9 @@ grouped g dense ps e = go (headOf g) refl
     go : (h : Head) → headOf g ≡ h → Grouped g dense ps
     go (Head.Split d i) q = walk false d i q
     go (Head.Dense d i) q = walk true d i q
-    go Head.BadTag q = let r = bad badTag (group-tag g q) in let z : _≡_ {A = ℕ} 0 1 = cc in absurd (omega arith)
-    go Head.BadVarint q = let r = bad badVarint (group-varint g q) in let z : _≡_ {A = ℕ} 0 1 = cc in absurd (omega arith)
-    go Head.BadShape q = let r = bad badShape (group-shape g q) in let z : _≡_ {A = ℕ} 0 1 = cc in absurd (omega arith)
+    go (Head.Bad f) q =
+        let r : bad f ≡ good dense ps = sym (group-bad g f q) ∙ e in
+        let z : _≡_ {A = ℕ} 0 1 = cc in absurd (omega arith)
 
 module _ (g : List ℕ) (dense : Bool) (ps : List Id) (e : groupOf g ≡ good dense ps) where
   -- the degree that is read is the number of partners, and at least 1

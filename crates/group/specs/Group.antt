@@ -8,10 +8,11 @@ use lib.Dec.{ltb, leb, eqb}
 use Rattle.base.specs.Pick.{pick}
 use Rattle.codes.specs.declared.ids.Id.{Id}
 use Rattle.codes.specs.declared.varint.Varint.{Varint}
-use Rattle.codes.specs.declared.varint.Varint.the-variants.{Value, Cut, Long, Large}
+use Rattle.codes.specs.declared.varint.Unread.{Unread}
 use Rattle.codes.specs.Little.{leAt}
 use Rattle.codes.specs.Ids.{halvesAt, numberOf, idBytes}
 use Rattle.codes.specs.Varint.{varintAt}
+use Rattle.group.specs.declared.fault.Fault.{Fault}
 use Rattle.group.specs.declared.head.Head.{Head}
 use Rattle.group.specs.declared.split.Step.{Step}
 use Rattle.group.specs.declared.Group.{Group}
@@ -20,19 +21,12 @@ pub mod Laws
 -- what a group holds: whether it is dense, and its partners; or its first fault
 pub data Partners : Type 0 where
   good : Bool → List Id → Partners
-  -- 16: unknown tag
-  badTag : Partners
-  -- 17: varint cut by the group's end (no byte left too), too long or too large
-  badVarint : Partners
-  -- 18: degree 0, order, upper half too large, group cut or overlong
-  badShape : Partners
+  bad : Fault → Partners
 
--- a varint's number and the place after it, or what stands for any of its faults
-unfoldable pub onVarint {ℓ} : {X : Type ℓ} → Varint → X → (ℕ → ℕ → X) → X
-onVarint (Value v n) bad go = go v n
-onVarint Cut bad go = bad
-onVarint Long bad go = bad
-onVarint Large bad go = bad
+-- what is made of a varint's number and the place after it, or of why there is none
+unfoldable pub onVarint {ℓ} : {X : Type ℓ} → Varint → (Unread → X) → (ℕ → ℕ → X) → X
+onVarint (Varint.Value v n) unread go = go v n
+onVarint (Varint.Bad why) unread go = unread why
 
 -- ---- one partner, at i
 
@@ -40,15 +34,15 @@ onVarint Large bad go = bad
 -- "An upper half never passes 2^64 − 1"
 unfoldable pub splitStep : List ℕ → ℕ → ℕ → Step
 splitStep g i hi =
-    onVarint (varintAt g i) Step.BadVarint
+    onVarint (varintAt g i) (λ why. Step.Bad (Fault.Number why))
     (λ v n.
     pick (ltb (hi + v) (2 ^ 64))
-    (pick (leb (n + 8) (length g)) (Step.Partner (record { hi = hi + v; lo = leAt g n 8 }) (n + 8)) Step.BadShape)
-    Step.BadShape)
+    (pick (leb (n + 8) (length g)) (Step.Partner (record { hi = hi + v; lo = leAt g n 8 }) (n + 8)) (Step.Bad Fault.Shape))
+    (Step.Bad Fault.Shape))
 
 -- "16 bytes for each partner"
 unfoldable pub denseStep : List ℕ → ℕ → Step
-denseStep g i = pick (leb (i + 16) (length g)) (Step.Partner (halvesAt g i) (i + 16)) Step.BadShape
+denseStep g i = pick (leb (i + 16) (length g)) (Step.Partner (halvesAt g i) (i + 16)) (Step.Bad Fault.Shape)
 
 unfoldable pub stepAt : Bool → List ℕ → ℕ → ℕ → Step
 stepAt dense g i hi = pick dense (denseStep g i) (splitStep g i hi)
@@ -57,22 +51,19 @@ stepAt dense g i hi = pick dense (denseStep g i) (splitStep g i hi)
 
 unfoldable pub onStep : Step → (Id → ℕ → Partners) → Partners
 onStep (Step.Partner p n) go = go p n
-onStep Step.BadVarint go = badVarint
-onStep Step.BadShape go = badShape
+onStep (Step.Bad f) go = bad f
 
 unfoldable pub cons : Id → Partners → Partners
 cons p (good dense ps) = good dense (p ∷ ps)
-cons p badTag = badTag
-cons p badVarint = badVarint
-cons p badShape = badShape
+cons p (bad f) = bad f
 
 -- d partners from i on, which end the group: "Partners strictly increase", so the floor is the least number that the next
 -- may be, 0 for the first
 unfoldable pub walkFrom : Bool → ℕ → List ℕ → ℕ → ℕ → ℕ → Partners
-walkFrom dense zero g i hi floor = pick (eqb i (length g)) (good dense []) badShape
+walkFrom dense zero g i hi floor = pick (eqb i (length g)) (good dense []) (bad Fault.Shape)
 walkFrom dense (suc d) g i hi floor =
     onStep (stepAt dense g i hi)
-    (λ p n. pick (leb floor (numberOf p)) (cons p (walkFrom dense d g n (p .hi) (suc (numberOf p)))) badShape)
+    (λ p n. pick (leb floor (numberOf p)) (cons p (walkFrom dense d g n (p .hi) (suc (numberOf p)))) (bad Fault.Shape))
 
 -- the floor of partner k after the last one
 unfoldable pub floorOf : ℕ → Id → ℕ
@@ -88,18 +79,17 @@ degreeOf g = varintAt g 0
 -- 0x01 is split, tag 0x10 dense
 unfoldable pub headOf : List ℕ → Head
 headOf g =
-    onVarint (degreeOf g) Head.BadVarint
+    onVarint (degreeOf g) (λ why. Head.Bad (Fault.Number why))
     (λ d n.
-    pick (eqb d 0) Head.BadShape
-    (pick (leb (length g) n) Head.BadShape
-    (pick (eqb (getD g n 0) 0x01) (Head.Split d (n + 1)) (pick (eqb (getD g n 0) 0x10) (Head.Dense d (n + 1)) Head.BadTag))))
+    pick (eqb d 0) (Head.Bad Fault.Shape)
+    (pick (leb (length g) n) (Head.Bad Fault.Shape)
+    (pick (eqb (getD g n 0) 0x01) (Head.Split d (n + 1))
+    (pick (eqb (getD g n 0) 0x10) (Head.Dense d (n + 1)) (Head.Bad Fault.Tag)))))
 
 unfoldable pub onHead : Head → (Bool → ℕ → ℕ → Partners) → Partners
 onHead (Head.Split d i) go = go false d i
 onHead (Head.Dense d i) go = go true d i
-onHead Head.BadTag go = badTag
-onHead Head.BadVarint go = badVarint
-onHead Head.BadShape go = badShape
+onHead (Head.Bad f) go = bad f
 
 unfoldable pub groupOf : List ℕ → Partners
 groupOf g = onHead (headOf g) (λ dense d i. walkFrom dense d g i 0 0)
@@ -108,16 +98,12 @@ groupOf g = onHead (headOf g) (λ dense d i. walkFrom dense d g i 0 0)
 
 unfoldable pub isGood : Partners → Bool
 isGood (good dense ps) = true
-isGood badTag = false
-isGood badVarint = false
-isGood badShape = false
+isGood (bad f) = false
 
 -- the partners, none where there is a fault
 unfoldable pub partnersOf : Partners → List Id
 partnersOf (good dense ps) = ps
-partnersOf badTag = []
-partnersOf badVarint = []
-partnersOf badShape = []
+partnersOf (bad f) = []
 
 -- 16 bytes each
 unfoldable pub bytesOf : List Id → List ℕ
@@ -127,6 +113,4 @@ bytesOf (p ∷ ps) = idBytes p ++ bytesOf ps
 -- what a check answers: the degree is the number of partners
 unfoldable pub answerOf : Partners → Group
 answerOf (good dense ps) = Group.Good (length ps) dense
-answerOf badTag = Group.BadTag
-answerOf badVarint = Group.BadVarint
-answerOf badShape = Group.BadShape
+answerOf (bad f) = Group.Bad f

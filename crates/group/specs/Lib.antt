@@ -1,3 +1,4 @@
+pub mod Fault
 pub mod Group
 pub mod Written
 pub mod Good

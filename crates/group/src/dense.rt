@@ -7,6 +7,7 @@ ghost use Rattle.base.specs.Over.{over};
 ghost use Rattle.group.specs.Group.{walkFrom, answerOf};
 use super::Group;
 use super::above;
+use super::fault::Fault;
 use codes::ids::id_at;
 
 // Checks the partners from `at` on. Every fault of a dense payload is a bad shape, so its length can be held against the
@@ -17,18 +18,24 @@ pub fn check_dense(g: &[u8], at: usize, degree: u64) -> Group
 {
     let rest = g.len() - at;
     if rest % 16 != 0 {
-        return Group::BadShape;
+        return Group::Bad {
+            fault: Fault::Shape,
+        };
     }
     let count = (rest / 16) as u64;
     if count != degree {
-        return Group::BadShape;
+        return Group::Bad {
+            fault: Fault::Shape,
+        };
     }
     let mut last = id_at(g, at);
     let mut i = at + 16;
     while i < g.len() {
         let id = id_at(g, i);
         if !above(last, id) {
-            return Group::BadShape;
+            return Group::Bad {
+                fault: Fault::Shape,
+            };
         }
         last = id;
         i = i + 16;

@@ -1,6 +1,7 @@
 // What stands before the partners: the degree as a varint, and the tag.
 ghost use mathlib.Core.Path.{_≡_};
 ghost use Rattle.group.specs.Group.{headOf};
+use super::fault::Fault;
 use codes::varint::Varint;
 use codes::varint::varint_at;
 
@@ -8,9 +9,7 @@ use codes::varint::varint_at;
 pub enum Head {
     Split { degree: u64, at: usize },
     Dense { degree: u64, at: usize },
-    BadTag,
-    BadVarint,
-    BadShape,
+    Bad { fault: Fault },
 }
 
 // Degree 0 is told before the tag is looked at.
@@ -20,10 +19,14 @@ pub fn head_of(g: &[u8]) -> Head
     match varint_at(g, 0) {
         Varint::Value { value, next } => {
             if value == 0 {
-                return Head::BadShape;
+                return Head::Bad {
+                    fault: Fault::Shape,
+                };
             }
             if g.len() <= next {
-                return Head::BadShape;
+                return Head::Bad {
+                    fault: Fault::Shape,
+                };
             }
             let tag = g[next];
             if tag == 0x01 {
@@ -38,10 +41,10 @@ pub fn head_of(g: &[u8]) -> Head
                     at: next + 1,
                 };
             }
-            Head::BadTag
+            Head::Bad { fault: Fault::Tag }
         }
-        Varint::Cut => Head::BadVarint,
-        Varint::Long => Head::BadVarint,
-        Varint::Large => Head::BadVarint,
+        Varint::Bad { why } => Head::Bad {
+            fault: Fault::Number { why },
+        },
     }
 }

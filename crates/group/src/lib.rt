@@ -10,12 +10,14 @@ ghost use Rattle.codes.specs.Ids.{numberOf};
 ghost use Rattle.group.specs.Group.{groupOf, answerOf, isGood, partnersOf, bytesOf};
 
 pub mod dense;
+pub mod fault;
 pub mod head;
 pub mod split;
 
 use codes::ids::Id;
 use dense::check_dense;
 use dense::fill_dense;
+use fault::Fault;
 use head::Head;
 use head::head_of;
 use split::check_split;
@@ -24,12 +26,7 @@ use split::fill_split;
 // A group's partners are good, or its first fault in reading order.
 pub enum Group {
     Good { degree: u64, dense: bool },
-    // the tag is unknown
-    BadTag,
-    // a varint is cut, too long or too large
-    BadVarint,
-    // degree 0, order, an upper half too large, the group cut or overlong
-    BadShape,
+    Bad { fault: Fault },
 }
 
 // Is a partner above the last one?
@@ -52,9 +49,7 @@ pub fn check_group(g: &[u8]) -> Group
     match head_of(g) {
         Head::Split { degree, at } => check_split(g, at, degree),
         Head::Dense { degree, at } => check_dense(g, at, degree),
-        Head::BadTag => Group::BadTag,
-        Head::BadVarint => Group::BadVarint,
-        Head::BadShape => Group::BadShape,
+        Head::Bad { fault } => Group::Bad { fault },
     }
 }
 
@@ -70,13 +65,7 @@ pub fn fill_group(g: &[u8], out: &mut [u8])
         Head::Dense { degree: _, at } => {
             fill_dense(g, at, out);
         }
-        Head::BadTag => {
-            return;
-        }
-        Head::BadVarint => {
-            return;
-        }
-        Head::BadShape => {
+        Head::Bad { fault: _ } => {
             return;
         }
     }

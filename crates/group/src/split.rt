@@ -11,17 +11,18 @@ ghost use Rattle.codes.specs.Varint.{varintAt};
 ghost use Rattle.group.specs.Group.{splitStep, floorOf, walkFrom, answerOf, isGood, partnersOf, bytesOf};
 use super::Group;
 use super::above;
+use super::fault::Fault;
 use codes::ids::Id;
 use codes::ids::put_be;
 use codes::little::le64;
+use codes::varint::Unread;
 use codes::varint::Varint;
 use codes::varint::varint_at;
 
-// A partner and the place after it.
+// A partner and the place after it, or what is wrong there.
 pub enum Step {
     Partner { id: Id, next: usize },
-    BadVarint,
-    BadShape,
+    Bad { fault: Fault },
 }
 
 // The varint at i. Most differences are of one byte: these are read here, without a call.
@@ -29,7 +30,7 @@ fn difference(g: &[u8], i: usize) -> Varint
     ensures { λ r. ⌜ r ≡ varintAt (now (g .entry)) i ⌝ }
 {
     if g.len() <= i {
-        return Varint::Cut;
+        return Varint::Bad { why: Unread::Cut };
     }
     let b = g[i] as u64;
     if b < 128 {
@@ -48,10 +49,14 @@ pub fn split_step(g: &[u8], i: usize, hi: u64) -> Step
     match difference(g, i) {
         Varint::Value { value, next } => {
             if 18446744073709551615 - hi < value {
-                return Step::BadShape;
+                return Step::Bad {
+                    fault: Fault::Shape,
+                };
             }
             if g.len() - next < 8 {
-                return Step::BadShape;
+                return Step::Bad {
+                    fault: Fault::Shape,
+                };
             }
             let lo = le64(g, next);
             Step::Partner {
@@ -59,9 +64,9 @@ pub fn split_step(g: &[u8], i: usize, hi: u64) -> Step
                 next: next + 8,
             }
         }
-        Varint::Cut => Step::BadVarint,
-        Varint::Long => Step::BadVarint,
-        Varint::Large => Step::BadVarint,
+        Varint::Bad { why } => Step::Bad {
+            fault: Fault::Number { why },
+        },
     }
 }
 
@@ -86,17 +91,16 @@ pub fn check_split(g: &[u8], at: usize, degree: u64) -> Group
         match split_step(g, i, last.hi) {
             Step::Partner { id, next } => {
                 if !in_order(k, last, id) {
-                    return Group::BadShape;
+                    return Group::Bad {
+                        fault: Fault::Shape,
+                    };
                 }
                 last = id;
                 i = next;
                 k = k + 1;
             }
-            Step::BadVarint => {
-                return Group::BadVarint;
-            }
-            Step::BadShape => {
-                return Group::BadShape;
+            Step::Bad { fault } => {
+                return Group::Bad { fault };
             }
         }
     }
@@ -106,7 +110,9 @@ pub fn check_split(g: &[u8], at: usize, degree: u64) -> Group
             dense: false,
         };
     }
-    Group::BadShape
+    Group::Bad {
+        fault: Fault::Shape,
+    }
 }
 
 // Writes the partners from `at` on, which were checked. The upper half is written before the lower half is read: so
@@ -130,13 +136,7 @@ pub fn fill_split(g: &[u8], at: usize, degree: u64, out: &mut [u8])
                 to = to + 16;
                 k = k + 1;
             }
-            Varint::Cut => {
-                return;
-            }
-            Varint::Long => {
-                return;
-            }
-            Varint::Large => {
+            Varint::Bad { why: _ } => {
                 return;
             }
         }

@@ -154,6 +154,22 @@ ranges-back (s ∷ ss) at i k limit h =
 abbrev pub Small : List Section → Type 0
 Small ss = (length ss ≤ 64) × AllFit 64 ss
 
+-- kinds of 16 bits and checksums of 64
+unfoldable pub AllNumbers : List Section → Type 0
+AllNumbers [] = Unit {0}
+AllNumbers (s ∷ ss) = (s .kind < 2 ^ 16) × (s .sum < 2 ^ 64) × AllNumbers ss
+
+fit-from : (ss : List Section) (at : ℕ) → AllNumbers ss → at + length (payload ss) < 2 ^ 64 → AllFit at ss
+unfolding AllFit AllNumbers payload
+fit-from [] at n h = tt
+fit-from (s ∷ ss) at n h =
+    let l = length-append (s .bytes) (payload ss) in
+    (record { kind = n .0; start = omega arith; len = omega arith; sum = n .1 }, fit-from ss (at + length (s .bytes)) (n .2) (omega arith))
+
+-- up to 64 sections of such numbers are small, however long they are
+pub small-is : (ss : List Section) → length ss ≤ 64 → AllNumbers ss → 64 + length (payload ss) < 2 ^ 64 → Small ss
+small-is ss few n h = (omega arith, fit-from ss 64 n h)
+
 module _ (ss : List Section) (n e bits : ℕ) (h : Small ss) where
   abbrev b : List ℕ
   b = bodyBytes ss n e bits

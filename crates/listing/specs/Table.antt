@@ -3,10 +3,11 @@
 use mathlib.Core.Path.{_≡_, refl, sym, ap, _∙_}
 use Prim.Native.Nat.{ℕ, zero, suc, _+_, _-_, _≤_, _<_}
 use native.Mathlib.Nat.{zero-add}
+use native.Mathlib.Decide.{decLe}
 use native.Mathlib.Omega.{arith}
 use mathlib.Core.List.{List, [], _∷_, _++_, map, map-append}
-use lib.ListN.{length, set, drop, getD, length-append}
-use lib.Seq.{sets}
+use lib.ListN.{length, set, drop, getD, length-append, List·getD-append}
+use lib.Seq.{sets, getD-at}
 use Rattle.base.specs.Over.{sets-append, sets-over}
 use Rattle.frame.specs.declared.Row.{Row}
 use Rattle.frame.specs.declared.Opened.{Opened}
@@ -28,6 +29,19 @@ pub length-rows-to : (f : List ℕ) (n : ℕ) → length (rowsTo f n) ≡ n
 unfolding rowsTo
 length-rows-to f zero = refl
 length-rows-to f (suc n) = simp length-append (let e = length-rows-to f n in omega arith)
+
+-- row i of them
+pub rows-to-at : (f : List ℕ) (n i : ℕ) (d : Row) → i < n → getD (rowsTo f n) i d ≡ rowIs f i
+unfolding rowsTo
+rows-to-at f zero i d h = absurd (omega arith)
+rows-to-at f (suc n) i d h =
+    let l = length-rows-to f n in
+    elim (decLe n i) [
+      | yes g ↦
+          let e : i ≡ n = omega arith in
+          rw e (getD-at (rowsTo f n) (rowIs f n) [] d n l)
+      | no g ↦ List·getD-append (rowsTo f n) (rowIs f n ∷ []) d i (omega arith) ∙ rows-to-at f n i d (omega arith)
+    ]
 
 listed-sets : (f : List ℕ) (n : ℕ) (ys : List Row) → listed f n ys ≡ sets ys 0 (rowsTo f n)
 unfolding listed rowsTo

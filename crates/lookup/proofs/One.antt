@@ -13,6 +13,8 @@ use Rattle.lookup.proofs.groups.group_of as group-of
 use Rattle.lookup.proofs.groups.group_of.Reads as group-of-reads
 use Rattle.lookup.proofs.known.fill_logs as fill-logs
 use Rattle.lookup.proofs.known.fill_logs.Reads as fill-logs-reads
+use Rattle.lookup.proofs.known.mark_at as mark-at
+use Rattle.lookup.proofs.known.mark_at.Reads as mark-at-reads
 use Rattle.lookup.proofs.known.fill_marks as fill-marks
 use Rattle.lookup.proofs.known.fill_marks.Reads as fill-marks-reads
 use Rattle.lookup.proofs.groups.give_partners as give-partners
@@ -36,6 +38,9 @@ group-of-determined κs a pre r₁ r₂ w₁ w₂ p q = (p ∙ sym q, refl)
 
 pub fill-logs-determined : Determined fill-logs.ended fill-logs-reads.Pre fill-logs-reads.Post
 fill-logs-determined κs a pre r₁ r₂ w₁ w₂ p q = (refl, ap (λ (l : List ℕ). (tt {0}, (tt {0}, (tt {0}, (l, tt {0}))))) (p ∙ sym q))
+
+pub mark-at-determined : Determined mark-at.ended mark-at-reads.Pre mark-at-reads.Post
+mark-at-determined κs a pre r₁ r₂ w₁ w₂ p q = (p ∙ sym q, refl)
 
 pub fill-marks-determined : Determined fill-marks.ended fill-marks-reads.Pre fill-marks-reads.Post
 fill-marks-determined κs a pre r₁ r₂ w₁ w₂ p q = (refl, ap (λ (l : List ℕ). (tt {0}, (tt {0}, (tt {0}, (l, tt {0}))))) (p ∙ sym q))

@@ -13,8 +13,10 @@ use Rattle.refusal.specs.declared.Check.{Check}
 use Rattle.refusal.specs.Check.{_⊳_, refuse}
 use Rattle.refusal.specs.Check.Laws.{fine-parts, either-parts}
 use Rattle.degrees.specs.Degrees.{misplaced}
-use Rattle.group.specs.declared.Group.{Group}
-use Rattle.group.specs.Group.{Partners, good, badTag, badVarint, badShape, groupOf, isGood, partnersOf, answerOf}
+use Rattle.codes.specs.declared.ids.Id.{Id}
+use Rattle.group.specs.declared.fault.Fault.{Fault}
+use Rattle.group.specs.Fault.{refusalOf}
+use Rattle.group.specs.Group.{Partners, good, bad, groupOf, isGood, partnersOf}
 use Rattle.lookup.specs.declared.groups.GroupSeen.{GroupSeen}
 use Rattle.lookup.specs.Lookup.{groupCheck, groupFault}
 
@@ -35,20 +37,6 @@ pub record Fills (p : List ℕ) (a e n : ℕ) : Type 0 where
 
 -- ---- laws
 
--- as the group's answer tells it
-unfoldable pub toldOf : ℕ → Group → GroupSeen
-toldOf i (Group.Good d dense) = GroupSeen.Good d
-toldOf i Group.BadTag = GroupSeen.Refused (Refusal.Tag i)
-toldOf i Group.BadVarint = GroupSeen.Refused (Refusal.Varint i)
-toldOf i Group.BadShape = GroupSeen.Refused (Refusal.Group i)
-
-told-says : (i : ℕ) (w : Partners) → seen (groupCheck i w) (length (partnersOf w)) ≡ toldOf i (answerOf w)
-unfolding seen groupCheck partnersOf answerOf toldOf
-told-says i (good dense ps) = refl
-told-says i badTag = refl
-told-says i badVarint = refl
-told-says i badShape = refl
-
 seen-fine : (c : Check) (m d : ℕ) → seen c m ≡ GroupSeen.Good d → (c ≡ Check.Fine) × (m ≡ d)
 unfolding seen
 seen-fine Check.Fine m d e = (refl, cc)
@@ -59,12 +47,18 @@ unfolding seen
 seen-bad Check.Fine m r e = let z : _≡_ {A = ℕ} 0 1 = cc in absurd (omega arith)
 seen-bad (Check.Bad q) m r e = cc
 
+pub check-fine : (i : ℕ) (dense : Bool) (ps : List Id) → groupCheck i (good dense ps) ≡ Check.Fine
+unfolding groupCheck
+check-fine i dense ps = refl
+
+pub check-bad : (i : ℕ) (f : Fault) → groupCheck i (bad f) ≡ Check.Bad (refusalOf i f)
+unfolding groupCheck
+check-bad i f = refl
+
 pub check-good : (i : ℕ) (w : Partners) → groupCheck i w ≡ Check.Fine → isGood w ≡ true
 unfolding groupCheck isGood
 check-good i (good dense ps) e = refl
-check-good i badTag e = let z : _≡_ {A = ℕ} 0 1 = cc in absurd (omega arith)
-check-good i badVarint e = let z : _≡_ {A = ℕ} 0 1 = cc in absurd (omega arith)
-check-good i badShape e = let z : _≡_ {A = ℕ} 0 1 = cc in absurd (omega arith)
+check-good i (bad f) e = let z : _≡_ {A = ℕ} 0 1 = cc in absurd (omega arith)
 
 module _ (p : List ℕ) (a e i : ℕ) where
   pub seen-falls : e < a → groupSeen p a e i ≡ GroupSeen.Refused (Refusal.Offset i)
@@ -81,9 +75,14 @@ module _ (p : List ℕ) (a e i : ℕ) where
       unfolding groupSeen groupFault
       reads = simp (le-ltb e a h, le-ltb (length p) e g)
 
-      -- from the group's own answer
-      pub seen-told : (x : Group) → answerOf (groupOf (part p a e)) ≡ x → groupSeen p a e i ≡ toldOf i x
-      seen-told x q = reads ∙ told-says i (groupOf (part p a e)) ∙ ap (toldOf i) q
+      -- by what the group holds
+      pub good-seen : (dense : Bool) (ps : List Id) → groupOf (part p a e) ≡ good dense ps → groupSeen p a e i ≡ GroupSeen.Good (length ps)
+      unfolding seen groupCheck partnersOf
+      good-seen dense ps q = reads ∙ rw q
+
+      pub bad-seen : (f : Fault) → groupOf (part p a e) ≡ bad f → groupSeen p a e i ≡ GroupSeen.Refused (refusalOf i f)
+      unfolding seen groupCheck
+      bad-seen f q = reads ∙ rw q
 
 -- what a group that was seen good gives
 module _ (p : List ℕ) (a e i d : ℕ) (q : groupSeen p a e i ≡ GroupSeen.Good d) where

@@ -19,7 +19,8 @@ use Rattle.index.specs.declared.keys.Found.{Found}
 use Rattle.index.specs.Find.{findIn}
 use Rattle.degrees.specs.declared.Sum.{Sum}
 use Rattle.degrees.specs.Degrees.{misplaced, edgesBefore}
-use Rattle.group.specs.Group.{Partners, good, badTag, badVarint, badShape, groupOf, partnersOf, bytesOf}
+use Rattle.group.specs.Fault.{refusalOf}
+use Rattle.group.specs.Group.{Partners, good, bad, groupOf, partnersOf, bytesOf}
 use Rattle.lookup.specs.declared.Looked.{Looked}
 pub mod Laws
 
@@ -42,12 +43,10 @@ pub record Rooms : Type 0 where
 
 -- ---- the group asked for: i, from a to e of the partners p
 
--- 16, 17, 18 at the group
+-- its faults, each by its own number, at the group
 unfoldable pub groupCheck : ℕ → Partners → Check
 groupCheck i (good dense ps) = Check.Fine
-groupCheck i badTag = Check.Bad (Refusal.Tag i)
-groupCheck i badVarint = Check.Bad (Refusal.Varint i)
-groupCheck i badShape = Check.Bad (Refusal.Group i)
+groupCheck i (bad f) = Check.Bad (refusalOf i f)
 
 -- "14 at the group comes right after the search if its two offsets fall or pass the partner range", then the group's faults
 unfoldable pub groupFault : List ℕ → ℕ → ℕ → ℕ → Check

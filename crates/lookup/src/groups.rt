@@ -13,6 +13,7 @@ use frame::Opened;
 use frame::bytes_of;
 use group::Group;
 use group::check_group;
+use group::fault::refusal_of;
 use group::fill_group;
 use refusal::Refusal;
 
@@ -40,9 +41,7 @@ fn group_seen(partners: &[u8], a: usize, e: usize, i: u64) -> GroupSeen
     }
     match check_group(&partners[a..e]) {
         Group::Good { degree, dense: _ } => GroupSeen::Good { degree },
-        Group::BadTag => refused(Refusal::Tag { group: i }),
-        Group::BadVarint => refused(Refusal::Varint { group: i }),
-        Group::BadShape => refused(Refusal::Group { group: i }),
+        Group::Bad { fault } => refused(refusal_of(i, fault)),
     }
 }
 

@@ -1,6 +1,8 @@
 -- Demand 1: for every public call the contract leaves one result and one content of lent memory, refused calls too. That each call
 -- ends, and reads and writes only what it was lent, is what every proof of a function shows.
 use Rattle.base.proofs.Determined.{Determined}
+use Rattle.xxh3.proofs.saffron_xxh3_64 as c-saffron
+use Rattle.xxh3.proofs.saffron_xxh3_64.Reads as c-saffron-reads
 use Rattle.xxh3.proofs.xxh3 as c-sum
 use Rattle.xxh3.proofs.xxh3.Reads as c-sum-reads
 use Rattle.reader.proofs.open.open as c-opens
@@ -25,20 +27,53 @@ use Rattle.writer.proofs.needed as c-needed
 use Rattle.writer.proofs.needed.Reads as c-needed-reads
 use Rattle.writer.proofs.write as c-write
 use Rattle.writer.proofs.write.Reads as c-write-reads
+use Rattle.faults.proofs.check_batch as c-check-batch
+use Rattle.faults.proofs.check_batch.Reads as c-check-batch-reads
 use Rattle.refusal.proofs.told_of as c-told
 use Rattle.refusal.proofs.told_of.Reads as c-told-reads
 use Rattle.listing.proofs.list_sections as c-sections
-use Rattle.xxh3.proofs.One.{xxh3-determined}
+use Rattle.listing.proofs.plan_for as c-plan-for
+use Rattle.listing.proofs.plan_for.Reads as c-plan-for-reads
+use Rattle.listing.proofs.row_of as c-row-of
+use Rattle.listing.proofs.row_of.Reads as c-row-of-reads
+use Rattle.listing.proofs.table_of as c-table-of
+use Rattle.edge_sst_c.proofs.edge_sst_open as sst-open
+use Rattle.edge_sst_c.proofs.edge_sst_open.Reads as sst-open-reads
+use Rattle.edge_sst_c.proofs.look.edge_sst_partners as sst-partners
+use Rattle.edge_sst_c.proofs.look.edge_sst_partners.Reads as sst-partners-reads
+use Rattle.edge_sst_c.proofs.look.edge_sst_partners_with as sst-partners-with
+use Rattle.edge_sst_c.proofs.look.edge_sst_partners_with.Reads as sst-partners-with-reads
+use Rattle.edge_sst_c.proofs.look.edge_sst_lookup as sst-lookup
+use Rattle.edge_sst_c.proofs.look.edge_sst_lookup.Reads as sst-lookup-reads
+use Rattle.edge_sst_c.proofs.look.edge_sst_lookup_with as sst-lookup-with
+use Rattle.edge_sst_c.proofs.look.edge_sst_lookup_with.Reads as sst-lookup-with-reads
+use Rattle.edge_sst_c.proofs.desk.edge_sst_check as sst-check
+use Rattle.edge_sst_c.proofs.desk.edge_sst_check.Reads as sst-check-reads
+use Rattle.edge_sst_c.proofs.desk.edge_sst_read_out as sst-read-out
+use Rattle.edge_sst_c.proofs.desk.edge_sst_read_out.Reads as sst-read-out-reads
+use Rattle.edge_sst_c.proofs.write.edge_sst_needed as sst-needed
+use Rattle.edge_sst_c.proofs.write.edge_sst_needed.Reads as sst-needed-reads
+use Rattle.edge_sst_c.proofs.write.edge_sst_write as sst-write
+use Rattle.edge_sst_c.proofs.write.edge_sst_write.Reads as sst-write-reads
+use Rattle.edge_sst_c.proofs.section_list.edge_sst_sections as sst-sections
+use Rattle.edge_sst_c.proofs.section_list.edge_sst_sections.Reads as sst-sections-reads
+use Rattle.edge_sst_c.proofs.write.edge_sst_sum as sst-sum
+use Rattle.edge_sst_c.proofs.write.edge_sst_sum.Reads as sst-sum-reads
+use Rattle.xxh3.proofs.One.{xxh3-determined, saffron-xxh3-64-determined}
 use Rattle.reader.proofs.One.{open-determined, section-at-determined, partners-determined, partners-with-determined, lookup-determined, lookup-with-determined}
 use Rattle.full_check.proofs.One.{check-determined, checked-determined}
 use Rattle.readout.proofs.One.{read-out-determined}
 use Rattle.writer.proofs.One.{needed-determined, write-determined}
+use Rattle.faults.proofs.One.{check-batch-determined}
 use Rattle.refusal.proofs.One.{told-of-determined}
-use Rattle.listing.proofs.One.{Listed-post, list-sections-determined}
+use Rattle.listing.proofs.One.{Listed-post, Table-post, list-sections-determined, plan-for-determined, row-of-determined, table-of-determined}
+use Rattle.edge_sst_c.proofs.One.{edge-sst-open-determined, edge-sst-partners-determined, edge-sst-partners-with-determined, edge-sst-lookup-determined, edge-sst-lookup-with-determined, edge-sst-check-determined, edge-sst-read-out-determined, edge-sst-needed-determined, edge-sst-write-determined, edge-sst-sections-determined, edge-sst-sum-determined}
 
 pub record OneResult : Type 2 where
   -- `xxh3`: the sum of any bytes
   pub sum : Determined c-sum.ended c-sum-reads.Pre c-sum-reads.Post
+  -- `saffron_xxh3_64`: the same for C and Rust
+  pub saffron-xxh3-64 : Determined c-saffron.ended c-saffron-reads.Pre c-saffron-reads.Post
   -- `open`
   pub opens : Determined c-opens.ended c-opens-reads.Pre c-opens-reads.Post
   -- `section_at`
@@ -58,14 +93,33 @@ pub record OneResult : Type 2 where
   pub needed : Determined c-needed.ended c-needed-reads.Pre c-needed-reads.Post
   -- `write`
   pub write : Determined c-write.ended c-write-reads.Pre c-write-reads.Post
+  -- `check_batch`: the first faulty record of a batch
+  pub check-batch : Determined c-check-batch.ended c-check-batch-reads.Pre c-check-batch-reads.Post
   -- `list_sections`: proved by hand, with what its contract says written out
   pub sections : Determined c-sections.ended (λ κs a. Unit {0}) Listed-post
+  -- `plan_for`, `row_of` and `table_of`, the last proved by hand too
+  pub plan-for : Determined c-plan-for.ended c-plan-for-reads.Pre c-plan-for-reads.Post
+  pub row-of : Determined c-row-of.ended c-row-of-reads.Pre c-row-of-reads.Post
+  pub table-of : Determined c-table-of.ended (λ κs a. Unit {0}) Table-post
   -- `told_of`: a refusal's number and place
   pub told : Determined c-told.ended c-told-reads.Pre c-told-reads.Post
+  -- the calls for C, by their names in the header
+  pub edge-sst-open : Determined sst-open.ended sst-open-reads.Pre sst-open-reads.Post
+  pub edge-sst-partners : Determined sst-partners.ended sst-partners-reads.Pre sst-partners-reads.Post
+  pub edge-sst-partners-with : Determined sst-partners-with.ended sst-partners-with-reads.Pre sst-partners-with-reads.Post
+  pub edge-sst-lookup : Determined sst-lookup.ended sst-lookup-reads.Pre sst-lookup-reads.Post
+  pub edge-sst-lookup-with : Determined sst-lookup-with.ended sst-lookup-with-reads.Pre sst-lookup-with-reads.Post
+  pub edge-sst-check : Determined sst-check.ended sst-check-reads.Pre sst-check-reads.Post
+  pub edge-sst-read-out : Determined sst-read-out.ended sst-read-out-reads.Pre sst-read-out-reads.Post
+  pub edge-sst-needed : Determined sst-needed.ended sst-needed-reads.Pre sst-needed-reads.Post
+  pub edge-sst-write : Determined sst-write.ended sst-write-reads.Pre sst-write-reads.Post
+  pub edge-sst-sections : Determined sst-sections.ended sst-sections-reads.Pre sst-sections-reads.Post
+  pub edge-sst-sum : Determined sst-sum.ended sst-sum-reads.Pre sst-sum-reads.Post
 
 pub one-result : OneResult
 one-result = record {
   sum = xxh3-determined;
+  saffron-xxh3-64 = saffron-xxh3-64-determined;
   opens = open-determined;
   section = section-at-determined;
   partners = partners-determined;
@@ -77,6 +131,21 @@ one-result = record {
   read-out = read-out-determined;
   needed = needed-determined;
   write = write-determined;
+  check-batch = check-batch-determined;
   sections = list-sections-determined;
+  plan-for = plan-for-determined;
+  row-of = row-of-determined;
+  table-of = table-of-determined;
   told = told-of-determined;
+  edge-sst-open = edge-sst-open-determined;
+  edge-sst-partners = edge-sst-partners-determined;
+  edge-sst-partners-with = edge-sst-partners-with-determined;
+  edge-sst-lookup = edge-sst-lookup-determined;
+  edge-sst-lookup-with = edge-sst-lookup-with-determined;
+  edge-sst-check = edge-sst-check-determined;
+  edge-sst-read-out = edge-sst-read-out-determined;
+  edge-sst-needed = edge-sst-needed-determined;
+  edge-sst-write = edge-sst-write-determined;
+  edge-sst-sections = edge-sst-sections-determined;
+  edge-sst-sum = edge-sst-sum-determined;
 }

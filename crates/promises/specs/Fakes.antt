@@ -1,109 +1,89 @@
--- The four fakes, each with the promise that stops it: no reader or writer that does so keeps its promise.
+-- The four fakes, each with the promise that stops it: no reader or writer that does so keeps its promise. Ours keep each of them.
 use mathlib.Core.Path.{_≡_, refl, sym, ap, _∙_}
-use Prim.Native.Nat.{ℕ, zero, suc, _+_, _*_, _^_, _≤_, _<_}
+use Prim.Native.Nat.{ℕ, zero, suc, _+_, _-_, _*_, _^_, _≤_}
 use native.Mathlib.Omega.{arith}
 use mathlib.Core.List.{List, [], _∷_, _++_}
-use mathlib.Core.Bool.{Bool, true, false, _&&_}
+use mathlib.Core.Bool.{Bool, true, false}
 use lib.ListN.{length, getD}
-use lib.Dec.{leb}
-use borrow.Author.Tests.{leb-true}
 use Rattle.base.specs.Pick.{pick}
 use Rattle.base.specs.Over.{over}
 use Rattle.codes.specs.declared.ids.Id.{Id}
-use Rattle.codes.specs.Little.{leAt, leBytes}
-use Rattle.codes.specs.Ids.{beAt, beBytes, idBytes, halvesAt, numberOf}
-use Rattle.codes.specs.Varint.{lastByte, varFrom, varintAt, bytesFrom, varBytes}
+use Rattle.codes.specs.Little.{leAt}
+use Rattle.codes.specs.Ids.{beAt, halvesAt, numberOf}
 use Rattle.refusal.specs.declared.Refusal.{Refusal}
 use Rattle.refusal.specs.declared.Check.{Check}
-use Rattle.refusal.specs.Check.Laws.{and-parts}
-use Rattle.xxh3_spec.specs.Xxh3.{mul, fold, xorshift, rotl, swap, rrmxmx, secret, of1to3, of4to8, of9to16, small, pair, mixStep, inward, of17to128, onward, of129to240, lane, accumulate, stir, scramble, turn, run, start, twice, merge, large, xxh3}
-use Rattle.frame.specs.Layout.{headBytes, payload, entry, entries, bodyBytes, trailer, layOut}
-use Rattle.frame.specs.Cases.{ids, headingOnly, oneEdge}
-use Rattle.group.specs.Group.{onVarint, splitStep, denseStep, stepAt, onStep, cons, walkFrom, degreeOf, headOf, onHead, groupOf, bytesOf}
-use Rattle.group.specs.Written.{splitFrom, splitBytes, denseBytes}
-use Rattle.lookup.specs.Lookup.{groupCheck, Outcome, found, absent, refused, Rooms}
+use Rattle.frame.specs.Open.{recordOf}
+use Rattle.frame.specs.Cases.{headingOnly}
+use Rattle.lookup.specs.Lookup.{Outcome, found, absent, refused, Rooms, lookOf, lookWith}
 use Rattle.batch.specs.declared.Edge.{Edge}
-use Rattle.batch.specs.Batch.{headingOf, edgeAt, edgesAt, edgesOf, before, inOrder, faultFrom, headed, batchCheck}
-use Rattle.groups.specs.Groups.{join, groupsOf}
-use Rattle.image.specs.Image.{logsIn, marksIn, keysIn, anyDead, splitCost, denseBy, isDense, groupBytes, anyDense, numbers, partnerBytes, startsFrom, widthOf, octet, octets, fenceBytes, fencesFrom, fencesOf, lastSections, sectionsBy, layoutBy, layoutOf, fileOf}
-use Rattle.image.specs.Image as image
+use Rattle.batch.specs.Batch.{edgeAt, edgesAt, edgesOf}
+use Rattle.image.specs.Cases.{mixed, mixed-edges}
 use Rattle.agreement.specs.SameEdges.{ofKey, partnersIn, Says, Enough}
+use Rattle.agreement.specs.OutBytes.{byted, bytes-are}
+use Rattle.full_check.specs.Full.{fullCheck}
 use Rattle.writer.specs.declared.Written.{Written}
-use Rattle.writer.specs.Written.{Wrote}
-use Rattle.back.specs.Demand2.{fileFor, Lawful}
-use Rattle.promises.specs.Calls.{writes}
-use Rattle.promises.specs.Marked.{heading, edge, marked}
+use Rattle.writer.specs.Written.{writtenOf, fileIn, leaves}
+use Rattle.back.specs.Demand2.{fileFor, Lawful, demand-2}
+use Rattle.back.specs.Cases.{mixed-lawful}
+use Rattle.promises.specs.Calls.{takes, writes}
+use Rattle.promises.specs.Marked.{empty, live, one, marked}
 
--- ---- three lawful batches
+-- ---- three lawful batches: those of the marked cases, without edges and with one, and `mixed`, of two keys
 
-byted : List ℕ → Bool
-byted [] = true
-byted (x ∷ xs) = leb x 255 && byted xs
+empty-lawful : Lawful empty
+unfolding empty byted
+empty-lawful = takes empty (bytes-are empty refl) 218 (marked .c11 .1) .0
 
-byted-at : (s : List ℕ) → byted s ≡ true → (j : ℕ) → getD s j 0 < 2 ^ 8
-unfolding byted
-byted-at [] e j = omega arith
-byted-at (x ∷ xs) e zero = let h = leb-true x 255 (and-parts (leb x 255) (byted xs) e .0) in omega arith
-byted-at (x ∷ xs) e (suc j) = byted-at xs (and-parts (leb x 255) (byted xs) e .1) j
+one-lawful : Lawful one
+unfolding one empty live byted
+one-lawful = takes one (bytes-are one refl) 256 (marked .c12 .1) .0
 
--- no edges
-empty : List ℕ
-empty = 3 ∷ 0 ∷ ids
+abbrev edge : ℕ → ℕ → ℕ → ℕ → Bool → Edge
+edge k hi lo log dead = record { key = record { hi = 1; lo = k }; partner = record { hi = hi; lo = lo }; log = log; dead = dead }
 
--- the record of a live edge of key 1, k and partner p, 1, with log number 7
-live : ℕ → ℕ → List ℕ
-live k p = 1 ∷ 0 ∷ 0 ∷ 0 ∷ 0 ∷ 0 ∷ 0 ∷ 0 ∷ 1 ∷ 0 ∷ 0 ∷ 0 ∷ 0 ∷ 0 ∷ 0 ∷ 0 ∷ k
-    ∷ 0 ∷ 0 ∷ 0 ∷ 0 ∷ 0 ∷ 0 ∷ 0 ∷ p ∷ 0 ∷ 0 ∷ 0 ∷ 0 ∷ 0 ∷ 0 ∷ 0 ∷ 1 ∷ 7 ∷ 0 ∷ 0 ∷ 0 ∷ 0 ∷ 0 ∷ 0 ∷ 0 ∷ []
-
-one : List ℕ
-one = empty ++ live 2 5
-
-two : List ℕ
-two = empty ++ (live 2 5 ++ live 3 6)
-
-abbrev second : Edge
-second = record { key = record { hi = 1; lo = 3 }; partner = record { hi = 6; lo = 1 }; log = 7; dead = false }
-
-edges-one : edgesOf one ≡ edge ∷ []
+edges-one : edgesOf one ≡ edge 2 5 1 7 false ∷ []
 unfolding edgesOf edgesAt edgeAt one empty live halvesAt beAt leAt
 edges-one = refl
 
-edges-two : edgesOf two ≡ edge ∷ second ∷ []
-unfolding edgesOf edgesAt edgeAt two empty live halvesAt beAt leAt
-edges-two = refl
+-- the keys 1, 2 and 1, 3
+abbrev first : ℕ
+first = 2 ^ 64 + 2
 
-empty-lawful : Lawful empty
-unfolding empty byted batchCheck headed faultFrom edgesOf edgesAt headingOf groupsOf
-empty-lawful = record {
-  bytes = byted-at empty refl;
-  fine = refl;
-  limits = record { keys = omega arith; edges = omega arith; bytes = omega (arith, marked .c11 .1) };
-}
+abbrev second : ℕ
+second = 2 ^ 64 + 3
 
-one-lawful : Lawful one
-unfolding one empty live byted batchCheck headed faultFrom before inOrder edgesOf edgesAt edgeAt halvesAt beAt leAt headingOf join groupsOf
-one-lawful = record {
-  bytes = byted-at one refl;
-  fine = refl;
-  limits = record { keys = omega arith; edges = omega arith; bytes = omega (arith, marked .c12 .1) };
-}
+abbrev firsts : List Edge
+firsts = edge 2 5 1 7 true ∷ edge 2 5 2 (2 ^ 64 - 1) false ∷ []
 
-size-two : length (fileOf heading (edge ∷ second ∷ [])) ≡ 294
-unfolding leAt leBytes beBytes idBytes lastByte varFrom varintAt bytesFrom varBytes mul fold xorshift rotl swap rrmxmx secret of1to3 of4to8 of9to16 small pair mixStep inward of17to128 onward of129to240 lane accumulate stir scramble turn run start twice merge large xxh3 headBytes payload entry entries bodyBytes trailer layOut headingOnly oneEdge onVarint splitStep denseStep stepAt onStep cons walkFrom degreeOf headOf onHead groupOf bytesOf splitFrom splitBytes denseBytes groupCheck join groupsOf image.partnersIn logsIn marksIn keysIn anyDead splitCost denseBy isDense groupBytes anyDense numbers partnerBytes startsFrom widthOf octet octets fenceBytes fencesFrom fencesOf lastSections sectionsBy layoutBy layoutOf fileOf
-size-two = refl
+abbrev seconds : List Edge
+seconds = edge 3 (2 ^ 49) 1 8 false ∷ []
 
-two-lawful : Lawful two
-unfolding two empty live byted batchCheck headed faultFrom before inOrder edgesOf edgesAt edgeAt halvesAt beAt leAt headingOf join groupsOf
-two-lawful = record {
-  bytes = byted-at two refl;
-  fine = refl;
-  limits = record { keys = omega arith; edges = omega arith; bytes = omega (arith, size-two) };
-}
+one-first : ofKey first (edgesOf one) ≡ edge 2 5 1 7 false ∷ []
+unfolding ofKey
+one-first = ap (ofKey first) edges-one
+
+mixed-first : ofKey first (edgesOf mixed) ≡ firsts
+unfolding ofKey
+mixed-first = ap (ofKey first) mixed-edges
+
+mixed-second : ofKey second (edgesOf mixed) ≡ seconds
+unfolding ofKey
+mixed-second = ap (ofKey second) mixed-edges
+
+-- room for two edges
+abbrev room : Rooms
+room = record { bytes = 32; logs = 2; marks = 2 }
+
+enough : (es fs : List Edge) → es ≡ fs → length fs ≤ 2 → Enough room (length es)
+enough es fs e h = let n : length es ≡ length fs = ap length e in record { bytes = omega arith; logs = omega arith; marks = omega arith }
 
 -- ---- 1: "refuse every file (demand 2 stops it, written files pass)"
 
 abbrev pub Passes : (List ℕ → Check) → Type 0
 Passes check = (s : List ℕ) → Lawful s → check (fileFor s) ≡ Check.Fine
+
+pub our-check : Passes fullCheck
+our-check s lawful = demand-2 s lawful .passes-check
 
 pub refuse-every-file : (check : List ℕ → Check) → Passes check → ((f : List ℕ) → (r : Refusal) × (check f ≡ Check.Bad r)) → ⊥
 refuse-every-file check promise fake =
@@ -119,25 +99,12 @@ Reader = Rooms → ℕ → List ℕ → Outcome
 abbrev pub Looks : Reader → Type 0
 Looks look = (s : List ℕ) → Lawful s → (key : ℕ) (rooms : Rooms) → Enough rooms (length (ofKey key (edgesOf s))) → Says true (look rooms key (fileFor s)) (ofKey key (edgesOf s))
 
-abbrev room : Rooms
-room = record { bytes = 16; logs = 1; marks = 1 }
+-- of a file, and by the record that opening gave
+pub our-lookup : Looks (lookOf true)
+our-lookup s lawful key rooms room = demand-2 s lawful .looks-up key rooms room
 
--- the edges of the first key of `one` and of `two`, and of the second key of `two`
-one-first : ofKey (numberOf (edge .key)) (edgesOf one) ≡ edge ∷ []
-unfolding ofKey
-one-first = ap (ofKey (numberOf (edge .key))) edges-one
-
-two-first : ofKey (numberOf (edge .key)) (edgesOf two) ≡ edge ∷ []
-unfolding ofKey
-two-first = ap (ofKey (numberOf (edge .key))) edges-two
-
-two-second : ofKey (numberOf (second .key)) (edgesOf two) ≡ second ∷ []
-unfolding ofKey
-two-second = ap (ofKey (numberOf (second .key))) edges-two
-
--- room for one edge
-enough-one : (es : List Edge) (e : Edge) → es ≡ e ∷ [] → Enough room (length es)
-enough-one es e q = let n : length es ≡ 1 = ap length q in record { bytes = omega arith; logs = omega arith; marks = omega arith }
+pub our-lookup-with : Looks (λ rooms key f. lookWith true rooms key f (recordOf f))
+our-lookup-with s lawful key rooms room = demand-2 s lawful .looks-up-with key rooms room
 
 absent-none : (c : ℕ) (es : List Edge) → Says true (absent c) es → es ≡ []
 unfolding Says
@@ -145,10 +112,9 @@ absent-none c es h = h
 
 pub absent-always : (look : Reader) → Looks look → ((rooms : Rooms) (key : ℕ) (f : List ℕ) → (c : ℕ) × (look rooms key f ≡ absent c)) → ⊥
 absent-always look promise fake =
-    let k : ℕ = numberOf (edge .key) in
-    let (c, e) = fake room k (fileFor one) in
-    let says = promise one one-lawful k room (enough-one (ofKey k (edgesOf one)) edge one-first) in
-    let none = absent-none c (ofKey k (edgesOf one)) (rw e at says) in
+    let (c, e) = fake room first (fileFor one) in
+    let says = promise one one-lawful first room (enough _ _ one-first (omega arith)) in
+    let none = absent-none c (ofKey first (edgesOf one)) (rw e at says) in
     let n : _≡_ {A = ℕ} 1 0 = ap length (sym one-first ∙ none) in
     omega arith
 
@@ -159,65 +125,52 @@ partnersGiven (found i c ps logs marks) = ps
 partnersGiven (absent c) = []
 partnersGiven (refused r) = []
 
-says-partners : (x : Outcome) (e : Edge) (es : List Edge) → es ≡ e ∷ [] → Says true x es → partnersGiven x ≡ e .partner ∷ []
-unfolding Says partnersGiven partnersIn
-says-partners (found i c ps logs marks) e es q h = h .1 ∙ ap partnersIn q
-says-partners (absent c) e es q h = let n : _≡_ {A = ℕ} 1 0 = ap length (sym q ∙ h) in absurd (omega arith)
-says-partners (refused r) e es q h = absurd h
-
 unfoldable pub isFound : Outcome → Bool
 isFound (found i c ps logs marks) = true
 isFound (absent c) = false
 isFound (refused r) = false
 
-says-found : (x : Outcome) (e : Edge) (es : List Edge) → es ≡ e ∷ [] → Says true x es → isFound x ≡ true
-unfolding Says isFound
-says-found (found i c ps logs marks) e es q h = refl
-says-found (absent c) e es q h = let n : _≡_ {A = ℕ} 1 0 = ap length (sym q ∙ h) in absurd (omega arith)
-says-found (refused r) e es q h = absurd h
+-- a key that has edges is found, and given their partners
+says-given : (x : Outcome) (es fs : List Edge) → es ≡ fs → 1 ≤ length fs → Says true x es → (isFound x ≡ true) × (partnersGiven x ≡ partnersIn fs)
+unfolding Says isFound partnersGiven
+says-given (found i c ps logs marks) es fs e some h = (refl, h .1 ∙ ap partnersIn e)
+says-given (absent c) es fs e some h = absurd (omega (arith, ap length (sym e ∙ h)))
+says-given (refused r) es fs e some h = absurd h
 
 -- whichever key is found, it is given the same partners
 pub first-group-again : (look : Reader) → Looks look
     → ((rooms : Rooms) (k l : ℕ) (f : List ℕ) → isFound (look rooms k f) ≡ true → isFound (look rooms l f) ≡ true → partnersGiven (look rooms k f) ≡ partnersGiven (look rooms l f)) → ⊥
+unfolding partnersIn
 first-group-again look promise fake =
-    let k : ℕ = numberOf (edge .key) in
-    let l : ℕ = numberOf (second .key) in
-    let first = promise two two-lawful k room (enough-one (ofKey k (edgesOf two)) edge two-first) in
-    let other = promise two two-lawful l room (enough-one (ofKey l (edgesOf two)) second two-second) in
-    let a = says-partners _ edge (ofKey k (edgesOf two)) two-first first in
-    let b = says-partners _ second (ofKey l (edgesOf two)) two-second other in
-    let there = says-found _ edge (ofKey k (edgesOf two)) two-first first in
-    let here = says-found _ second (ofKey l (edgesOf two)) two-second other in
-    let same : edge .partner ∷ [] ≡ second .partner ∷ [] = sym a ∙ fake room k l (fileFor two) there here ∙ b in
-    let n : _≡_ {A = ℕ} 5 6 = ap upper same in
+    let (here, a) = says-given _ _ firsts mixed-first (omega arith) (promise mixed mixed-lawful first room (enough _ _ mixed-first (omega arith))) in
+    let (there, b) = says-given _ _ seconds mixed-second (omega arith) (promise mixed mixed-lawful second room (enough _ _ mixed-second (omega arith))) in
+    let n : _≡_ {A = ℕ} 2 1 = ap length (sym a ∙ fake room first second (fileFor mixed) here there ∙ b) in
     omega arith
-  where
-    upper : List Id → ℕ
-    upper [] = 0
-    upper (p ∷ ps) = p .hi
 
 -- ---- 4: "write nothing and say done (demands 1 and 2, outputs are named)"
 
--- a writer: what it answers and what it leaves in the output
+-- a writer: what it answers, and what it leaves in the output
 pub record Writer : Type 0 where
   pub says : List ℕ → List ℕ → Written
   pub leaves : List ℕ → List ℕ → List ℕ
-  pub keeps : (s o : List ℕ) → Wrote s o (says s o) (leaves s o)
+
+abbrev pub Writes : Writer → Type 0
+Writes w = (s : List ℕ) → Lawful s → (o : List ℕ) → length (fileFor s) ≤ length o → (w .says s o ≡ Written.Done (length (fileFor s))) × (w .leaves s o ≡ over (fileFor s) o)
+
+pub our-writer : Writes (record { says = λ s o. writtenOf s (length o); leaves = λ s o. leaves (writtenOf s (length o)) (fileIn s) o })
+our-writer = writes
 
 zeros : ℕ → List ℕ
 zeros zero = []
 zeros (suc n) = 0 ∷ zeros n
 
 -- wherever it says done, the output is as it was
-pub nothing-written : (w : Writer) → ((s o : List ℕ) (n : ℕ) → w .says s o ≡ Written.Done n → w .leaves s o ≡ o) → ⊥
-unfolding empty zeros headingOf edgesOf edgesAt headingOnly
-nothing-written w fake =
-    let o : List ℕ = zeros 218 in
-    let size : length (fileFor empty) ≡ 218 = marked .c11 .1 in
-    let long : length o ≡ 218 = refl in
-    let done = writes empty empty-lawful o (omega arith) in
-    let q = w .keeps empty o in
-    let left = fake empty o _ (q .answer ∙ done .0) in
-    let whole : over (fileFor empty) o ≡ o = sym (done .1) ∙ sym (q .output) ∙ left in
+pub nothing-written : (w : Writer) → Writes w → ((s o : List ℕ) (n : ℕ) → w .says s o ≡ Written.Done n → w .leaves s o ≡ o) → ⊥
+unfolding zeros headingOnly
+nothing-written w promise fake =
+    let size : length (fileFor empty) ≡ 218 = ap length (marked .c11 .0) in
+    let long : length (zeros 218) ≡ 218 = refl in
+    let (done, output) = promise empty empty-lawful (zeros 218) (omega arith) in
+    let whole : over (fileFor empty) (zeros 218) ≡ zeros 218 = sym output ∙ fake empty (zeros 218) _ done in
     let byte : _≡_ {A = ℕ} 84 0 = sym (ap (λ (t : List ℕ). getD (over t (zeros 218)) 0 0) (marked .c11 .0)) ∙ ap (λ (t : List ℕ). getD t 0 0) whole in
     omega arith

@@ -23,14 +23,14 @@ use Rattle.index.specs.declared.keys.Found.{Found}
 use Rattle.index.specs.Find.{findIn}
 use Rattle.index.specs.Order.{Offsets}
 use Rattle.index.specs.Find.Laws.{find-sound}
-use Rattle.group.specs.declared.Group.{Group}
-use Rattle.group.specs.Group.{groupOf, badTag, answerOf}
+use Rattle.group.specs.declared.fault.Fault.{Fault}
+use Rattle.group.specs.Group.{groupOf, bad}
 use Rattle.codes.specs.declared.varint.Varint.{Varint}
 use Rattle.codes.specs.Varint.{varintAt}
-use Rattle.group.specs.Group.Laws.{head-tag, group-tag, answer-tag}
+use Rattle.group.specs.Group.Laws.{head-tag, group-bad}
 use Rattle.lookup.specs.declared.groups.GroupSeen.{GroupSeen}
 use Rattle.lookup.specs.Lookup.{Rooms, refused, lookOf, lookWith}
-use Rattle.lookup.specs.Groups.{seen-told, toldOf}
+use Rattle.lookup.specs.Groups.{bad-seen}
 use Rattle.lookup.specs.Calls.{look-at, look-fault}
 use Rattle.reader.specs.Opened.{opened-offsets}
 use Rattle.reader.specs.Look.{of-good, with-record}
@@ -72,18 +72,17 @@ module _ (f : List ℕ) (o : Opened) (opens : openOf f ≡ Opening.Good o) (key 
 
   -- a degree that is read and not 0, and after it a byte that is neither 0x01 nor 0x10
   module _ (d n : ℕ) (degree : varintAt g 0 ≡ Varint.Value d n) (some : d ≡ 0 → ⊥) (within : n < length g) (split : getD g n 0 ≡ 0x01 → ⊥) (dense : getD g n 0 ≡ 0x10 → ⊥) where
-    tag : groupOf g ≡ badTag
-    tag = group-tag g (head-tag g d n degree some within split dense)
+    tag : groupOf g ≡ bad Fault.Tag
+    tag = group-bad g Fault.Tag (head-tag g d n degree some within split dense)
 
     pub unknown-tag : (full : Bool) (rooms : Rooms) → lookOf full rooms key f ≡ refused (Refusal.Tag i)
-    unfolding toldOf
     unknown-tag full rooms =
         let up = opened-offsets f o opens in
         let lt = find-sound (bytesAt f (o .keys)) (o .keycount) key i c at .0 in
         let rise = up .above i lt in
         let end = up .within (i + 1) (omega arith) in
         of-good full rooms key f o opens ∙ look-at full rooms f o key i c at
-        ∙ look-fault f o i full rooms c (Refusal.Tag i) (seen-told ps (offsetAt os (o .bits / 8) i) (offsetAt os (o .bits / 8) (i + 1)) i (omega arith) (omega arith) Group.BadTag (ap answerOf tag ∙ answer-tag))
+        ∙ look-fault f o i full rooms c (Refusal.Tag i) (bad-seen ps (offsetAt os (o .bits / 8) i) (offsetAt os (o .bits / 8) (i + 1)) i (omega arith) (omega arith) Fault.Tag tag)
 
     pub unknown-tag-with : (full : Bool) (rooms : Rooms) → lookWith full rooms key f o ≡ refused (Refusal.Tag i)
     unknown-tag-with full rooms = with-record full rooms key f o opens ∙ unknown-tag full rooms

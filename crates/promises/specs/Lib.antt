@@ -1,5 +1,4 @@
-pub mod Refusals
 pub mod Later
-pub mod Marked
 pub mod Calls
+pub mod Marked
 pub mod Fakes

@@ -12,6 +12,7 @@ use batch::put_edge;
 use codes::ids::Id;
 use codes::ids::id_at;
 use codes::little::le64;
+use group::fault::Fault;
 use group::head::Head;
 use group::head::head_of;
 use group::split::Step;
@@ -23,10 +24,14 @@ fn dense_step(g: &[u8], i: usize) -> Step
     ensures { λ r. ⌜ r ≡ denseStep (now (g .entry)) i ⌝ }
 {
     if g.len() < i {
-        return Step::BadShape;
+        return Step::Bad {
+            fault: Fault::Shape,
+        };
     }
     if g.len() - i < 16 {
-        return Step::BadShape;
+        return Step::Bad {
+            fault: Fault::Shape,
+        };
     }
     Step::Partner {
         id: id_at(g, i),
@@ -86,10 +91,7 @@ fn put_edges(
                 i = next;
                 k = k + 1;
             }
-            Step::BadVarint => {
-                return;
-            }
-            Step::BadShape => {
+            Step::Bad { fault: _ } => {
                 return;
             }
         }
@@ -110,8 +112,6 @@ pub fn put_group(g: &[u8], key: Id, logs: &[u8], dead: &[u8], first: usize, out:
             put_edges(true, g, at, degree as usize, key, logs, dead, first, out);
             first + degree as usize
         }
-        Head::BadTag => first,
-        Head::BadVarint => first,
-        Head::BadShape => first,
+        Head::Bad { fault: _ } => first,
     }
 }

@@ -1,6 +1,9 @@
 -- The documents' table of refusals: the number of each case, and its place. Both are made from refusals.txt.
-use Prim.Native.Nat.{ℕ}
+use Prim.Native.Nat.{ℕ, _-_}
+use mathlib.Core.List.{List, [], _∷_}
+use lib.ListN.{getD}
 use Rattle.refusal.specs.declared.Refusal.{Refusal}
+pub mod Laws
 
 abbrev pub numberOf : Refusal → ℕ
 -- numbers: from refusals.txt
@@ -58,6 +61,13 @@ numberOf (Refusal.Unordered at) = 25
 numberOf Refusal.Bounds = 26
 
 -- numbers: to here
+
+-- the last of them
+abbrev pub last : ℕ
+-- last: from refusals.txt
+last = 26
+
+-- last: to here
 
 abbrev pub placeOf : Refusal → ℕ
 -- places: from refusals.txt
@@ -121,3 +131,17 @@ besideOf (Refusal.Unordered at) = 0
 besideOf Refusal.Bounds = 0
 
 -- places beside: to here
+
+-- the refusals in the order of their numbers, each that has a place at place p, with q beside it
+abbrev pub refusalsAt : ℕ → ℕ → List Refusal
+-- all: from refusals.txt
+refusalsAt p q =
+    Refusal.Size ∷ Refusal.Magic ∷ Refusal.Major ∷ Refusal.HeaderSize ∷ Refusal.Flags ∷ Refusal.TailMagic ∷ Refusal.FooterLength ∷ Refusal.FooterSum ∷ Refusal.Table ∷ Refusal.Codec p
+    ∷ Refusal.Range p ∷ Refusal.Counts ∷ Refusal.Key p ∷ Refusal.Offset p ∷ Refusal.Fences ∷ Refusal.Tag p ∷ Refusal.Varint p ∷ Refusal.Group p ∷ Refusal.Degrees p ∷ Refusal.Room p
+    ∷ Refusal.Record ∷ Refusal.Sum p ∷ Refusal.Data ∷ Refusal.Batch p ∷ Refusal.Unordered p ∷ Refusal.Bounds ∷ []
+
+-- all: to here
+
+-- the refusal that a number and its places tell
+unfoldable pub refusalTold : ℕ → ℕ → ℕ → Refusal
+refusalTold n p q = getD (refusalsAt p q) (n - 1) Refusal.Size

@@ -12,7 +12,8 @@ use lib.Dec.{lit<, ltb, eqb}
 use lib.Seq.{sets, getD-append-seam, append-snoc, drop-cons, take-at}
 use borrow.Author.Tests.{lt-ltb, le-ltb, eq-eqb, ne-eqb}
 use Rattle.codes.specs.declared.varint.Varint.{Varint}
-use Rattle.codes.specs.declared.varint.Varint.the-variants.{Value, Cut, Long, Large}
+use Rattle.codes.specs.declared.varint.Varint.the-variants.{Value, Bad}
+use Rattle.codes.specs.declared.varint.Unread.the-variants.{Cut, Long, Large}
 use Rattle.base.specs.Over.{part}
 use Rattle.codes.specs.Varint.{lastByte, varFrom, varintAt, bytesFrom, varBytes}
 
@@ -23,11 +24,11 @@ unfolding varintAt
 varint-from s i = refl
 
 module _ (s : List ℕ) (i x m : ℕ) where
-  pub from-none : varFrom 0 s i x m ≡ Large
+  pub from-none : varFrom 0 s i x m ≡ Bad Large
   unfolding varFrom
   from-none = refl
 
-  pub from-cut : (f : ℕ) → length s ≤ i → varFrom (suc f) s i x m ≡ Cut
+  pub from-cut : (f : ℕ) → length s ≤ i → varFrom (suc f) s i x m ≡ Bad Cut
   unfolding varFrom
   from-cut f h = rw (le-ltb i (length s) h)
 
@@ -40,7 +41,7 @@ module _ (s : List ℕ) (i x m : ℕ) where
     unfolding varFrom
     from-last g = simp (lt-ltb i (length s) h, lt-ltb (getD s i 0) 128 g)
 
-    pub from-long : getD s i 0 ≡ 0 → 1 < m → varFrom (suc f) s i x m ≡ Long
+    pub from-long : getD s i 0 ≡ 0 → 1 < m → varFrom (suc f) s i x m ≡ Bad Long
     unfolding lastByte
     from-long e g = from-last (omega arith) ∙ simp (eq-eqb (getD s i 0) 0 e, lt-ltb 1 m g)
 
@@ -53,7 +54,7 @@ module _ (s : List ℕ) (i x m : ℕ) where
       unfolding lastByte
       from-value b = from-last g ∙ simp (ne-eqb (getD s i 0) 0 ne, lt-ltb (x + getD s i 0 * m) (2 ^ 64) b)
 
-      pub from-large : 2 ^ 64 ≤ x + getD s i 0 * m → varFrom (suc f) s i x m ≡ Large
+      pub from-large : 2 ^ 64 ≤ x + getD s i 0 * m → varFrom (suc f) s i x m ≡ Bad Large
       unfolding lastByte
       from-large b = from-last g ∙ simp (ne-eqb (getD s i 0) 0 ne, le-ltb (x + getD s i 0 * m) (2 ^ 64) b)
 
@@ -150,12 +151,12 @@ last-taken f s i x m v n l h g e =
             let val : v ≡ x + b * m = cc in
             (val, rw val w, cc, λ t. p)
         | no w ↦
-            let q : Large ≡ Value v n = sym (from-large s i x m f h g (λ t. omega arith) (omega arith)) ∙ e in
+            let q : Bad Large ≡ Value v n = sym (from-large s i x m f h g (λ t. omega arith) (omega arith)) ∙ e in
             let z : _≡_ {A = ℕ} 0 1 = cc in absurd (omega arith)
       ]
       | no p ↦ elim (decLt 1 m) [
         | yes w ↦
-            let q : Long ≡ Value v n = sym (from-long s i x m f h (omega arith) w) ∙ e in
+            let q : Bad Long ≡ Value v n = sym (from-long s i x m f h (omega arith) w) ∙ e in
             let z : _≡_ {A = ℕ} 0 1 = cc in absurd (omega arith)
         | no w ↦
             let q : Value x (i + 1) ≡ Value v n = sym (from-zero s i x m f h (omega arith) (omega arith)) ∙ e in
@@ -199,11 +200,11 @@ from-taken zero s i x m v n l e =
       | yes h ↦ elim (decLt (getD s i 0) 128) [
         | yes g ↦ taken-last 0 s i x m v n l h g e
         | no g ↦
-            let q : Large ≡ Value v n = sym (from-more s i x m 0 h (omega arith) ∙ from-none s (i + 1) _ _) ∙ e in
+            let q : Bad Large ≡ Value v n = sym (from-more s i x m 0 h (omega arith) ∙ from-none s (i + 1) _ _) ∙ e in
             let z : _≡_ {A = ℕ} 0 1 = cc in absurd (omega arith)
       ]
       | no h ↦
-          let q : Cut ≡ Value v n = sym (from-cut s i x m 0 (omega arith)) ∙ e in
+          let q : Bad Cut ≡ Value v n = sym (from-cut s i x m 0 (omega arith)) ∙ e in
           let z : _≡_ {A = ℕ} 0 1 = cc in absurd (omega arith)
     ]
 from-taken (suc f) s i x m v n l e =
@@ -235,7 +236,7 @@ from-taken (suc f) s i x m v n l e =
             }
       ]
       | no h ↦
-          let q : Cut ≡ Value v n = sym (from-cut s i x m (suc f) (omega arith)) ∙ e in
+          let q : Bad Cut ≡ Value v n = sym (from-cut s i x m (suc f) (omega arith)) ∙ e in
           let z : _≡_ {A = ℕ} 0 1 = cc in absurd (omega arith)
     ]
 

@@ -1,6 +1,6 @@
 -- `degrees::degree_in` meets its contract.
 use mathlib.Core.Path.{_≡_, refl, sym, ap, _∙_}
-use Rattle.degrees.specs.Degrees.Laws.{in-falls, in-past, in-zero, in-is, in-cut, in-long, in-large}
+use Rattle.degrees.specs.Degrees.Laws.{in-falls, in-past, in-zero, in-is, in-unread}
 use native.Mathlib.Omega.{arith}
 use borrow.Author.Needs.{needs}
 use Rattle.degrees.proofs.degree_in.Statement.{statement}
@@ -30,23 +30,11 @@ returns-3 c = let a = c .before .before .before .before .before .before .before 
 enum-told : tie.Need-enum-told
 enum-told c = search needs
 
-enum-told-2 : tie.Need-enum-told-2
-enum-told-2 c = search needs
-
-enum-told-3 : tie.Need-enum-told-3
-enum-told-3 c = search needs
-
 returns-4 : tie.Need-returns-4
 returns-4 c = let a = c .before .before .before .before .before .before .before .before .before .args in sym (in-is (a .partners .now) (a .a) (a .e) (omega arith) (omega arith) _ _ (sym (c .before .before .before .before .varint-at .ensures) ∙ c .before .before .value .given .1) (λ z. omega arith))
 
 returns-5 : tie.Need-returns-5
-returns-5 c = let a = c .before .before .before .before .before .before .before .args in sym (in-cut (a .partners .now) (a .a) (a .e) (omega arith) (omega arith) (sym (c .before .before .varint-at .ensures) ∙ c .enum-told .given .1))
-
-returns-6 : tie.Need-returns-6
-returns-6 c = let a = c .before .before .before .before .before .before .before .args in sym (in-long (a .partners .now) (a .a) (a .e) (omega arith) (omega arith) (sym (c .before .before .varint-at .ensures) ∙ c .enum-told2 .given .1))
-
-returns-7 : tie.Need-returns-7
-returns-7 c = let a = c .before .before .before .before .before .before .before .args in sym (in-large (a .partners .now) (a .a) (a .e) (omega arith) (omega arith) (sym (c .before .before .varint-at .ensures) ∙ c .enum-told3 .given .1))
+returns-5 c = let a = c .before .before .before .before .before .before .before .args in sym (in-unread (a .partners .now) (a .a) (a .e) (omega arith) (omega arith) _ (sym (c .before .before .varint-at .ensures) ∙ c .enum-told .given .1))
 
 pub degree-in-spec : {M : Type 1} → statement M
 degree-in-spec =
@@ -60,9 +48,5 @@ degree-in-spec =
     enum-known-value
     returns-3
     enum-told
-    enum-told-2
-    enum-told-3
     returns-4
-    returns-5
-    returns-6
-    returns-7)
+    returns-5)

@@ -12,6 +12,7 @@ use lib.Dec.{leb}
 use borrow.Author.Tests.{lt-ltb, le-ltb, le-leb, lt-leb, eq-eqb, ne-eqb}
 use Rattle.base.specs.Over.{part}
 use Rattle.codes.specs.declared.varint.Varint.{Varint}
+use Rattle.codes.specs.declared.varint.Unread.{Unread}
 use Rattle.codes.specs.Varint.{varintAt}
 use Rattle.frame.specs.Open.{offsetAt}
 use Rattle.degrees.specs.declared.Degree.{Degree}
@@ -43,17 +44,9 @@ module _ (p : List ℕ) (a e : ℕ) where
       unfolding positive
       in-is v n q z = reads ∙ rw q (simp (ne-eqb v 0 z))
 
-      pub in-cut : varintAt (part p a e) 0 ≡ Varint.Cut → degreeIn p a e ≡ Degree.Bad
+      pub in-unread : (why : Unread) → varintAt (part p a e) 0 ≡ Varint.Bad why → degreeIn p a e ≡ Degree.Bad
       unfolding positive
-      in-cut q = reads ∙ rw q
-
-      pub in-long : varintAt (part p a e) 0 ≡ Varint.Long → degreeIn p a e ≡ Degree.Bad
-      unfolding positive
-      in-long q = reads ∙ rw q
-
-      pub in-large : varintAt (part p a e) 0 ≡ Varint.Large → degreeIn p a e ≡ Degree.Bad
-      unfolding positive
-      in-large q = reads ∙ rw q
+      in-unread why q = reads ∙ rw q
 
 -- ---- the sum
 

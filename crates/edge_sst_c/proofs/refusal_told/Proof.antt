@@ -12,7 +12,7 @@ cast-t3 : tie.Need-cast-t3
 cast-t3 c = search needs
 
 returns : tie.Need-returns
-returns c = ap₂ refusalWith (c .before .told-of .ensures .0) (c .before .told-of .ensures .1)
+returns c = let e = c .before .told-of .ensures in λ i. refusalWith (e .0 i) (e .1 i) (e .2 i)
 
 pub refusal-told-spec : {M : Type 1} → statement M
 refusal-told-spec = tie.close (tie.spec told-of-requires cast-t3 returns)

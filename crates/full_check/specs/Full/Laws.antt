@@ -25,9 +25,13 @@ use Rattle.frame.specs.Open.{bytesAt, offsetAt}
 use Rattle.index.specs.Order.{Offsets}
 use Rattle.degrees.specs.Degrees.{groupAt}
 use Rattle.group.specs.declared.Group.{Group}
-use Rattle.group.specs.Group.{Partners, good, badTag, badVarint, badShape, groupOf, partnersOf, answerOf}
+use Rattle.group.specs.declared.fault.Fault.{Fault}
+use Rattle.group.specs.Fault.{refusalOf}
+use Rattle.group.specs.Group.{Partners, good, groupOf, partnersOf, answerOf}
+use Rattle.group.specs.Group.Laws.{answered-good, answered-bad}
 use Rattle.group.specs.Good.{group-length}
 use Rattle.lookup.specs.Lookup.{groupCheck}
+use Rattle.lookup.specs.Groups.{check-fine, check-bad}
 use Rattle.full_check.specs.declared.groups.Groups.{Groups}
 use Rattle.full_check.specs.Full.{sumGood, sumsFrom, denseOf, groupIn, groupsFrom, degreesFrom, denseFrom, groupsTold, groupsOf}
 
@@ -117,20 +121,6 @@ footed f foot e s =
 
 -- ---- a group by its answer
 
--- the fault that an answer tells of group i
-unfoldable pub faultOf : ℕ → Group → Check
-faultOf i (Group.Good d dense) = Check.Fine
-faultOf i Group.BadTag = Check.Bad (Refusal.Tag i)
-faultOf i Group.BadVarint = Check.Bad (Refusal.Varint i)
-faultOf i Group.BadShape = Check.Bad (Refusal.Group i)
-
-fault-is : (i : ℕ) (g : Partners) → groupCheck i g ≡ faultOf i (answerOf g)
-unfolding groupCheck faultOf answerOf
-fault-is i (good dense ps) = refl
-fault-is i badTag = refl
-fault-is i badVarint = refl
-fault-is i badShape = refl
-
 -- a good answer is that of partners
 pub record Answered (g : Partners) (d : ℕ) (dense : Bool) : Type 0 where
   pub partners : List Id
@@ -140,13 +130,10 @@ pub record Answered (g : Partners) (d : ℕ) (dense : Bool) : Type 0 where
   pub kind : denseOf g ≡ dense
 
 pub answered : (g : Partners) (d : ℕ) (dense : Bool) → answerOf g ≡ Group.Good d dense → Answered g d dense
-unfolding answerOf partnersOf denseOf
-answered (good b ps) d dense e =
-    let same : b ≡ dense = cc in
-    record { partners = ps; is = ap (λ (t : Bool). good t ps) same; count = cc; degree = cc; kind = same }
-answered badTag d dense e = let z : _≡_ {A = ℕ} 0 1 = cc in absurd (omega arith)
-answered badVarint d dense e = let z : _≡_ {A = ℕ} 0 1 = cc in absurd (omega arith)
-answered badShape d dense e = let z : _≡_ {A = ℕ} 0 1 = cc in absurd (omega arith)
+unfolding denseOf
+answered g d dense e =
+    let (is, ok, count) = answered-good g d dense e in
+    record { partners = partnersOf g; is = is; count = count; degree = count; kind = ap denseOf is }
 
 -- ---- the pass over n groups: i of them are passed, the next begins at a
 
@@ -199,9 +186,9 @@ module _ (p o : List ℕ) (w n : ℕ) where
           sym (h .thick) ∙ ap (λ (t : ℕ). dense || denseFrom p o w t i) left
           ∙ ap (λ (t : Partners). dense || (denseOf t || denseFrom p o w (n - (i + 1)) (i + 1))) here
 
-      pub walk-bad : (x : Group) (r : Refusal) → answerOf (groupOf (part p a e)) ≡ x → faultOf i x ≡ Check.Bad r → groupsOf p o w n ≡ Groups.Refused r
+      pub walk-bad : (f : Fault) → answerOf (groupOf (part p a e)) ≡ Group.Bad f → groupsOf p o w n ≡ Groups.Refused (refusalOf i f)
       unfolding groupsOf groupsTold
-      walk-bad x r g b = rw (check-here, fault-is i (groupOf (part p a e)), g, b)
+      walk-bad f g = rw (check-here, answered-bad (groupOf (part p a e)) f g, check-bad i f)
 
       module _ (d : ℕ) (b : Bool) (g : answerOf (groupOf (part p a e)) ≡ Group.Good d b) where
         -- each partner has nine bytes or more
@@ -216,7 +203,6 @@ module _ (p o : List ℕ) (w n : ℕ) where
             omega arith
 
         pub walk-on : {c : Bool} → c ≡ (dense || b) → Walk (i + 1) e (edges + d) c
-        unfolding faultOf
         walk-on k =
             let s = answered (groupOf (part p a e)) d b g in
             let sums = sum-here in
@@ -225,7 +211,7 @@ module _ (p o : List ℕ) (w n : ℕ) where
               most = omega arith;
               place = q;
               few = walk-few;
-              check = sym (check-here ∙ ap (λ (t : Check). t ⊳ groupsFrom p o w (n - (i + 1)) (i + 1)) (fault-is i (groupOf (part p a e)) ∙ ap (faultOf i) g));
+              check = sym (check-here ∙ ap (λ (t : Check). t ⊳ groupsFrom p o w (n - (i + 1)) (i + 1)) (ap (groupCheck i) (s .is) ∙ check-fine i b (s .partners)));
               sum = omega arith;
               thick = sym
                   (thick-here

@@ -3,7 +3,7 @@ use mathlib.Core.Path.{sym, ap, _∙_}
 use native.Mathlib.Omega.{arith}
 use mathlib.Core.Bool.{true, false}
 use Rattle.group.specs.Group.{answerOf}
-use Rattle.group.specs.Group.Laws.{headed, group-walk, group-tag, group-varint, group-shape, answer-tag, answer-varint, answer-shape}
+use Rattle.group.specs.Group.Laws.{headed, group-walk, group-bad, answer-bad}
 use borrow.Author.Needs.{needs}
 use Rattle.group.proofs.check_group.Statement.{statement}
 use Rattle.group.proofs.check_group.Tie as tie
@@ -27,14 +27,8 @@ check-dense-requires c κs =
     let place = h .place in
     (omega arith, h .some)
 
-enum-told : tie.Need-enum-told
-enum-told c = search needs
-
-enum-told-2 : tie.Need-enum-told-2
-enum-told-2 c = search needs
-
-enum-told-3 : tie.Need-enum-told-3
-enum-told-3 c = search needs
+enum-known-fault : tie.Need-enum-known-fault
+enum-known-fault c = search needs
 
 returns : tie.Need-returns
 returns c =
@@ -47,13 +41,7 @@ returns-2 c =
     c .check-dense .ensures ∙ ap answerOf (sym (group-walk g true _ _ (sym (c .before .before .before .before .head-of .ensures) ∙ c .before .before .degree2 .given .1)))
 
 returns-3 : tie.Need-returns-3
-returns-3 c = sym (ap answerOf (group-tag (c .before .before .before .before .args .g .now) (sym (c .before .before .head-of .ensures) ∙ c .enum-told .given .1)) ∙ answer-tag)
-
-returns-4 : tie.Need-returns-4
-returns-4 c = sym (ap answerOf (group-varint (c .before .before .before .before .args .g .now) (sym (c .before .before .head-of .ensures) ∙ c .enum-told2 .given .1)) ∙ answer-varint)
-
-returns-5 : tie.Need-returns-5
-returns-5 c = sym (ap answerOf (group-shape (c .before .before .before .before .args .g .now) (sym (c .before .before .head-of .ensures) ∙ c .enum-told3 .given .1)) ∙ answer-shape)
+returns-3 c = sym (ap answerOf (group-bad (c .before .before .before .before .before .args .g .now) _ (sym (c .before .before .before .head-of .ensures) ∙ c .before .fault .given .1)) ∙ answer-bad _)
 
 pub check-group-spec : {M : Type 1} → statement M
 check-group-spec =
@@ -64,11 +52,7 @@ check-group-spec =
     check-split-requires
     enum-known-degree-2
     check-dense-requires
-    enum-told
-    enum-told-2
-    enum-told-3
+    enum-known-fault
     returns
     returns-2
-    returns-3
-    returns-4
-    returns-5)
+    returns-3)

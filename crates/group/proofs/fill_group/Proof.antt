@@ -6,7 +6,7 @@ use mathlib.Core.List.{List}
 use mathlib.Core.Bool.{true, false}
 use Rattle.base.specs.Over.{over}
 use Rattle.group.specs.Group.{Partners, partnersOf, bytesOf}
-use Rattle.group.specs.Group.Laws.{group-tag, group-varint, group-shape, not-tag, not-varint, not-shape}
+use Rattle.group.specs.Group.Laws.{group-bad, not-bad}
 use Rattle.group.specs.Good.{Bytes, Fill, fill, fill-length}
 use borrow.Author.Needs.{needs}
 use Rattle.group.proofs.fill_group.Statement.{statement}
@@ -48,25 +48,13 @@ enum-told : tie.Need-enum-told
 enum-told c = search needs
 
 returns : tie.Need-returns
-returns c = absurd (not-tag (c .before .before .before .before .before .pre .0) (group-tag (c .before .before .before .before .before .args .g .now) (sym (c .before .before .head-of .ensures) ∙ c .enum-told .given .1)))
-
-enum-told-2 : tie.Need-enum-told-2
-enum-told-2 c = search needs
-
-returns-2 : tie.Need-returns-2
-returns-2 c = absurd (not-varint (c .before .before .before .before .before .pre .0) (group-varint (c .before .before .before .before .before .args .g .now) (sym (c .before .before .head-of .ensures) ∙ c .enum-told2 .given .1)))
-
-enum-told-3 : tie.Need-enum-told-3
-enum-told-3 c = search needs
-
-returns-3 : tie.Need-returns-3
-returns-3 c = absurd (not-shape (c .before .before .before .before .before .pre .0) (group-shape (c .before .before .before .before .before .args .g .now) (sym (c .before .before .head-of .ensures) ∙ c .enum-told3 .given .1)))
+returns c = absurd (not-bad (c .before .before .before .before .before .pre .0) (group-bad (c .before .before .before .before .before .args .g .now) _ (sym (c .before .before .head-of .ensures) ∙ c .enum-told .given .1)))
 
 same-length : tie.Need-same-length
 same-length c = search needs
 
-returns-4 : tie.Need-returns-4
-returns-4 c =
+returns-2 : tie.Need-returns-2
+returns-2 c =
     let a = c .before .before .before .before .before .before .before .before .before .before .args in
     let f = split (c .before .before .before .before) in
     c .before .before .fill-split .ensures ∙ ap (λ (w : Partners). over (bytesOf (partnersOf w)) (a .out .now)) (sym (f .walk))
@@ -74,8 +62,8 @@ returns-4 c =
 same-length-2 : tie.Need-same-length-2
 same-length-2 c = search needs
 
-returns-5 : tie.Need-returns-5
-returns-5 c =
+returns-3 : tie.Need-returns-3
+returns-3 c =
     let a = c .before .before .before .before .before .before .before .before .before .before .args in
     let p = c .before .before .before .before in
     c .before .before .fill-dense .ensures ∙ ap (λ (t : List ℕ). over t (a .out .now)) (dense p .payload (bytes p))
@@ -91,11 +79,7 @@ fill-group-spec =
     fill-dense-requires
     enum-told
     returns
-    enum-told-2
-    returns-2
-    enum-told-3
-    returns-3
     same-length
-    returns-4
+    returns-2
     same-length-2
-    returns-5)
+    returns-3)

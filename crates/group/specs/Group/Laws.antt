@@ -12,21 +12,23 @@ use borrow.Author.Tests.{lt-ltb, le-ltb, le-leb, lt-leb, leb-true, eq-eqb, ne-eq
 use Rattle.base.specs.Pick.{pick}
 use Rattle.codes.specs.declared.ids.Id.{Id}
 use Rattle.codes.specs.declared.varint.Varint.{Varint}
-use Rattle.codes.specs.declared.varint.Varint.the-variants.{Value, Cut, Long, Large}
+use Rattle.codes.specs.declared.varint.Varint.the-variants.{Value}
+use Rattle.codes.specs.declared.varint.Unread.{Unread}
 use Rattle.codes.specs.Little.{leAt}
 use Rattle.codes.specs.Ids.{halvesAt, numberOf, idBytes}
 use Rattle.codes.specs.Ids.Laws.{length-idBytes, upper}
 use Rattle.codes.specs.Varint.{varintAt}
 use Rattle.codes.specs.Varint.Laws.{varint-next, varint-from, from-cut, from-zero, from-value}
+use Rattle.group.specs.declared.fault.Fault.{Fault}
 use Rattle.group.specs.declared.head.Head.{Head}
 use Rattle.group.specs.declared.split.Step.{Step}
 use Rattle.group.specs.declared.Group.{Group}
-use Rattle.group.specs.Group.{Partners, good, badTag, badVarint, badShape, onVarint, splitStep, denseStep, stepAt, onStep, cons, walkFrom, floorOf, degreeOf, headOf, onHead, groupOf, isGood, partnersOf, bytesOf, answerOf}
+use Rattle.group.specs.Group.{Partners, good, bad, onVarint, splitStep, denseStep, stepAt, onStep, cons, walkFrom, floorOf, degreeOf, headOf, onHead, groupOf, isGood, partnersOf, bytesOf, answerOf}
 
 -- ---- a varint of at most one byte
 
 module _ (g : List ℕ) (i : ℕ) where
-  pub varint-none : length g ≤ i → varintAt g i ≡ Cut
+  pub varint-none : length g ≤ i → varintAt g i ≡ Varint.Bad Unread.Cut
   varint-none h = varint-from g i ∙ from-cut g i 0 1 9 h
 
   pub varint-short : i < length g → getD g i 0 < 128 → varintAt g i ≡ Value (getD g i 0) (i + 1)
@@ -41,24 +43,16 @@ module _ (g : List ℕ) (i : ℕ) where
 -- ---- a partner of a split group
 
 module _ (g : List ℕ) (i hi : ℕ) where
-  pub split-cut : varintAt g i ≡ Cut → splitStep g i hi ≡ Step.BadVarint
+  pub split-unread : (why : Unread) → varintAt g i ≡ Varint.Bad why → splitStep g i hi ≡ Step.Bad (Fault.Number why)
   unfolding splitStep onVarint
-  split-cut e = rw e
-
-  pub split-long : varintAt g i ≡ Long → splitStep g i hi ≡ Step.BadVarint
-  unfolding splitStep onVarint
-  split-long e = rw e
-
-  pub split-large : varintAt g i ≡ Large → splitStep g i hi ≡ Step.BadVarint
-  unfolding splitStep onVarint
-  split-large e = rw e
+  split-unread why e = rw e
 
   module _ (v n : ℕ) (e : varintAt g i ≡ Value v n) where
-    pub split-over : 2 ^ 64 ≤ hi + v → splitStep g i hi ≡ Step.BadShape
+    pub split-over : 2 ^ 64 ≤ hi + v → splitStep g i hi ≡ Step.Bad Fault.Shape
     unfolding splitStep onVarint
     split-over h = rw e (simp (le-ltb (hi + v) (2 ^ 64) h))
 
-    pub split-short : hi + v < 2 ^ 64 → length g < n + 8 → splitStep g i hi ≡ Step.BadShape
+    pub split-short : hi + v < 2 ^ 64 → length g < n + 8 → splitStep g i hi ≡ Step.Bad Fault.Shape
     unfolding splitStep onVarint
     split-short h s = rw e (simp (lt-ltb (hi + v) (2 ^ 64) h, lt-leb (n + 8) (length g) s))
 
@@ -82,16 +76,13 @@ module _ (g : List ℕ) (i hi : ℕ) (p : Id) (m : ℕ) (e : splitStep g i hi �
               let r = sym (split-good g i hi v n q h s) ∙ e in
               record { fits = h; room = s; partner = cc; place = cc }
           | no s ↦
-              let r : Step.BadShape ≡ Step.Partner p m = sym (split-short g i hi v n q h (omega arith)) ∙ e in
+              let r : Step.Bad Fault.Shape ≡ Step.Partner p m = sym (split-short g i hi v n q h (omega arith)) ∙ e in
               let z : _≡_ {A = ℕ} 0 1 = cc in absurd (omega arith)
         ]
         | no h ↦
-            let r : Step.BadShape ≡ Step.Partner p m = sym (split-over g i hi v n q (omega arith)) ∙ e in
+            let r : Step.Bad Fault.Shape ≡ Step.Partner p m = sym (split-over g i hi v n q (omega arith)) ∙ e in
             let z : _≡_ {A = ℕ} 0 1 = cc in absurd (omega arith)
       ]
-
-  is-varint : splitStep g i hi ≡ Step.BadVarint → ⊥
-  is-varint q = let z : _≡_ {A = ℕ} 0 1 = cc in omega arith
 
   -- there was a varint
   pub split-varint : (v : ℕ) × (n : ℕ) × (varintAt g i ≡ Value v n)
@@ -99,13 +90,13 @@ module _ (g : List ℕ) (i hi : ℕ) (p : Id) (m : ℕ) (e : splitStep g i hi �
     where
       go : (t : Varint) → varintAt g i ≡ t → (v : ℕ) × (n : ℕ) × (varintAt g i ≡ Value v n)
       go (Value v n) q = (v, n, q)
-      go Cut q = absurd (is-varint (split-cut g i hi q))
-      go Long q = absurd (is-varint (split-long g i hi q))
-      go Large q = absurd (is-varint (split-large g i hi q))
+      go (Varint.Bad why) q =
+          let r : Step.Bad (Fault.Number why) ≡ Step.Partner p m = sym (split-unread g i hi why q) ∙ e in
+          let z : _≡_ {A = ℕ} 0 1 = cc in absurd (omega arith)
 
 -- ---- a partner of a dense group
 
-pub dense-short : (g : List ℕ) (i : ℕ) → length g < i + 16 → denseStep g i ≡ Step.BadShape
+pub dense-short : (g : List ℕ) (i : ℕ) → length g < i + 16 → denseStep g i ≡ Step.Bad Fault.Shape
 unfolding denseStep
 dense-short g i h = simp (lt-leb (i + 16) (length g) h)
 
@@ -118,7 +109,7 @@ dense-read g i p m e =
     elim (decLe (i + 16) (length g)) [
       | yes h ↦ let r = sym (dense-good g i h) ∙ e in (h, cc, cc)
       | no h ↦
-          let r : Step.BadShape ≡ Step.Partner p m = sym (dense-short g i (omega arith)) ∙ e in
+          let r : Step.Bad Fault.Shape ≡ Step.Partner p m = sym (dense-short g i (omega arith)) ∙ e in
           let z : _≡_ {A = ℕ} 0 1 = cc in absurd (omega arith)
     ]
 
@@ -177,25 +168,17 @@ order-next k last p h = simp (ne-eqb k 0 h)
 -- ---- what stands before the partners
 
 module _ (g : List ℕ) where
-  pub head-cut : varintAt g 0 ≡ Cut → headOf g ≡ Head.BadVarint
+  pub head-unread : (why : Unread) → varintAt g 0 ≡ Varint.Bad why → headOf g ≡ Head.Bad (Fault.Number why)
   unfolding headOf degreeOf onVarint
-  head-cut e = rw e
-
-  pub head-long : varintAt g 0 ≡ Long → headOf g ≡ Head.BadVarint
-  unfolding headOf degreeOf onVarint
-  head-long e = rw e
-
-  pub head-large : varintAt g 0 ≡ Large → headOf g ≡ Head.BadVarint
-  unfolding headOf degreeOf onVarint
-  head-large e = rw e
+  head-unread why e = rw e
 
   module _ (d n : ℕ) (e : varintAt g 0 ≡ Value d n) where
-    pub head-none : d ≡ 0 → headOf g ≡ Head.BadShape
+    pub head-none : d ≡ 0 → headOf g ≡ Head.Bad Fault.Shape
     unfolding headOf degreeOf onVarint
     head-none h = rw e (simp (eq-eqb d 0 h))
 
     module _ (some : d ≡ 0 → ⊥) where
-      pub head-short : length g ≤ n → headOf g ≡ Head.BadShape
+      pub head-short : length g ≤ n → headOf g ≡ Head.Bad Fault.Shape
       unfolding headOf degreeOf onVarint
       head-short h = rw e (simp (ne-eqb d 0 some, le-leb (length g) n h))
 
@@ -209,7 +192,7 @@ module _ (g : List ℕ) where
         head-dense t =
             rw e (simp (ne-eqb d 0 some, lt-leb (length g) n h, ne-eqb (getD g n 0) 0x01 (λ q. omega arith), eq-eqb (getD g n 0) 0x10 t))
 
-        pub head-tag : (getD g n 0 ≡ 0x01 → ⊥) → (getD g n 0 ≡ 0x10 → ⊥) → headOf g ≡ Head.BadTag
+        pub head-tag : (getD g n 0 ≡ 0x01 → ⊥) → (getD g n 0 ≡ 0x10 → ⊥) → headOf g ≡ Head.Bad Fault.Tag
         unfolding headOf degreeOf onVarint
         head-tag a b = rw e (simp (ne-eqb d 0 some, lt-leb (length g) n h, ne-eqb (getD g n 0) 0x01 a, ne-eqb (getD g n 0) 0x10 b))
 
@@ -231,9 +214,7 @@ pub record Headed (g : List ℕ) (dense : Bool) (d i : ℕ) : Type 0 where
 walks : Head → Bool
 walks (Head.Split d i) = true
 walks (Head.Dense d i) = true
-walks Head.BadTag = false
-walks Head.BadVarint = false
-walks Head.BadShape = false
+walks (Head.Bad f) = false
 
 walks-is : (dense : Bool) (d i : ℕ) → walks (headIs dense d i) ≡ true
 unfolding walks
@@ -253,20 +234,18 @@ pub headed : (g : List ℕ) (dense : Bool) (d i : ℕ) → headOf g ≡ headIs d
 unfolding walks degreeOf
 headed g dense d i e = go (varintAt g 0) refl
   where
-    bad : (h : Head) → walks h ≡ false → headOf g ≡ h → Headed g dense d i
-    bad h f q =
-        let t : false ≡ true = sym f ∙ ap walks (sym q ∙ e) ∙ walks-is dense d i in
+    not : (f : Fault) → headOf g ≡ Head.Bad f → Headed g dense d i
+    not f q =
+        let t : false ≡ true = ap walks (sym q ∙ e) ∙ walks-is dense d i in
         let z : _≡_ {A = ℕ} 0 1 = cc in absurd (omega arith)
 
     go : (t : Varint) → varintAt g 0 ≡ t → Headed g dense d i
-    go Cut q = bad Head.BadVarint refl (head-cut g q)
-    go Long q = bad Head.BadVarint refl (head-long g q)
-    go Large q = bad Head.BadVarint refl (head-large g q)
+    go (Varint.Bad why) q = not (Fault.Number why) (head-unread g why q)
     go (Value c n) q =
         elim (ℕ-discrete c 0) [
-          | yes z ↦ bad Head.BadShape refl (head-none g c n q z)
+          | yes z ↦ not Fault.Shape (head-none g c n q z)
           | no z ↦ elim (decLt n (length g)) [
-            | no h ↦ bad Head.BadShape refl (head-short g c n q z (omega arith))
+            | no h ↦ not Fault.Shape (head-short g c n q z (omega arith))
             | yes h ↦ elim (ℕ-discrete (getD g n 0) 0x01) [
               | yes t ↦
                   let (k, same, place) = is-split dense c (n + 1) d i (sym (head-split g c n q z h t) ∙ e) in
@@ -275,7 +254,7 @@ headed g dense d i e = go (varintAt g 0) refl
                 | yes u ↦
                     let (k, same, place) = is-dense dense c (n + 1) d i (sym (head-dense g c n q z h u) ∙ e) in
                     record { some = omega arith; tag = n; degree = cc; tagged = rw k u; within = h; place = sym place }
-                | no u ↦ bad Head.BadTag refl (head-tag g c n q z h t u)
+                | no u ↦ not Fault.Tag (head-tag g c n q z h t u)
               ]
             ]
           ]
@@ -288,17 +267,9 @@ module _ (g : List ℕ) where
   group-walk true d i e = rw e
   group-walk false d i e = rw e
 
-  pub group-tag : headOf g ≡ Head.BadTag → groupOf g ≡ badTag
+  pub group-bad : (f : Fault) → headOf g ≡ Head.Bad f → groupOf g ≡ bad f
   unfolding groupOf onHead
-  group-tag e = rw e
-
-  pub group-varint : headOf g ≡ Head.BadVarint → groupOf g ≡ badVarint
-  unfolding groupOf onHead
-  group-varint e = rw e
-
-  pub group-shape : headOf g ≡ Head.BadShape → groupOf g ≡ badShape
-  unfolding groupOf onHead
-  group-shape e = rw e
+  group-bad f e = rw e
 
 -- ---- the walk by its cases
 
@@ -307,21 +278,17 @@ module _ (dense : Bool) (g : List ℕ) (i hi floor : ℕ) where
   unfolding walkFrom
   walk-end h = simp (eq-eqb i (length g) h)
 
-  pub walk-over : (i ≡ length g → ⊥) → walkFrom dense 0 g i hi floor ≡ badShape
+  pub walk-over : (i ≡ length g → ⊥) → walkFrom dense 0 g i hi floor ≡ bad Fault.Shape
   unfolding walkFrom
   walk-over h = simp (ne-eqb i (length g) h)
 
   module _ (d : ℕ) where
-    pub walk-varint : stepAt dense g i hi ≡ Step.BadVarint → walkFrom dense (suc d) g i hi floor ≡ badVarint
+    pub walk-bad : (f : Fault) → stepAt dense g i hi ≡ Step.Bad f → walkFrom dense (suc d) g i hi floor ≡ bad f
     unfolding walkFrom onStep
-    walk-varint e = rw e
-
-    pub walk-shape : stepAt dense g i hi ≡ Step.BadShape → walkFrom dense (suc d) g i hi floor ≡ badShape
-    unfolding walkFrom onStep
-    walk-shape e = rw e
+    walk-bad f e = rw e
 
     module _ (p : Id) (n : ℕ) (e : stepAt dense g i hi ≡ Step.Partner p n) where
-      pub walk-low : leb floor (numberOf p) ≡ false → walkFrom dense (suc d) g i hi floor ≡ badShape
+      pub walk-low : leb floor (numberOf p) ≡ false → walkFrom dense (suc d) g i hi floor ≡ bad Fault.Shape
       unfolding walkFrom onStep
       walk-low h = rw (e, h)
 
@@ -334,9 +301,7 @@ module _ (dense : Bool) (g : List ℕ) (i hi floor : ℕ) where
 cons-good : (p : Id) (w : Partners) (b : Bool) (ps : List Id) → cons p w ≡ good b ps → (qs : List Id) × (w ≡ good b qs) × (ps ≡ p ∷ qs)
 unfolding cons
 cons-good p (good c qs) b ps e = let same : c ≡ b = cc in (qs, ap (λ (t : Bool). good t qs) same, cc)
-cons-good p badTag b ps e = let z : _≡_ {A = ℕ} 0 1 = cc in absurd (omega arith)
-cons-good p badVarint b ps e = let z : _≡_ {A = ℕ} 0 1 = cc in absurd (omega arith)
-cons-good p badShape b ps e = let z : _≡_ {A = ℕ} 0 1 = cc in absurd (omega arith)
+cons-good p (bad f) b ps e = let z : _≡_ {A = ℕ} 0 1 = cc in absurd (omega arith)
 
 -- its first partner and the others
 pub record Turn (dense : Bool) (d : ℕ) (g : List ℕ) (i hi floor : ℕ) (b : Bool) (ps : List Id) : Type 0 where
@@ -358,16 +323,13 @@ module _ (dense : Bool) (g : List ℕ) (i hi floor : ℕ) (b : Bool) (ps : List 
           let (qs, r, all) = cons-good p w b ps (sym (walk-more dense g i hi floor d p n q l) ∙ e) in
           record { partner = p; next = n; others = qs; step = q; order = leb-true floor (numberOf p) l; rest = r; all = all }
       low p n q false l =
-          let r : badShape ≡ good b ps = sym (walk-low dense g i hi floor d p n q l) ∙ e in
+          let r : bad Fault.Shape ≡ good b ps = sym (walk-low dense g i hi floor d p n q l) ∙ e in
           let z : _≡_ {A = ℕ} 0 1 = cc in absurd (omega arith)
 
       go : (t : Step) → stepAt dense g i hi ≡ t → Turn dense d g i hi floor b ps
       go (Step.Partner p n) q = low p n q (leb floor (numberOf p)) refl
-      go Step.BadVarint q =
-          let r : badVarint ≡ good b ps = sym (walk-varint dense g i hi floor d q) ∙ e in
-          let z : _≡_ {A = ℕ} 0 1 = cc in absurd (omega arith)
-      go Step.BadShape q =
-          let r : badShape ≡ good b ps = sym (walk-shape dense g i hi floor d q) ∙ e in
+      go (Step.Bad f) q =
+          let r : bad f ≡ good b ps = sym (walk-bad dense g i hi floor d f q) ∙ e in
           let z : _≡_ {A = ℕ} 0 1 = cc in absurd (omega arith)
 
   -- and its end
@@ -376,7 +338,7 @@ module _ (dense : Bool) (g : List ℕ) (i hi floor : ℕ) (b : Bool) (ps : List 
       elim (ℕ-discrete i (length g)) [
         | yes h ↦ let r = sym (walk-end dense g i hi floor h) ∙ e in (h, cc, cc)
         | no h ↦
-            let r : badShape ≡ good b ps = sym (walk-over dense g i hi floor h) ∙ e in
+            let r : bad Fault.Shape ≡ good b ps = sym (walk-over dense g i hi floor h) ∙ e in
             let z : _≡_ {A = ℕ} 0 1 = cc in absurd (omega arith)
       ]
 
@@ -386,17 +348,9 @@ pub answer-good : (dense : Bool) (ps : List Id) → answerOf (good dense ps) ≡
 unfolding answerOf
 answer-good dense ps = refl
 
-pub answer-tag : answerOf badTag ≡ Group.BadTag
+pub answer-bad : (f : Fault) → answerOf (bad f) ≡ Group.Bad f
 unfolding answerOf
-answer-tag = refl
-
-pub answer-varint : answerOf badVarint ≡ Group.BadVarint
-unfolding answerOf
-answer-varint = refl
-
-pub answer-shape : answerOf badShape ≡ Group.BadShape
-unfolding answerOf
-answer-shape = refl
+answer-bad f = refl
 
 pub partners-good : (dense : Bool) (ps : List Id) → partnersOf (good dense ps) ≡ ps
 unfolding partnersOf
@@ -411,29 +365,23 @@ pub answered-good : (w : Partners) (n : ℕ) (dense : Bool) → answerOf w ≡ G
     → (w ≡ good dense (partnersOf w)) × (isGood w ≡ true) × (length (partnersOf w) ≡ n)
 unfolding answerOf partnersOf isGood
 answered-good (good b ps) n dense e = let same : b ≡ dense = cc in (ap (λ (t : Bool). good t ps) same, refl, cc)
-answered-good badTag n dense e = let z : _≡_ {A = ℕ} 0 1 = cc in absurd (omega arith)
-answered-good badVarint n dense e = let z : _≡_ {A = ℕ} 0 1 = cc in absurd (omega arith)
-answered-good badShape n dense e = let z : _≡_ {A = ℕ} 0 1 = cc in absurd (omega arith)
+answered-good (bad f) n dense e = let z : _≡_ {A = ℕ} 0 1 = cc in absurd (omega arith)
+
+-- and a bad one is that of a fault
+pub answered-bad : (w : Partners) (f : Fault) → answerOf w ≡ Group.Bad f → w ≡ bad f
+unfolding answerOf
+answered-bad (good dense ps) f e = let z : _≡_ {A = ℕ} 0 1 = cc in absurd (omega arith)
+answered-bad (bad x) f e = cc
 
 -- what is good has partners
 pub good-is : (w : Partners) → isGood w ≡ true → (dense : Bool) × (w ≡ good dense (partnersOf w))
 unfolding isGood partnersOf
 good-is (good dense ps) e = (dense, refl)
-good-is badTag e = let z : _≡_ {A = ℕ} 0 1 = cc in absurd (omega arith)
-good-is badVarint e = let z : _≡_ {A = ℕ} 0 1 = cc in absurd (omega arith)
-good-is badShape e = let z : _≡_ {A = ℕ} 0 1 = cc in absurd (omega arith)
+good-is (bad f) e = let z : _≡_ {A = ℕ} 0 1 = cc in absurd (omega arith)
 
-pub not-tag : {w : Partners} → isGood w ≡ true → w ≡ badTag → ⊥
+pub not-bad : {w : Partners} {f : Fault} → isGood w ≡ true → w ≡ bad f → ⊥
 unfolding isGood
-not-tag h e = let z : _≡_ {A = ℕ} 0 1 = cc (ap isGood e) in omega arith
-
-pub not-varint : {w : Partners} → isGood w ≡ true → w ≡ badVarint → ⊥
-unfolding isGood
-not-varint h e = let z : _≡_ {A = ℕ} 0 1 = cc (ap isGood e) in omega arith
-
-pub not-shape : {w : Partners} → isGood w ≡ true → w ≡ badShape → ⊥
-unfolding isGood
-not-shape h e = let z : _≡_ {A = ℕ} 0 1 = cc (ap isGood e) in omega arith
+not-bad h e = let z : _≡_ {A = ℕ} 0 1 = cc (ap isGood e) in omega arith
 
 pub length-bytesOf : (ps : List Id) → length (bytesOf ps) ≡ 16 * length ps
 unfolding bytesOf
@@ -444,23 +392,17 @@ length-bytesOf (p ∷ ps) = rw length-append (omega (arith, length-bytesOf ps, l
 
 counted : ℕ → Group → Group
 counted k (Group.Good n dense) = Group.Good (k + n) dense
-counted k Group.BadTag = Group.BadTag
-counted k Group.BadVarint = Group.BadVarint
-counted k Group.BadShape = Group.BadShape
+counted k (Group.Bad f) = Group.Bad f
 
 counted-none : (r : Group) → counted 0 r ≡ r
 unfolding counted
 counted-none (Group.Good n dense) = ap (λ (t : ℕ). Group.Good t dense) (zero-add n)
-counted-none Group.BadTag = refl
-counted-none Group.BadVarint = refl
-counted-none Group.BadShape = refl
+counted-none (Group.Bad f) = refl
 
 counted-cons : (k : ℕ) (p : Id) (w : Partners) → counted k (answerOf (cons p w)) ≡ counted (k + 1) (answerOf w)
 unfolding counted answerOf cons
 counted-cons k p (good dense ps) = ap (λ (t : ℕ). Group.Good t dense) (omega arith)
-counted-cons k p badTag = refl
-counted-cons k p badVarint = refl
-counted-cons k p badShape = refl
+counted-cons k p (bad f) = refl
 
 module _ (dense : Bool) (g : List ℕ) (at degree : ℕ) where
   abbrev pub answered : Group
@@ -485,7 +427,7 @@ module _ (dense : Bool) (g : List ℕ) (at degree : ℕ) where
           check-last ∙ ap (λ (w : Partners). counted k (answerOf w)) (walk-end dense g i hi floor e)
           ∙ ap (λ (t : ℕ). Group.Good t dense) (omega arith)
 
-      pub check-over : (i ≡ length g → ⊥) → answered ≡ Group.BadShape
+      pub check-over : (i ≡ length g → ⊥) → answered ≡ Group.Bad Fault.Shape
       unfolding counted answerOf
       check-over e = check-last ∙ ap (λ (w : Partners). counted k (answerOf w)) (walk-over dense g i hi floor e)
 
@@ -494,16 +436,12 @@ module _ (dense : Bool) (g : List ℕ) (at degree : ℕ) where
       unfolding Checked
       check-rest = let e : degree - k ≡ suc (degree - (k + 1)) = omega arith in (rw e at l)
 
-      pub check-varint : stepAt dense g i hi ≡ Step.BadVarint → answered ≡ Group.BadVarint
+      pub check-bad : (f : Fault) → stepAt dense g i hi ≡ Step.Bad f → answered ≡ Group.Bad f
       unfolding counted answerOf
-      check-varint e = check-rest ∙ ap (λ (w : Partners). counted k (answerOf w)) (walk-varint dense g i hi floor (degree - (k + 1)) e)
-
-      pub check-shape : stepAt dense g i hi ≡ Step.BadShape → answered ≡ Group.BadShape
-      unfolding counted answerOf
-      check-shape e = check-rest ∙ ap (λ (w : Partners). counted k (answerOf w)) (walk-shape dense g i hi floor (degree - (k + 1)) e)
+      check-bad f e = check-rest ∙ ap (λ (w : Partners). counted k (answerOf w)) (walk-bad dense g i hi floor (degree - (k + 1)) f e)
 
       module _ (p : Id) (n : ℕ) (e : stepAt dense g i hi ≡ Step.Partner p n) where
-        pub check-low : leb floor (numberOf p) ≡ false → answered ≡ Group.BadShape
+        pub check-low : leb floor (numberOf p) ≡ false → answered ≡ Group.Bad Fault.Shape
         unfolding counted answerOf
         check-low q = check-rest ∙ ap (λ (w : Partners). counted k (answerOf w)) (walk-low dense g i hi floor (degree - (k + 1)) p n e q)
 
@@ -522,7 +460,7 @@ unfolding floorOf
 floor-next k last h = simp (ne-eqb k 0 h)
 
 -- a dense payload of another length has a fault, and every fault of it is a bad shape
-pub dense-unfit : (d : ℕ) (g : List ℕ) (i hi floor : ℕ) → (i + 16 * d ≡ length g → ⊥) → walkFrom true d g i hi floor ≡ badShape
+pub dense-unfit : (d : ℕ) (g : List ℕ) (i hi floor : ℕ) → (i + 16 * d ≡ length g → ⊥) → walkFrom true d g i hi floor ≡ bad Fault.Shape
 unfolding cons
 dense-unfit zero g i hi floor h = walk-over true g i hi floor (λ q. h (omega arith))
 dense-unfit (suc d) g i hi floor h =
@@ -535,7 +473,7 @@ dense-unfit (suc d) g i hi floor h =
             | yes o ↦ walk-more true g i hi floor d p (i + 16) s (le-leb floor (numberOf p) o) ∙ ap (cons p) ih
             | no o ↦ walk-low true g i hi floor d p (i + 16) s (lt-leb floor (numberOf p) (omega arith))
           ]
-      | no r ↦ walk-shape true g i hi floor d (step-dense g i hi ∙ dense-short g i (omega arith))
+      | no r ↦ walk-bad true g i hi floor d Fault.Shape (step-dense g i hi ∙ dense-short g i (omega arith))
     ]
 
 -- ---- as a fill meets them: the rest of a good group is good
@@ -575,17 +513,8 @@ module _ (g : List ℕ) (i hi floor : ℕ) where
           bytes = ap bytesOf (t .all) ∙ ap (λ (x : List Id). idBytes p ++ bytesOf x) (sym (ap partnersOf rest ∙ partners-good b (t .others)));
         }
 
-    no-fault : splitStep g i hi ≡ Step.BadVarint → ⊥
-    no-fault q = not-varint ok (walk-varint false g i hi floor d (step-split g i hi ∙ q))
-
-    pub fill-cut : varintAt g i ≡ Cut → ⊥
-    fill-cut q = no-fault (split-cut g i hi q)
-
-    pub fill-long : varintAt g i ≡ Long → ⊥
-    fill-long q = no-fault (split-long g i hi q)
-
-    pub fill-large : varintAt g i ≡ Large → ⊥
-    fill-large q = no-fault (split-large g i hi q)
+    pub fill-read : (why : Unread) → varintAt g i ≡ Varint.Bad why → ⊥
+    fill-read why q = not-bad ok (walk-bad false g i hi floor d (Fault.Number why) (step-split g i hi ∙ split-unread g i hi why q))
 
   -- nothing is left
   pub fill-end : bytesOf (partnersOf (walkFrom false 0 g i hi floor)) ≡ []

@@ -66,6 +66,23 @@ plan-fits f room = go (fileCheck f) (ltb room (needed f)) refl
     go Check.Fine true e = omega arith
     go Check.Fine false e = ltb-false room (needed f) e
 
+-- how many rows are written: those that the answer tells, and none where it is refused
+pub plan-done : (f : List ℕ) (room n : ℕ) → answerOf f room ≡ Listed.Done n → planOf f room .n ≡ n
+unfolding planOf planned
+plan-done f room n = go (listCheck f room)
+  where
+    go : (c : Check) → planned c (needed f) .answer ≡ Listed.Done n → planned c (needed f) .n ≡ n
+    go Check.Fine e = cc
+    go (Check.Bad q) e = let z : _≡_ {A = ℕ} 0 1 = cc in absurd (omega arith)
+
+pub plan-refused : (f : List ℕ) (room : ℕ) (r : Refusal) → answerOf f room ≡ Listed.Refused r → planOf f room .n ≡ 0
+unfolding planOf planned
+plan-refused f room r = go (listCheck f room)
+  where
+    go : (c : Check) → planned c (needed f) .answer ≡ Listed.Refused r → planned c (needed f) .n ≡ 0
+    go Check.Fine e = let z : _≡_ {A = ℕ} 0 1 = cc in absurd (omega arith)
+    go (Check.Bad q) e = refl
+
 -- ---- rows
 
 pub entry-there : (s : Section) (r : Row) → s ≡ Section.Entry r → r ≡ entry s
@@ -84,12 +101,8 @@ length-listed f (suc n) ys = simp length-set (length-listed f n ys)
 
 -- a refusal leaves the whole table
 pub refused-leaves : (f : List ℕ) (room : ℕ) (r : Refusal) (ys : List Row) → answerOf f room ≡ Listed.Refused r → listed f (planOf f room .n) ys ≡ ys
-unfolding planOf planned listed
-refused-leaves f room r ys = go (listCheck f room)
-  where
-    go : (c : Check) → planned c (needed f) .answer ≡ Listed.Refused r → listed f (planned c (needed f) .n) ys ≡ ys
-    go Check.Fine e = let z : _≡_ {A = ℕ} 0 1 = cc in absurd (omega arith)
-    go (Check.Bad q) e = refl
+unfolding listed
+refused-leaves f room r ys e = ap (λ (n : ℕ). listed f n ys) (plan-refused f room r e)
 
 -- ---- where the count stands
 

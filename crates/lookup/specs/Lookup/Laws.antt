@@ -8,7 +8,8 @@ use mathlib.Core.List.{List, [], _∷_}
 use lib.ListN.{length, getD, set, List·getD-eq-default}
 use lib.Seq.{sets}
 use Rattle.codes.specs.Little.{leAt}
-use Rattle.lookup.specs.Lookup.{logsFrom, markAt, marksFrom}
+use Rattle.lookup.specs.declared.Looked.{Looked}
+use Rattle.lookup.specs.Lookup.{Outcome, found, absent, refused, logsFrom, markAt, marksFrom, answerOf, partnersLeft, logsLeft, marksLeft}
 
 -- ---- log numbers and dead marks
 
@@ -54,3 +55,13 @@ pub mark-none : (s : List ℕ) (e : ℕ) → length s ≤ e / 8 → markAt s e �
 mark-none s e h =
     let z : getD s (e / 8) 0 ≡ 0 = List·getD-eq-default s 0 h in
     rw (z, zero-div (2 ^ (e % 8)))
+
+-- ---- the outputs
+
+-- where nothing is found, each output is left as it was
+pub unfound-leaves : (x : Outcome) → ((d i c : ℕ) → answerOf x ≡ Looked.Found d i c → ⊥) → (o l m : List ℕ)
+    → (partnersLeft x o ≡ o) × (logsLeft x l ≡ l) × (marksLeft x m ≡ m)
+unfolding answerOf partnersLeft logsLeft marksLeft
+unfound-leaves (found i c ps logs marks) h o l m = absurd (h (length ps) i c refl)
+unfound-leaves (absent c) h o l m = (refl, refl, refl)
+unfound-leaves (refused r) h o l m = (refl, refl, refl)

@@ -16,9 +16,10 @@ use Rattle.codes.specs.Little.{leAt}
 use Rattle.codes.specs.Ids.{numberOf, halvesAt}
 use Rattle.frame.specs.Open.{offsetAt}
 use Rattle.index.specs.Order.{Offsets}
+use Rattle.group.specs.declared.fault.Fault.{Fault}
 use Rattle.group.specs.declared.split.Step.{Step}
 use Rattle.group.specs.Group.{Partners, good, stepAt, walkFrom, groupOf, isGood, partnersOf}
-use Rattle.group.specs.Group.Laws.{walk-end, walk-over, walk-varint, walk-shape, Turn, good-turn, good-is, good-good, partners-good, not-varint, not-shape}
+use Rattle.group.specs.Group.Laws.{walk-end, walk-over, walk-bad, Turn, good-turn, good-is, good-good, partners-good, not-bad}
 use Rattle.lookup.specs.Lookup.{markAt}
 use Rattle.batch.specs.declared.Edge.{Edge}
 use Rattle.batch.specs.Batch.{place, edgeBytes, recordsOf}
@@ -53,11 +54,8 @@ module _ (dense : Bool) (g : List ℕ) (i hi floor d : ℕ) (ok : isGood (walkFr
       sym (ap₂ (λ (x : Id) (y : ℕ). walkFrom dense d g y (x .hi) (suc (numberOf x))) who next) ∙ t .rest in
       (ap isGood rest ∙ good-good b (t .others), t .all ∙ ap₂ (λ (x : Id) (y : List Id). x ∷ y) who (sym (ap partnersOf rest ∙ partners-good b (t .others))))
 
-  pub walk-no-varint : stepAt dense g i hi ≡ Step.BadVarint → ⊥
-  walk-no-varint q = not-varint ok (walk-varint dense g i hi floor d q)
-
-  pub walk-no-shape : stepAt dense g i hi ≡ Step.BadShape → ⊥
-  walk-no-shape q = not-shape ok (walk-shape dense g i hi floor d q)
+  pub walk-not-bad : (f : Fault) → stepAt dense g i hi ≡ Step.Bad f → ⊥
+  walk-not-bad f q = not-bad ok (walk-bad dense g i hi floor d f q)
 
 pub walk-none : (dense : Bool) (g : List ℕ) (i hi floor : ℕ) → partnersOf (walkFrom dense 0 g i hi floor) ≡ []
 unfolding partnersOf
@@ -98,11 +96,8 @@ module _ (dense : Bool) (g : List ℕ) (at d : ℕ) (key : Id) (logs dead : List
       ok : isGood (walkFrom dense (suc (d - (k + 1))) g i hi (h .floor)) ≡ true
       ok = rw more at (h .good)
 
-      pub giving-no-varint : stepAt dense g i hi ≡ Step.BadVarint → ⊥
-      giving-no-varint q = walk-no-varint dense g i hi (h .floor) (d - (k + 1)) ok q
-
-      pub giving-no-shape : stepAt dense g i hi ≡ Step.BadShape → ⊥
-      giving-no-shape q = walk-no-shape dense g i hi (h .floor) (d - (k + 1)) ok q
+      pub giving-not-bad : (f : Fault) → stepAt dense g i hi ≡ Step.Bad f → ⊥
+      giving-not-bad f q = walk-not-bad dense g i hi (h .floor) (d - (k + 1)) ok f q
 
       module _ (p : Id) (n : ℕ) (q : stepAt dense g i hi ≡ Step.Partner p n) where
         this : Edge

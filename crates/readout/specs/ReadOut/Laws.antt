@@ -155,6 +155,15 @@ module _ (f o : List ℕ) where
         let c = rest false (le-ltb _ _ h) in
         (sym (ap₂ answerOf c needs), q ∙ sym (ap₂ (λ (x : Check) (y : Opened). leaves x (batchBytes (headingIn f) (edgesIn (knownOf f y))) o) c same))
 
+-- a refusal leaves the output as it was
+pub refused-leaves : (f o : List ℕ) (q : Refusal) → readOutOf f (length o) ≡ ReadOut.Refused q → readOutLeaves f o ≡ o
+unfolding readOutOf readOutLeaves answerOf leaves
+refused-leaves f o q = go (readCheck f (length o))
+  where
+    go : (c : Check) → answerOf c (neededFor f) ≡ ReadOut.Refused q → leaves c (batchIn f) o ≡ o
+    go Check.Fine e = let z : _≡_ {A = ℕ} 0 1 = cc in absurd (omega arith)
+    go (Check.Bad r) e = refl
+
 -- ---- the sections by other names, as they are lent
 
 pub readable-at : {k l p q o r s t : List ℕ} {w n : ℕ} → k ≡ l → p ≡ q → o ≡ r → s ≡ t → Readable l q r w t n → Readable k p o w s n

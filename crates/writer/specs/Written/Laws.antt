@@ -58,3 +58,8 @@ module _ (s o : List ℕ) where
         let fits : fitted (Written.Done size) (length o) ≡ Written.Done size = simp (le-leb size (length o) l) in
         let answer : Written.Done size ≡ fitted (neededOf s) (length o) = sym fits ∙ ap (λ (w : Written). fitted w (length o)) e in
         record { answer = answer; output = f ∙ ap (λ (w : Written). leaves w (fileIn s) o) answer }
+
+-- a refusal leaves the output as it was
+pub refused-leaves : (s o : List ℕ) (q : Refusal) → writtenOf s (length o) ≡ Written.Refused q → leaves (writtenOf s (length o)) (fileIn s) o ≡ o
+unfolding leaves
+refused-leaves s o q e = ap (λ (w : Written). leaves w (fileIn s) o) e

@@ -9,7 +9,7 @@ use lib.ListN.{length, getD}
 use lib.Dec.{lit<}
 use lib.Arith.{digits-lt}
 use Rattle.codes.specs.declared.varint.Varint.{Varint}
-use Rattle.codes.specs.declared.varint.Varint.the-variants.{Value, Cut, Long, Large}
+use Rattle.codes.specs.declared.varint.Varint.the-variants.{Value}
 use Rattle.codes.specs.Varint.{varFrom, varintAt}
 use Rattle.codes.specs.Varint.Laws.{varint-from, from-none, from-cut, from-more, from-long, from-zero, from-value, from-large}
 use Rattle.codes.proofs.varint.varint_at.Statement.{statement}
@@ -71,8 +71,8 @@ returns-2 c =
     let byte = c .before .before .before .shared-slice-known .given (l .i) in
     sym (from-long (a .s .now) (l .i) (l .x) (l .m) (9 - l .k) (omega arith) (omega arith) (omega arith)) ∙ w
 
-add-t14 : tie.Need-add-t14 Inv-loop μ-loop
-add-t14 c = omega arith
+add-t16 : tie.Need-add-t16 Inv-loop μ-loop
+add-t16 c = omega arith
 
 returns-3 : tie.Need-returns-3 Inv-loop μ-loop
 returns-3 c =
@@ -91,15 +91,15 @@ returns-4 c =
     let big : 2 ^ 64 ≤ l .x + getD (a .s .now) (l .i) 0 * l .m = rw (weight (a .s .now) (a .at) (l .i) (l .x) (l .m) (l .k) (l .inv) (omega arith) (omega arith)) (omega arith) in
     sym (from-large (a .s .now) (l .i) (l .x) (l .m) (9 - l .k) (omega arith) (omega arith) (omega arith) big) ∙ w
 
-add-t16 : tie.Need-add-t16 Inv-loop μ-loop
-add-t16 c =
+add-t19 : tie.Need-add-t19 Inv-loop μ-loop
+add-t19 c =
     let a = c .before .before .before .before .before .before .before .before .args in
     let l = c .before .before .before .before .before .before .before .loop in
     let byte = c .before .before .before .before .shared-slice-known .given (l .i) in
     omega (arith, weight (a .s .now) (a .at) (l .i) (l .x) (l .m) (l .k) (l .inv) (omega arith) (omega arith))
 
-add-t17 : tie.Need-add-t17 Inv-loop μ-loop
-add-t17 c = omega arith
+add-t20 : tie.Need-add-t20 Inv-loop μ-loop
+add-t20 c = omega arith
 
 returns-5 : tie.Need-returns-5 Inv-loop μ-loop
 returns-5 c =
@@ -112,22 +112,22 @@ returns-5 c =
     let fits : l .x + getD (a .s .now) (l .i) 0 * l .m < 2 ^ 64 = rw e (omega (arith, weight (a .s .now) (a .at) (l .i) (l .x) (l .m) (l .k) (l .inv) (omega arith) (omega arith))) in
     sym (from-value (a .s .now) (l .i) (l .x) (l .m) (9 - l .k) (omega arith) (omega arith) (omega arith) fits ∙ ap (λ (v : ℕ). Value v (l .i + 1)) e) ∙ w
 
-mul-t18 : tie.Need-mul-t18 Inv-loop μ-loop
-mul-t18 c =
+mul-t21 : tie.Need-mul-t21 Inv-loop μ-loop
+mul-t21 c =
     let a = c .before .before .before .before .before .before .before .args in
     let l = c .before .before .before .before .before .before .loop in
     let byte = c .before .before .before .shared-slice-known .given (l .i) in
     omega (arith, digit (a .s .now) (a .at) (l .i) (l .x) (l .m) (l .k) (l .inv) (omega arith) (getD (a .s .now) (l .i) 0) (omega arith), small (a .s .now) (a .at) (l .i) (l .x) (l .m) (l .k) (l .inv) (omega arith) (omega arith))
 
-add-t19 : tie.Need-add-t19 Inv-loop μ-loop
-add-t19 c =
+add-t22 : tie.Need-add-t22 Inv-loop μ-loop
+add-t22 c =
     let a = c .before .before .before .before .before .before .before .args in
     let l = c .before .before .before .before .before .before .loop in
     let byte = c .before .before .before .shared-slice-known .given (l .i) in
     omega (arith, digit (a .s .now) (a .at) (l .i) (l .x) (l .m) (l .k) (l .inv) (omega arith) (getD (a .s .now) (l .i) 0) (omega arith), small (a .s .now) (a .at) (l .i) (l .x) (l .m) (l .k) (l .inv) (omega arith) (omega arith))
 
-add-t20 : tie.Need-add-t20 Inv-loop μ-loop
-add-t20 c = omega arith
+add-t23 : tie.Need-add-t23 Inv-loop μ-loop
+add-t23 c = omega arith
 
 returns-6 : tie.Need-returns-6 Inv-loop μ-loop
 returns-6 c =
@@ -202,15 +202,15 @@ varint-at-spec =
     shared-slice-read-b
     cast-b
     returns-2
-    add-t14
+    add-t16
     returns-3
     returns-4
-    add-t16
-    add-t17
-    returns-5
-    mul-t18
     add-t19
     add-t20
+    returns-5
+    mul-t21
+    add-t22
+    add-t23
     returns-6
     returns-7
     mul-x

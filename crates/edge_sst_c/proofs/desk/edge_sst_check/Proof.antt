@@ -29,7 +29,7 @@ returns : tie.Need-returns
 returns c = check-fine _ (sym (c .before .before .check .ensures) ∙ c .enum-told .given .1)
 
 returns-2 : tie.Need-returns-2
-returns-2 c = check-bad _ _ (sym (c .before .before .before .before .before .check .ensures) ∙ c .before .before .before .refusal .given .1) (c .before .told-of .ensures .0) (c .before .told-of .ensures .1)
+returns-2 c = check-bad _ _ (sym (c .before .before .before .before .before .check .ensures) ∙ c .before .before .before .refusal .given .1) (c .before .told-of .ensures .0) (c .before .told-of .ensures .1) (c .before .told-of .ensures .2)
 
 pub edge-sst-check-spec : {M : Type 1} → statement M
 edge-sst-check-spec =

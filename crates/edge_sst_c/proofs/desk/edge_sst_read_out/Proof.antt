@@ -35,7 +35,7 @@ same-length-2 : tie.Need-same-length-2
 same-length-2 c = search needs
 
 returns-2 : tie.Need-returns-2
-returns-2 c = (read-refused _ _ (sym (c .before .before .before .before .before .before .before .read-out .ensures .0) ∙ c .before .before .before .refusal .given .1) (c .before .told-of .ensures .0) (c .before .told-of .ensures .1), c .before .before .before .before .before .before .before .read-out .ensures .1)
+returns-2 c = (read-refused _ _ (sym (c .before .before .before .before .before .before .before .read-out .ensures .0) ∙ c .before .before .before .refusal .given .1) (c .before .told-of .ensures .0) (c .before .told-of .ensures .1) (c .before .told-of .ensures .2), c .before .before .before .before .before .before .before .read-out .ensures .1)
 
 pub edge-sst-read-out-spec : {M : Type 1} → statement M
 edge-sst-read-out-spec =

@@ -23,7 +23,7 @@ returns : tie.Need-returns
 returns c = listed-done _ _ (c .before .l .given .1)
 
 returns-2 : tie.Need-returns-2
-returns-2 c = listed-refused _ _ (c .before .before .before .l2 .given .1) (c .before .told-of .ensures .0) (c .before .told-of .ensures .1)
+returns-2 c = listed-refused _ _ (c .before .before .before .l2 .given .1) (c .before .told-of .ensures .0) (c .before .told-of .ensures .1) (c .before .told-of .ensures .2)
 
 pub listed-told-spec : {M : Type 1} → statement M
 listed-told-spec =

@@ -81,7 +81,7 @@ same-length : tie.Need-same-length
 same-length c = search needs
 
 returns : tie.Need-returns
-returns c = let a = c .before .before .before .args in seven (a .out .now) (a .at) (a .r .kind) (a .r .codec) (a .r .nameat) (a .r .namelen) (a .r .start) (a .r .len) (a .r .sum)
+returns c = let a = c .before .before .before .args in seven (a .out .now) (a .at) _ _ _ _ _ _ _
 
 pub put-row-spec : {M : Type 1} → statement M
 put-row-spec =

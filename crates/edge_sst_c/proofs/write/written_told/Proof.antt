@@ -24,7 +24,7 @@ returns : tie.Need-returns
 returns c = written-done _ _ (c .before .w .given .1)
 
 returns-2 : tie.Need-returns-2
-returns-2 c = written-refused _ _ (c .before .before .before .w2 .given .1) (c .before .told-of .ensures .0) (c .before .told-of .ensures .1)
+returns-2 c = written-refused _ _ (c .before .before .before .w2 .given .1) (c .before .told-of .ensures .0) (c .before .told-of .ensures .1) (c .before .told-of .ensures .2)
 
 pub written-told-spec : {M : Type 1} → statement M
 written-told-spec =

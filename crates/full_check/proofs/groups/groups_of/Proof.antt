@@ -1,11 +1,10 @@
 -- `full_check::groups::groups_of` meets its contract. Invariant: `Walk`, of the groups that are passed.
-use mathlib.Core.Path.{_≡_, refl, sym, _∙_}
+use mathlib.Core.Path.{_≡_, sym, ap, _∙_}
 use mathlib.Core.Bool.{false}
 use Prim.Native.Nat.{_+_, _-_, _*_, _≤_}
 use native.Mathlib.Nat.{mul-le-mul-right}
-use Rattle.refusal.specs.declared.Refusal.{Refusal}
-use Rattle.group.specs.declared.Group.{Group}
-use Rattle.full_check.specs.Full.Laws.{faultOf, Walk, walk-start, walk-rises, walk-bad, walk-few, walk-on, walk-end}
+use Rattle.full_check.specs.declared.groups.Groups.{Groups}
+use Rattle.full_check.specs.Full.Laws.{Walk, walk-start, walk-rises, walk-bad, walk-few, walk-on, walk-end}
 use borrow.Author.Needs.{needs}
 use native.Mathlib.Omega.{arith}
 use Rattle.full_check.proofs.groups.groups_of.Statement.{statement}
@@ -80,44 +79,22 @@ loop-again c = let a = c .before .before .before .before .before .before .before
     let l = c .before .before .before .before .before .before .before .before .loop in
     walk-on (a .partners .now) (a .offs .now) (a .w) (a .n) (c .before .before .before .before .before .before .before .before .before .before .before .pre .4) (l .i) (l .a) (l .edges) (l .dense) (l .inv) (omega arith) (c .before .before .before .before .before .before .offset-at .ensures .0) _ _ (sym (c .before .before .before .before .check-group .ensures) ∙ c .before .before .degree .given .1) (c .either .ensures)
 
-enum-told : tie.Need-enum-told Inv-loop μ-loop
-enum-told c = search needs
+enum-known-fault : tie.Need-enum-known-fault Inv-loop μ-loop
+enum-known-fault c = search needs
+
+refusal-of-requires : tie.Need-refusal-of-requires Inv-loop μ-loop
+refusal-of-requires c κs = search needs
 
 refused-requires : tie.Need-refused-requires Inv-loop μ-loop
 refused-requires c κs = search needs
 
 returns : tie.Need-returns Inv-loop μ-loop
-unfolding faultOf
-returns c = let a = c .before .before .before .before .before .before .before .before .before .before .args in
-    let l = c .before .before .before .before .before .before .before .loop in
-    c .refused .ensures ∙ sym (walk-bad (a .partners .now) (a .offs .now) (a .w) (a .n) (c .before .before .before .before .before .before .before .before .before .before .pre .4) (l .i) (l .a) (l .edges) (l .dense) (l .inv) (omega arith) (c .before .before .before .before .before .offset-at .ensures .0) Group.BadTag (Refusal.Tag (l .i)) (sym (c .before .before .before .check-group .ensures) ∙ c .before .enum-told .given .1) refl)
-
-enum-told-2 : tie.Need-enum-told-2 Inv-loop μ-loop
-enum-told-2 c = search needs
-
-refused-requires-2 : tie.Need-refused-requires-2 Inv-loop μ-loop
-refused-requires-2 c κs = search needs
+returns c = let a = c .before .before .before .before .before .before .before .before .before .before .before .before .args in
+    let l = c .before .before .before .before .before .before .before .before .before .loop in
+    c .refused .ensures ∙ ap Groups.Refused (c .before .refusal-of .ensures) ∙ sym (walk-bad (a .partners .now) (a .offs .now) (a .w) (a .n) (c .before .before .before .before .before .before .before .before .before .before .before .before .pre .4) (l .i) (l .a) (l .edges) (l .dense) (l .inv) (omega arith) (c .before .before .before .before .before .before .before .offset-at .ensures .0) _ (sym (c .before .before .before .before .before .check-group .ensures) ∙ c .before .before .before .fault .given .1))
 
 returns-2 : tie.Need-returns-2 Inv-loop μ-loop
-unfolding faultOf
-returns-2 c = let a = c .before .before .before .before .before .before .before .before .before .before .args in
-    let l = c .before .before .before .before .before .before .before .loop in
-    c .refused2 .ensures ∙ sym (walk-bad (a .partners .now) (a .offs .now) (a .w) (a .n) (c .before .before .before .before .before .before .before .before .before .before .pre .4) (l .i) (l .a) (l .edges) (l .dense) (l .inv) (omega arith) (c .before .before .before .before .before .offset-at .ensures .0) Group.BadVarint (Refusal.Varint (l .i)) (sym (c .before .before .before .check-group .ensures) ∙ c .before .enum-told2 .given .1) refl)
-
-enum-told-3 : tie.Need-enum-told-3 Inv-loop μ-loop
-enum-told-3 c = search needs
-
-refused-requires-3 : tie.Need-refused-requires-3 Inv-loop μ-loop
-refused-requires-3 c κs = search needs
-
-returns-3 : tie.Need-returns-3 Inv-loop μ-loop
-unfolding faultOf
-returns-3 c = let a = c .before .before .before .before .before .before .before .before .before .before .args in
-    let l = c .before .before .before .before .before .before .before .loop in
-    c .refused3 .ensures ∙ sym (walk-bad (a .partners .now) (a .offs .now) (a .w) (a .n) (c .before .before .before .before .before .before .before .before .before .before .pre .4) (l .i) (l .a) (l .edges) (l .dense) (l .inv) (omega arith) (c .before .before .before .before .before .offset-at .ensures .0) Group.BadShape (Refusal.Group (l .i)) (sym (c .before .before .before .check-group .ensures) ∙ c .before .enum-told3 .given .1) refl)
-
-returns-4 : tie.Need-returns-4 Inv-loop μ-loop
-returns-4 c = let a = c .before .before .before .before .args in
+returns-2 c = let a = c .before .before .before .before .args in
     let l = c .before .loop in
     walk-end (a .partners .now) (a .offs .now) (a .w) (a .n) (l .i) (l .a) (l .edges) (l .dense) (l .inv) (omega arith)
 
@@ -140,13 +117,8 @@ groups-of-spec =
     add-i
     loop-less
     loop-again
-    enum-told
+    enum-known-fault
+    refusal-of-requires
     refused-requires
     returns
-    enum-told-2
-    refused-requires-2
-    returns-2
-    enum-told-3
-    refused-requires-3
-    returns-3
-    returns-4)
+    returns-2)

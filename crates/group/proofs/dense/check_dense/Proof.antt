@@ -7,7 +7,7 @@ use lib.ListN.{length}
 use borrow.Author.Tests.{not-true, not-false, le-leb}
 use Rattle.codes.specs.Ids.{numberOf}
 use Rattle.group.specs.Group.{answerOf}
-use Rattle.group.specs.Group.Laws.{Checked, check-start, check-end, check-low, check-more, dense-at, dense-unfit, answer-shape}
+use Rattle.group.specs.Group.Laws.{Checked, check-start, check-end, check-low, check-more, dense-at, dense-unfit, answer-bad}
 use borrow.Author.Needs.{needs}
 use Rattle.group.proofs.dense.check_dense.Statement.{statement}
 use Rattle.group.proofs.dense.check_dense.Tie as tie
@@ -25,12 +25,12 @@ sub-rest c = omega arith
 returns : tie.Need-returns Inv-loop μ-loop
 returns c =
     let a = c .before .before .args in
-    sym (ap answerOf (dense-unfit (a .degree) (a .g .now) (a .at) 0 0 (λ q. omega arith)) ∙ answer-shape)
+    sym (ap answerOf (dense-unfit (a .degree) (a .g .now) (a .at) 0 0 (λ q. omega arith)) ∙ answer-bad _)
 
 returns-2 : tie.Need-returns-2 Inv-loop μ-loop
 returns-2 c =
     let a = c .before .before .before .args in
-    sym (ap answerOf (dense-unfit (a .degree) (a .g .now) (a .at) 0 0 (λ q. omega arith)) ∙ answer-shape)
+    sym (ap answerOf (dense-unfit (a .degree) (a .g .now) (a .at) 0 0 (λ q. omega arith)) ∙ answer-bad _)
 
 id-at-requires : tie.Need-id-at-requires Inv-loop μ-loop
 id-at-requires c κs = omega arith

@@ -2,7 +2,7 @@
 use mathlib.Core.Path.{_≡_, sym, _∙_}
 use Rattle.codes.specs.declared.varint.Varint.the-variants.{Value}
 use Rattle.codes.specs.Varint.{varintAt}
-use Rattle.group.specs.Group.Laws.{head-cut, head-long, head-large, head-none, head-short, head-split, head-dense, head-tag}
+use Rattle.group.specs.Group.Laws.{head-unread, head-none, head-short, head-split, head-dense, head-tag}
 use borrow.Author.Needs.{needs}
 use Rattle.group.proofs.head.head_of.Statement.{statement}
 use Rattle.group.proofs.head.head_of.Tie as tie
@@ -36,8 +36,8 @@ returns-2 c =
 shared-slice-read-tag : tie.Need-shared-slice-read-tag
 shared-slice-read-tag c = search needs
 
-add-t11 : tie.Need-add-t11
-add-t11 c = search needs
+add-t14 : tie.Need-add-t14
+add-t14 c = search needs
 
 returns-3 : tie.Need-returns-3
 returns-3 c =
@@ -47,8 +47,8 @@ returns-3 c =
     let n = p .before .value .given .0 .1 .0 in
     let e = head-split (a .g .now) d n (got p) (c .before .before .before .if1 .left) (c .before .before .if2 .left) (c .if3 .taken) in sym e
 
-add-t12 : tie.Need-add-t12
-add-t12 c = search needs
+add-t15 : tie.Need-add-t15
+add-t15 c = search needs
 
 returns-4 : tie.Need-returns-4
 returns-4 c =
@@ -58,14 +58,8 @@ returns-4 c =
     let n = p .before .value .given .0 .1 .0 in
     let e = head-dense (a .g .now) d n (got p) (c .before .before .before .before .if1 .left) (c .before .before .before .if2 .left) (c .if4 .taken) in sym e
 
-enum-told : tie.Need-enum-told
-enum-told c = search needs
-
-enum-told-2 : tie.Need-enum-told-2
-enum-told-2 c = search needs
-
-enum-told-3 : tie.Need-enum-told-3
-enum-told-3 c = search needs
+enum-known-why : tie.Need-enum-known-why
+enum-known-why c = search needs
 
 returns-5 : tie.Need-returns-5
 returns-5 c =
@@ -76,13 +70,7 @@ returns-5 c =
     sym (head-tag (a .g .now) d n (got p) (c .before .before .before .before .if1 .left) (c .before .before .before .if2 .left) (c .before .if3 .left) (c .if4 .left))
 
 returns-6 : tie.Need-returns-6
-returns-6 c = sym (head-cut (c .before .before .before .before .args .g .now) (sym (c .before .before .varint-at .ensures) ∙ c .enum-told .given .1))
-
-returns-7 : tie.Need-returns-7
-returns-7 c = sym (head-long (c .before .before .before .before .args .g .now) (sym (c .before .before .varint-at .ensures) ∙ c .enum-told2 .given .1))
-
-returns-8 : tie.Need-returns-8
-returns-8 c = sym (head-large (c .before .before .before .before .args .g .now) (sym (c .before .before .varint-at .ensures) ∙ c .enum-told3 .given .1))
+returns-6 c = sym (head-unread (c .before .before .before .before .before .args .g .now) _ (sym (c .before .before .before .varint-at .ensures) ∙ c .before .why .given .1))
 
 pub head-of-spec : {M : Type 1} → statement M
 head-of-spec =
@@ -93,14 +81,10 @@ head-of-spec =
     returns
     returns-2
     shared-slice-read-tag
-    add-t11
+    add-t14
     returns-3
-    add-t12
+    add-t15
     returns-4
-    enum-told
-    enum-told-2
-    enum-told-3
+    enum-known-why
     returns-5
-    returns-6
-    returns-7
-    returns-8)
+    returns-6)

@@ -5,7 +5,7 @@ use native.Mathlib.Omega.{arith}
 use mathlib.Core.Bool.{false}
 use borrow.Author.Tests.{not-true, not-false}
 use Rattle.group.specs.Group.{floorOf}
-use Rattle.group.specs.Group.Laws.{Checked, check-start, check-end, check-over, check-varint, check-shape, check-low, check-more, step-split, floor-first, floor-next}
+use Rattle.group.specs.Group.Laws.{Checked, check-start, check-end, check-over, check-bad, check-low, check-more, step-split, floor-first, floor-next}
 use borrow.Author.Needs.{needs}
 use Rattle.group.proofs.split.check_split.Statement.{statement}
 use Rattle.group.proofs.split.check_split.Tie as tie
@@ -55,32 +55,23 @@ loop-again c =
     let m = check-more false (a .g .now) (a .at) (a .degree) (l .i) (l .k) (l .last .hi) (floorOf (l .k) (l .last)) (l .inv .1) (c .before .before .before .before .before .before .loop-test .taken) p n e (sym (c .before .in-order .ensures) ∙ not-false _ (c .if1 .left)) in
     (omega arith, rw (floor-next (l .k + 1) p (λ q. omega arith)) m)
 
-enum-told : tie.Need-enum-told Inv-loop μ-loop
-enum-told c = search needs
+enum-known-fault : tie.Need-enum-known-fault Inv-loop μ-loop
+enum-known-fault c = search needs
 
 returns-2 : tie.Need-returns-2 Inv-loop μ-loop
 returns-2 c =
-    let a = c .before .before .before .before .before .before .args in
-    let l = c .before .before .before .before .loop in
-    sym (check-varint false (a .g .now) (a .at) (a .degree) (l .i) (l .k) (l .last .hi) (floorOf (l .k) (l .last)) (l .inv .1) (c .before .before .before .loop-test .taken) (step-split (a .g .now) (l .i) (l .last .hi) ∙ sym (c .before .before .split-step .ensures) ∙ c .enum-told .given .1))
-
-enum-told-2 : tie.Need-enum-told-2 Inv-loop μ-loop
-enum-told-2 c = search needs
+    let a = c .before .before .before .before .before .before .before .args in
+    let l = c .before .before .before .before .before .loop in
+    sym (check-bad false (a .g .now) (a .at) (a .degree) (l .i) (l .k) (l .last .hi) (floorOf (l .k) (l .last)) (l .inv .1) (c .before .before .before .before .loop-test .taken) _ (step-split (a .g .now) (l .i) (l .last .hi) ∙ sym (c .before .before .before .split-step .ensures) ∙ c .before .fault .given .1))
 
 returns-3 : tie.Need-returns-3 Inv-loop μ-loop
 returns-3 c =
-    let a = c .before .before .before .before .before .before .args in
-    let l = c .before .before .before .before .loop in
-    sym (check-shape false (a .g .now) (a .at) (a .degree) (l .i) (l .k) (l .last .hi) (floorOf (l .k) (l .last)) (l .inv .1) (c .before .before .before .loop-test .taken) (step-split (a .g .now) (l .i) (l .last .hi) ∙ sym (c .before .before .split-step .ensures) ∙ c .enum-told2 .given .1))
-
-returns-4 : tie.Need-returns-4 Inv-loop μ-loop
-returns-4 c =
     let a = c .before .before .before .before .args in
     let l = c .before .before .loop in
     sym (check-end false (a .g .now) (a .at) (a .degree) (l .i) (l .k) (l .last .hi) (floorOf (l .k) (l .last)) (l .inv .1) (c .before .loop-test .left) (l .inv .0) (c .if2 .taken))
 
-returns-5 : tie.Need-returns-5 Inv-loop μ-loop
-returns-5 c =
+returns-4 : tie.Need-returns-4 Inv-loop μ-loop
+returns-4 c =
     let a = c .before .before .before .before .args in
     let l = c .before .before .loop in
     sym (check-over false (a .g .now) (a .at) (a .degree) (l .i) (l .k) (l .last .hi) (floorOf (l .k) (l .last)) (l .inv .1) (c .before .loop-test .left) (c .if2 .left))
@@ -99,9 +90,7 @@ check-split-spec =
     add-k
     loop-less
     loop-again
-    enum-told
+    enum-known-fault
     returns-2
-    enum-told-2
     returns-3
-    returns-4
-    returns-5)
+    returns-4)

@@ -15,8 +15,8 @@ shared-slice-read-b c = search needs
 cast-b : tie.Need-cast-b
 cast-b c = omega (arith, c .shared-slice-known2 .given (c .before .before .before .args .i))
 
-add-t8 : tie.Need-add-t8
-add-t8 c = search needs
+add-t9 : tie.Need-add-t9
+add-t9 c = search needs
 
 returns-2 : tie.Need-returns-2
 returns-2 c =
@@ -32,4 +32,4 @@ returns-3 c = search needs
 pub difference-spec : {M : Type 1} → statement M
 difference-spec =
     tie.close
-    (tie.spec returns shared-slice-read-b cast-b add-t8 returns-2 varint-at-requires returns-3)
+    (tie.spec returns shared-slice-read-b cast-b add-t9 returns-2 varint-at-requires returns-3)

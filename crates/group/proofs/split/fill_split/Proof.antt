@@ -12,7 +12,7 @@ use Rattle.codes.specs.declared.ids.Id.{Id}
 use Rattle.codes.specs.Ids.{beBytes, idBytes, numberOf}
 use Rattle.codes.specs.Ids.Laws.{put-halves, length-idBytes}
 use Rattle.group.specs.Group.{walkFrom, isGood, partnersOf, bytesOf}
-use Rattle.group.specs.Group.Laws.{Filled, fill-turn, fill-cut, fill-long, fill-large, fill-end}
+use Rattle.group.specs.Group.Laws.{Filled, fill-turn, fill-read, fill-end}
 use borrow.Author.Needs.{needs}
 use Rattle.group.proofs.split.fill_split.Statement.{statement}
 use Rattle.group.proofs.split.fill_split.Tie as tie
@@ -105,39 +105,13 @@ returns c =
     let a = c .before .before .before .before .before .before .before .args in
     let l = c .before .before .before .before .loop in
     let e : a .degree - l .k ≡ suc (a .degree - (l .k + 1)) = omega arith in
-    absurd (fill-cut (a .g .now) (l .i) (l .hi) (l .inv .2 .0) (a .degree - (l .k + 1)) (rw e at (l .inv .2 .1)) (sym (c .before .before .difference .ensures) ∙ c .enum-told .given .1))
-
-enum-told-2 : tie.Need-enum-told-2 Inv-loop μ-loop
-enum-told-2 c = search needs
+    absurd (fill-read (a .g .now) (l .i) (l .hi) (l .inv .2 .0) (a .degree - (l .k + 1)) (rw e at (l .inv .2 .1)) _ (sym (c .before .before .difference .ensures) ∙ c .enum-told .given .1))
 
 same-length-2 : tie.Need-same-length-2 Inv-loop μ-loop
-same-length-2 c = c .before .before .before .before .loop .inv .2 .2 .same
+same-length-2 c = c .before .loop .inv .2 .2 .same
 
 returns-2 : tie.Need-returns-2 Inv-loop μ-loop
 returns-2 c =
-    let a = c .before .before .before .before .before .before .before .args in
-    let l = c .before .before .before .before .loop in
-    let e : a .degree - l .k ≡ suc (a .degree - (l .k + 1)) = omega arith in
-    absurd (fill-long (a .g .now) (l .i) (l .hi) (l .inv .2 .0) (a .degree - (l .k + 1)) (rw e at (l .inv .2 .1)) (sym (c .before .before .difference .ensures) ∙ c .enum-told2 .given .1))
-
-enum-told-3 : tie.Need-enum-told-3 Inv-loop μ-loop
-enum-told-3 c = search needs
-
-same-length-3 : tie.Need-same-length-3 Inv-loop μ-loop
-same-length-3 c = c .before .before .before .before .loop .inv .2 .2 .same
-
-returns-3 : tie.Need-returns-3 Inv-loop μ-loop
-returns-3 c =
-    let a = c .before .before .before .before .before .before .before .args in
-    let l = c .before .before .before .before .loop in
-    let e : a .degree - l .k ≡ suc (a .degree - (l .k + 1)) = omega arith in
-    absurd (fill-large (a .g .now) (l .i) (l .hi) (l .inv .2 .0) (a .degree - (l .k + 1)) (rw e at (l .inv .2 .1)) (sym (c .before .before .difference .ensures) ∙ c .enum-told3 .given .1))
-
-same-length-4 : tie.Need-same-length-4 Inv-loop μ-loop
-same-length-4 c = c .before .loop .inv .2 .2 .same
-
-returns-4 : tie.Need-returns-4 Inv-loop μ-loop
-returns-4 c =
     let a = c .before .before .before .before .args in
     let l = c .before .loop in
     let z : a .degree - l .k ≡ 0 = omega arith in
@@ -168,11 +142,5 @@ fill-split-spec =
     enum-told
     same-length
     returns
-    enum-told-2
     same-length-2
-    returns-2
-    enum-told-3
-    same-length-3
-    returns-3
-    same-length-4
-    returns-4)
+    returns-2)

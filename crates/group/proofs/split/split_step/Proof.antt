@@ -6,7 +6,7 @@ use Rattle.codes.specs.declared.varint.Varint.the-variants.{Value}
 use Rattle.codes.specs.Varint.{varintAt}
 use Rattle.codes.specs.Varint.Laws.{varint-next}
 use Rattle.group.specs.declared.split.Step.{Step}
-use Rattle.group.specs.Group.Laws.{split-cut, split-long, split-large, split-over, split-short, split-good}
+use Rattle.group.specs.Group.Laws.{split-unread, split-over, split-short, split-good}
 use borrow.Author.Needs.{needs}
 use Rattle.group.proofs.split.split_step.Statement.{statement}
 use Rattle.group.proofs.split.split_step.Tie as tie
@@ -65,20 +65,14 @@ returns-2 c =
 le64-requires : tie.Need-le64-requires
 le64-requires c κs = search needs
 
-add-t9 : tie.Need-add-t9
-add-t9 c = search needs
+add-t10 : tie.Need-add-t10
+add-t10 c = search needs
 
-add-t11 : tie.Need-add-t11
-add-t11 c = search needs
+add-t13 : tie.Need-add-t13
+add-t13 c = search needs
 
-enum-told : tie.Need-enum-told
-enum-told c = search needs
-
-enum-told-2 : tie.Need-enum-told-2
-enum-told-2 c = search needs
-
-enum-told-3 : tie.Need-enum-told-3
-enum-told-3 c = search needs
+enum-known-why : tie.Need-enum-known-why
+enum-known-why c = search needs
 
 returns-3 : tie.Need-returns-3
 returns-3 c =
@@ -91,13 +85,7 @@ returns-3 c =
     ∙ sym (split-good (a .g .now) (a .i) (a .hi) v n (got p) (keeps (a .hi) v (p .before .before .before .before .before .fits .hi .fits) (c .before .before .if1 .left)) (long _ n next (c .before .if2 .left)))
 
 returns-4 : tie.Need-returns-4
-returns-4 c = let a = c .before .before .before .before .args in sym (split-cut (a .g .now) (a .i) (a .hi) (sym (c .before .before .difference .ensures) ∙ c .enum-told .given .1))
-
-returns-5 : tie.Need-returns-5
-returns-5 c = let a = c .before .before .before .before .args in sym (split-long (a .g .now) (a .i) (a .hi) (sym (c .before .before .difference .ensures) ∙ c .enum-told2 .given .1))
-
-returns-6 : tie.Need-returns-6
-returns-6 c = let a = c .before .before .before .before .args in sym (split-large (a .g .now) (a .i) (a .hi) (sym (c .before .before .difference .ensures) ∙ c .enum-told3 .given .1))
+returns-4 c = let a = c .before .before .before .before .before .args in sym (split-unread (a .g .now) (a .i) (a .hi) _ (sym (c .before .before .before .difference .ensures) ∙ c .before .why .given .1))
 
 pub split-step-spec : {M : Type 1} → statement M
 split-step-spec =
@@ -110,12 +98,8 @@ split-step-spec =
     sub-if2
     returns-2
     le64-requires
-    add-t9
-    add-t11
-    enum-told
-    enum-told-2
-    enum-told-3
+    add-t10
+    add-t13
+    enum-known-why
     returns-3
-    returns-4
-    returns-5
-    returns-6)
+    returns-4)

@@ -1,6 +1,9 @@
 -- `lookup::groups::group_seen` meets its contract.
-use mathlib.Core.Path.{_≡_, refl, sym, ap, ap₂, _∙_}
-use Rattle.lookup.specs.Groups.{seen-falls, seen-past, seen-told, toldOf}
+use mathlib.Core.Path.{_≡_, sym, ap, _∙_}
+use Rattle.group.specs.Group.{groupOf}
+use Rattle.group.specs.Group.Laws.{answered-good, answered-bad}
+use Rattle.lookup.specs.declared.groups.GroupSeen.{GroupSeen}
+use Rattle.lookup.specs.Groups.{seen-falls, seen-past, good-seen, bad-seen}
 use native.Mathlib.Omega.{arith}
 use borrow.Author.Needs.{needs}
 use Rattle.lookup.proofs.groups.group_seen.Statement.{statement}
@@ -30,39 +33,26 @@ check-group-requires c κs = search needs
 enum-known-degree : tie.Need-enum-known-degree
 enum-known-degree c = search needs
 
-enum-told : tie.Need-enum-told
-enum-told c = search needs
+enum-known-fault : tie.Need-enum-known-fault
+enum-known-fault c = search needs
+
+refusal-of-requires : tie.Need-refusal-of-requires
+refusal-of-requires c κs = search needs
 
 refused-requires-3 : tie.Need-refused-requires-3
 refused-requires-3 c κs = search needs
 
-enum-told-2 : tie.Need-enum-told-2
-enum-told-2 c = search needs
-
-refused-requires-4 : tie.Need-refused-requires-4
-refused-requires-4 c κs = search needs
-
-enum-told-3 : tie.Need-enum-told-3
-enum-told-3 c = search needs
-
-refused-requires-5 : tie.Need-refused-requires-5
-refused-requires-5 c κs = search needs
-
 returns-3 : tie.Need-returns-3
-unfolding toldOf
-returns-3 c = let a = c .before .before .before .before .before .before .before .before .args in sym (seen-told (a .partners .now) (a .a) (a .e) (a .i) (omega arith) (omega arith) _ (sym (c .before .before .before .check-group .ensures) ∙ c .before .degree .given .1))
+returns-3 c =
+    let a = c .before .before .before .before .before .before .before .before .args in
+    let (is, ok, count) = answered-good (groupOf _) _ _ (sym (c .before .before .before .check-group .ensures) ∙ c .before .degree .given .1) in
+    sym (good-seen (a .partners .now) (a .a) (a .e) (a .i) (omega arith) (omega arith) _ _ is ∙ ap GroupSeen.Good count)
 
 returns-4 : tie.Need-returns-4
-unfolding toldOf
-returns-4 c = let a = c .before .before .before .before .before .before .before .before .args in c .refused3 .ensures ∙ sym (seen-told (a .partners .now) (a .a) (a .e) (a .i) (omega arith) (omega arith) _ (sym (c .before .before .before .check-group .ensures) ∙ c .before .enum-told .given .1))
-
-returns-5 : tie.Need-returns-5
-unfolding toldOf
-returns-5 c = let a = c .before .before .before .before .before .before .before .before .args in c .refused4 .ensures ∙ sym (seen-told (a .partners .now) (a .a) (a .e) (a .i) (omega arith) (omega arith) _ (sym (c .before .before .before .check-group .ensures) ∙ c .before .enum-told2 .given .1))
-
-returns-6 : tie.Need-returns-6
-unfolding toldOf
-returns-6 c = let a = c .before .before .before .before .before .before .before .before .args in c .refused5 .ensures ∙ sym (seen-told (a .partners .now) (a .a) (a .e) (a .i) (omega arith) (omega arith) _ (sym (c .before .before .before .check-group .ensures) ∙ c .before .enum-told3 .given .1))
+returns-4 c =
+    let a = c .before .before .before .before .before .before .before .before .before .before .args in
+    let is = answered-bad (groupOf _) _ (sym (c .before .before .before .before .before .check-group .ensures) ∙ c .before .before .before .fault .given .1) in
+    c .refused3 .ensures ∙ ap GroupSeen.Refused (c .before .refusal-of .ensures) ∙ sym (bad-seen (a .partners .now) (a .a) (a .e) (a .i) (omega arith) (omega arith) _ is)
 
 pub group-seen-spec : {M : Type 1} → statement M
 group-seen-spec =
@@ -76,13 +66,8 @@ group-seen-spec =
     part-check-group-end
     check-group-requires
     enum-known-degree
-    enum-told
+    enum-known-fault
+    refusal-of-requires
     refused-requires-3
-    enum-told-2
-    refused-requires-4
-    enum-told-3
-    refused-requires-5
     returns-3
-    returns-4
-    returns-5
-    returns-6)
+    returns-4)

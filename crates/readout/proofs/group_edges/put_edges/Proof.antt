@@ -1,7 +1,7 @@
 -- `readout::group_edges::put_edges` meets its contract. Invariant: `Giving`, of the edges that are still to be written.
 use mathlib.Core.Path.{_≡_, sym, _∙_}
 use Prim.Native.Nat.{_+_, _-_, _*_, _≤_}
-use Rattle.readout.specs.Edges.Laws.{Giving, giving-start, giving-room, giving-on, giving-no-varint, giving-no-shape, giving-end}
+use Rattle.readout.specs.Edges.Laws.{Giving, giving-start, giving-room, giving-on, giving-not-bad, giving-end}
 use borrow.Author.Needs.{needs}
 use native.Mathlib.Omega.{arith}
 use Rattle.readout.proofs.group_edges.put_edges.Statement.{statement}
@@ -67,24 +67,13 @@ same-length c = c .before .before .before .before .loop .inv .left .same
 returns : tie.Need-returns Inv-loop μ-loop
 returns c = let a = c .before .before .before .before .before .before .before .before .before .args in
     let l = c .before .before .before .before .loop in
-    absurd (giving-no-varint (a .dense) (a .g .now) (a .at) (a .d) (a .key) (a .logs .now) (a .dead .now) (a .first) (a .out .now) (l .out) (l .i) (l .k) (l .hi) (l .inv) (omega arith) (sym (c .before .before .step-at .ensures) ∙ c .enum-told .given .1))
-
-enum-told-2 : tie.Need-enum-told-2 Inv-loop μ-loop
-enum-told-2 c = search needs
+    absurd (giving-not-bad (a .dense) (a .g .now) (a .at) (a .d) (a .key) (a .logs .now) (a .dead .now) (a .first) (a .out .now) (l .out) (l .i) (l .k) (l .hi) (l .inv) (omega arith) _ (sym (c .before .before .step-at .ensures) ∙ c .enum-told .given .1))
 
 same-length-2 : tie.Need-same-length-2 Inv-loop μ-loop
-same-length-2 c = c .before .before .before .before .loop .inv .left .same
+same-length-2 c = c .before .loop .inv .left .same
 
 returns-2 : tie.Need-returns-2 Inv-loop μ-loop
-returns-2 c = let a = c .before .before .before .before .before .before .before .before .before .args in
-    let l = c .before .before .before .before .loop in
-    absurd (giving-no-shape (a .dense) (a .g .now) (a .at) (a .d) (a .key) (a .logs .now) (a .dead .now) (a .first) (a .out .now) (l .out) (l .i) (l .k) (l .hi) (l .inv) (omega arith) (sym (c .before .before .step-at .ensures) ∙ c .enum-told2 .given .1))
-
-same-length-3 : tie.Need-same-length-3 Inv-loop μ-loop
-same-length-3 c = c .before .loop .inv .left .same
-
-returns-3 : tie.Need-returns-3 Inv-loop μ-loop
-returns-3 c = let a = c .before .before .before .before .before .before .args in
+returns-2 c = let a = c .before .before .before .before .before .before .args in
     let l = c .before .loop in
     giving-end (a .dense) (a .g .now) (a .at) (a .d) (a .key) (a .logs .now) (a .dead .now) (a .first) (a .out .now) (l .out) (l .i) (l .k) (l .hi) (l .inv) (omega arith)
 
@@ -109,8 +98,5 @@ put-edges-spec =
     enum-told
     same-length
     returns
-    enum-told-2
     same-length-2
-    returns-2
-    same-length-3
-    returns-3)
+    returns-2)

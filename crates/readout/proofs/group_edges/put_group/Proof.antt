@@ -6,7 +6,7 @@ use mathlib.Core.Bool.{true, false}
 use lib.Seq.{sets}
 use Rattle.batch.specs.Batch.{place, recordsOf}
 use Rattle.group.specs.Group.{Partners, partnersOf}
-use Rattle.group.specs.Group.Laws.{group-tag, group-varint, group-shape, not-tag, not-varint, not-shape}
+use Rattle.group.specs.Group.Laws.{group-bad, not-bad}
 use Rattle.group.specs.Good.{Fill, fill}
 use Rattle.readout.specs.Edges.{edgesFrom}
 use native.Mathlib.Omega.{arith}
@@ -60,12 +60,6 @@ add-result-2 c = let f = dense (c .before .before .before .before) in
 enum-told : tie.Need-enum-told
 enum-told c = search needs
 
-enum-told-2 : tie.Need-enum-told-2
-enum-told-2 c = search needs
-
-enum-told-3 : tie.Need-enum-told-3
-enum-told-3 c = search needs
-
 same-length : tie.Need-same-length
 same-length c = search needs
 
@@ -83,13 +77,7 @@ returns-2 c = let a = c .before .before .before .before .before .before .before 
     (ap (λ (t : ℕ). a .first + t) (sym (f .count)), c .before .before .put-edges2 .ensures ∙ ap (λ (t : Partners). sets (a .out .now) (place (a .first)) (recordsOf (edgesFrom (a .logs .now) (a .dead .now) (a .key) (a .first) (partnersOf t)))) (sym (f .walk)))
 
 returns-3 : tie.Need-returns-3
-returns-3 c = absurd (not-tag (c .before .before .before .before .before .before .before .pre .0) (group-tag (c .before .before .before .before .before .before .before .args .g .now) (sym (c .before .before .head-of .ensures) ∙ c .enum-told .given .1)))
-
-returns-4 : tie.Need-returns-4
-returns-4 c = absurd (not-varint (c .before .before .before .before .before .before .before .pre .0) (group-varint (c .before .before .before .before .before .before .before .args .g .now) (sym (c .before .before .head-of .ensures) ∙ c .enum-told2 .given .1)))
-
-returns-5 : tie.Need-returns-5
-returns-5 c = absurd (not-shape (c .before .before .before .before .before .before .before .pre .0) (group-shape (c .before .before .before .before .before .before .before .args .g .now) (sym (c .before .before .head-of .ensures) ∙ c .enum-told3 .given .1)))
+returns-3 c = absurd (not-bad (c .before .before .before .before .before .before .before .pre .0) (group-bad (c .before .before .before .before .before .before .before .args .g .now) _ (sym (c .before .before .head-of .ensures) ∙ c .enum-told .given .1)))
 
 pub put-group-spec : {M : Type 1} → statement M
 put-group-spec =
@@ -103,12 +91,8 @@ put-group-spec =
     put-edges-requires-2
     add-result-2
     enum-told
-    enum-told-2
-    enum-told-3
     same-length
     returns
     same-length-2
     returns-2
-    returns-3
-    returns-4
-    returns-5)
+    returns-3)

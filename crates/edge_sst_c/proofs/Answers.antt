@@ -1,0 +1,142 @@
+-- Over the contract of each call: what it tells, read back, is the library's answer; `number` is 0 exactly if nothing is
+-- refused; and a refusal or absence leaves every output as it was.
+use mathlib.Core.Path.{_≡_, refl, ap, _∙_}
+use mathlib.Core.Bool.{true, false}
+use Prim.Native.Nat.{_/_, _≤_}
+use lib.ListN.{length}
+use denote.Ref.{now}
+use Rattle.codes.specs.Ids.{idAt}
+use Rattle.refusal.specs.declared.Check.{Check}
+use Rattle.frame.specs.declared.Opening.{Opening}
+use Rattle.frame.specs.Open.{openOf}
+use Rattle.lookup.specs.declared.Looked.{Looked}
+use Rattle.lookup.specs.Lookup.{answerOf, lookOf, lookWith}
+use Rattle.lookup.specs.Calls.{alone, lent}
+use Rattle.full_check.specs.Full.{fullCheck}
+use Rattle.readout.specs.declared.ReadOut.{ReadOut}
+use Rattle.readout.specs.ReadOut.{readOutOf}
+use Rattle.writer.specs.declared.Written.{Written}
+use Rattle.writer.specs.Written.{neededOf, writtenOf}
+use Rattle.listing.specs.declared.Listed.{Listed}
+use Rattle.listing.specs.List as list
+use Rattle.edge_sst_c.specs.Look.{recordFrom}
+use Rattle.edge_sst_c.specs.Back.{openingFrom, lookedFrom, checkFrom, readFrom, writtenFrom, listedFrom, opening-back, looked-back, check-back, read-back, written-back, listed-back}
+use Rattle.edge_sst_c.specs.Refused.{Tells, Unfound, opened-tells, looked-tells, check-tells, read-tells, written-tells, listed-tells, partners-stay, edges-stay, read-stays, write-stays, sections-stay}
+use Rattle.edge_sst_c.proofs.Every.{Every}
+use Rattle.edge_sst_c.proofs.edge_sst_open as c-open
+use Rattle.edge_sst_c.proofs.edge_sst_open.Reads as c-open-reads
+use Rattle.edge_sst_c.proofs.look.edge_sst_partners as c-partners
+use Rattle.edge_sst_c.proofs.look.edge_sst_partners.Reads as c-partners-reads
+use Rattle.edge_sst_c.proofs.look.edge_sst_partners_with as c-partners-with
+use Rattle.edge_sst_c.proofs.look.edge_sst_partners_with.Reads as c-partners-with-reads
+use Rattle.edge_sst_c.proofs.look.edge_sst_lookup as c-lookup
+use Rattle.edge_sst_c.proofs.look.edge_sst_lookup.Reads as c-lookup-reads
+use Rattle.edge_sst_c.proofs.look.edge_sst_lookup_with as c-lookup-with
+use Rattle.edge_sst_c.proofs.look.edge_sst_lookup_with.Reads as c-lookup-with-reads
+use Rattle.edge_sst_c.proofs.desk.edge_sst_check as c-check
+use Rattle.edge_sst_c.proofs.desk.edge_sst_check.Reads as c-check-reads
+use Rattle.edge_sst_c.proofs.desk.edge_sst_read_out as c-read-out
+use Rattle.edge_sst_c.proofs.desk.edge_sst_read_out.Reads as c-read-out-reads
+use Rattle.edge_sst_c.proofs.write.edge_sst_needed as c-needed
+use Rattle.edge_sst_c.proofs.write.edge_sst_needed.Reads as c-needed-reads
+use Rattle.edge_sst_c.proofs.write.edge_sst_write as c-write
+use Rattle.edge_sst_c.proofs.write.edge_sst_write.Reads as c-write-reads
+use Rattle.edge_sst_c.proofs.section_list.edge_sst_sections as c-sections
+use Rattle.edge_sst_c.proofs.section_list.edge_sst_sections.Reads as c-sections-reads
+
+-- ---- what is told
+
+pub open-says : Every c-open.ended c-open-reads.Post (λ κs a r e. openingFrom r ≡ openOf (now (a .0)))
+open-says κs a r e p = ap openingFrom p ∙ opening-back (now (a .0)) (openOf (now (a .0))) refl
+
+pub partners-says : Every c-partners.ended c-partners-reads.Post
+    (λ κs a r e. lookedFrom r ≡ answerOf (lookOf false (alone (length (now (a .1 .1 .0)))) (idAt (now (a .1 .0)) 0) (now (a .0))))
+partners-says κs a r e p = ap lookedFrom (p .answer) ∙ looked-back _
+
+pub partners-with-says : Every c-partners-with.ended c-partners-with-reads.Post
+    (λ κs a r e. lookedFrom r ≡ answerOf (lookWith false (alone (length (now (a .1 .1 .1 .0)))) (idAt (now (a .1 .1 .0)) 0) (now (a .0)) (recordFrom (now (a .1 .0)))))
+partners-with-says κs a r e p = ap lookedFrom (p .answer) ∙ looked-back _
+
+pub lookup-says : Every c-lookup.ended c-lookup-reads.Post
+    (λ κs a r e. lookedFrom r ≡ answerOf (lookOf true (lent (length (now (a .1 .1 .0))) (length (now (a .1 .1 .1 .0))) (length (now (a .1 .1 .1 .1 .0)))) (idAt (now (a .1 .0)) 0) (now (a .0))))
+lookup-says κs a r e p = ap lookedFrom (p .answer) ∙ looked-back _
+
+pub lookup-with-says : Every c-lookup-with.ended c-lookup-with-reads.Post
+    (λ κs a r e. lookedFrom r ≡ answerOf (lookWith true (lent (length (now (a .1 .1 .1 .0))) (length (now (a .1 .1 .1 .1 .0))) (length (now (a .1 .1 .1 .1 .1 .0)))) (idAt (now (a .1 .1 .0)) 0) (now (a .0)) (recordFrom (now (a .1 .0)))))
+lookup-with-says κs a r e p = ap lookedFrom (p .answer) ∙ looked-back _
+
+pub check-says : Every c-check.ended c-check-reads.Post (λ κs a r e. checkFrom r ≡ fullCheck (now (a .0)))
+check-says κs a r e p = ap checkFrom p ∙ check-back _
+
+pub read-out-says : Every c-read-out.ended c-read-out-reads.Post (λ κs a r e. readFrom r ≡ readOutOf (now (a .0)) (length (now (a .1 .0))))
+read-out-says κs a r e p = ap readFrom (p .0) ∙ read-back _
+
+pub needed-says : Every c-needed.ended c-needed-reads.Post (λ κs a r e. writtenFrom r ≡ neededOf (now (a .0)))
+needed-says κs a r e p = ap writtenFrom p ∙ written-back _
+
+pub write-says : Every c-write.ended c-write-reads.Post (λ κs a r e. writtenFrom r ≡ writtenOf (now (a .0)) (length (now (a .1 .0))))
+write-says κs a r e p = ap writtenFrom (p .answer) ∙ written-back _
+
+pub sections-says : Every c-sections.ended c-sections-reads.Post (λ κs a r e. listedFrom r ≡ list.answerOf (now (a .0)) (length (now (a .1 .0)) / 7))
+sections-says κs a r e p = ap listedFrom (p .0) ∙ listed-back _
+
+-- ---- number
+
+pub open-number : Every c-open.ended c-open-reads.Post (λ κs a r e. Tells Opening.Refused (openOf (now (a .0))) (r .number))
+open-number κs a r e p = rw p (opened-tells (openOf (now (a .0))))
+
+pub partners-number : Every c-partners.ended c-partners-reads.Post
+    (λ κs a r e. Tells Looked.Refused (answerOf (lookOf false (alone (length (now (a .1 .1 .0)))) (idAt (now (a .1 .0)) 0) (now (a .0)))) (r .number))
+partners-number κs a r e p = rw (p .answer) (looked-tells (answerOf _))
+
+pub partners-with-number : Every c-partners-with.ended c-partners-with-reads.Post
+    (λ κs a r e. Tells Looked.Refused (answerOf (lookWith false (alone (length (now (a .1 .1 .1 .0)))) (idAt (now (a .1 .1 .0)) 0) (now (a .0)) (recordFrom (now (a .1 .0))))) (r .number))
+partners-with-number κs a r e p = rw (p .answer) (looked-tells (answerOf _))
+
+pub lookup-number : Every c-lookup.ended c-lookup-reads.Post
+    (λ κs a r e. Tells Looked.Refused (answerOf (lookOf true (lent (length (now (a .1 .1 .0))) (length (now (a .1 .1 .1 .0))) (length (now (a .1 .1 .1 .1 .0)))) (idAt (now (a .1 .0)) 0) (now (a .0)))) (r .number))
+lookup-number κs a r e p = rw (p .answer) (looked-tells (answerOf _))
+
+pub lookup-with-number : Every c-lookup-with.ended c-lookup-with-reads.Post
+    (λ κs a r e. Tells Looked.Refused (answerOf (lookWith true (lent (length (now (a .1 .1 .1 .0))) (length (now (a .1 .1 .1 .1 .0))) (length (now (a .1 .1 .1 .1 .1 .0)))) (idAt (now (a .1 .1 .0)) 0) (now (a .0)) (recordFrom (now (a .1 .0))))) (r .number))
+lookup-with-number κs a r e p = rw (p .answer) (looked-tells (answerOf _))
+
+pub check-number : Every c-check.ended c-check-reads.Post (λ κs a r e. Tells Check.Bad (fullCheck (now (a .0))) (r .number))
+check-number κs a r e p = rw p (check-tells (fullCheck (now (a .0))))
+
+pub read-out-number : Every c-read-out.ended c-read-out-reads.Post (λ κs a r e. Tells ReadOut.Refused (readOutOf (now (a .0)) (length (now (a .1 .0)))) (r .number))
+read-out-number κs a r e p = rw (p .0) (read-tells (readOutOf (now (a .0)) (length (now (a .1 .0)))))
+
+pub needed-number : Every c-needed.ended c-needed-reads.Post (λ κs a r e. Tells Written.Refused (neededOf (now (a .0))) (r .number))
+needed-number κs a r e p = rw p (written-tells (neededOf (now (a .0))))
+
+pub write-number : Every c-write.ended c-write-reads.Post (λ κs a r e. Tells Written.Refused (writtenOf (now (a .0)) (length (now (a .1 .0)))) (r .number))
+write-number κs a r e p = rw (p .answer) (written-tells (writtenOf (now (a .0)) (length (now (a .1 .0)))))
+
+pub sections-number : Every c-sections.ended c-sections-reads.Post (λ κs a r e. Tells Listed.Refused (list.answerOf (now (a .0)) (length (now (a .1 .0)) / 7)) (r .number))
+sections-number κs a r e p = rw (p .0) (listed-tells (list.answerOf (now (a .0)) (length (now (a .1 .0)) / 7)))
+
+-- ---- outputs
+
+pub partners-leaves : Every c-partners.ended c-partners-reads.Post (λ κs a r e. Unfound r → now (e .1 .1 .0) ≡ now (a .1 .1 .0))
+partners-leaves κs a r e p = partners-stay p
+
+pub partners-with-leaves : Every c-partners-with.ended c-partners-with-reads.Post (λ κs a r e. Unfound r → now (e .1 .1 .1 .0) ≡ now (a .1 .1 .1 .0))
+partners-with-leaves κs a r e p = partners-stay p
+
+pub lookup-leaves : Every c-lookup.ended c-lookup-reads.Post
+    (λ κs a r e. Unfound r → (now (e .1 .1 .0) ≡ now (a .1 .1 .0)) × (now (e .1 .1 .1 .0) ≡ now (a .1 .1 .1 .0)) × (now (e .1 .1 .1 .1 .0) ≡ now (a .1 .1 .1 .1 .0)))
+lookup-leaves κs a r e p = edges-stay p
+
+pub lookup-with-leaves : Every c-lookup-with.ended c-lookup-with-reads.Post
+    (λ κs a r e. Unfound r → (now (e .1 .1 .1 .0) ≡ now (a .1 .1 .1 .0)) × (now (e .1 .1 .1 .1 .0) ≡ now (a .1 .1 .1 .1 .0)) × (now (e .1 .1 .1 .1 .1 .0) ≡ now (a .1 .1 .1 .1 .1 .0)))
+lookup-with-leaves κs a r e p = edges-stay p
+
+pub read-out-leaves : Every c-read-out.ended c-read-out-reads.Post (λ κs a r e. 1 ≤ r .number → now (e .1 .0) ≡ now (a .1 .0))
+read-out-leaves κs a r e p = read-stays (now (a .0)) (now (a .1 .0)) (p .0) (p .1)
+
+pub write-leaves : Every c-write.ended c-write-reads.Post (λ κs a r e. 1 ≤ r .number → now (e .1 .0) ≡ now (a .1 .0))
+write-leaves κs a r e p = write-stays p
+
+pub sections-leaves : Every c-sections.ended c-sections-reads.Post (λ κs a r e. 1 ≤ r .number → now (e .1 .0) ≡ now (a .1 .0))
+sections-leaves κs a r e p = sections-stay (now (a .0)) (now (a .1 .0)) (p .0) (p .1)

@@ -1,0 +1,148 @@
+-- Demand 1, the outputs: "A refusal leaves each lent output byte and number unchanged." One statement for each call that lends an
+-- output, of its own contract: with a refused result, no other content of lent memory is admitted than what was lent. Absence
+-- leaves the outputs too.
+use mathlib.Core.Path.{_≡_, refl, sym, ap, _∙_}
+use Prim.Native.Nat.{ℕ}
+use native.Mathlib.Omega.{arith}
+use mathlib.Core.List.{List}
+use lib.ListN.{length}
+use contract.Lifetimes.{Lfts}
+use denote.Ref.{now}
+use denote.Triple.Entry.{Args, Res}
+use denote.Triple.Clauses.{Ended, Lasts, AtExit, atExit}
+use Rattle.refusal.specs.declared.Refusal.{Refusal}
+use Rattle.refusal.specs.declared.Check.{Check}
+use Rattle.frame.specs.declared.Row.{Row}
+use Rattle.lookup.specs.declared.Looked.{Looked}
+use Rattle.lookup.specs.Lookup as look
+use Rattle.lookup.specs.Lookup.{Outcome, found, absent, refused, partnersLeft, logsLeft, marksLeft}
+use Rattle.lookup.specs.Calls.{Alone, Whole}
+use Rattle.listing.specs.declared.Listed.{Listed}
+use Rattle.listing.specs.List.Laws.{refused-leaves}
+use Rattle.readout.specs.declared.ReadOut.{ReadOut}
+use Rattle.readout.specs.ReadOut as out
+use Rattle.readout.specs.ReadOut.{readCheck, neededFor, batchIn, leaves, readOutOf, readOutLeaves}
+use Rattle.writer.specs.declared.Written.{Written}
+use Rattle.writer.specs.Written as writer
+use Rattle.writer.specs.Written.{Wrote, fileIn}
+use Rattle.reader.proofs.look.partners as c-partners
+use Rattle.reader.proofs.look.partners.Reads as c-partners-reads
+use Rattle.reader.proofs.look.partners_with as c-partners-with
+use Rattle.reader.proofs.look.partners_with.Reads as c-partners-with-reads
+use Rattle.reader.proofs.look.lookup as c-lookup
+use Rattle.reader.proofs.look.lookup.Reads as c-lookup-reads
+use Rattle.reader.proofs.look.lookup_with as c-lookup-with
+use Rattle.reader.proofs.look.lookup_with.Reads as c-lookup-with-reads
+use Rattle.readout.proofs.read_out as c-read-out
+use Rattle.readout.proofs.read_out.Reads as c-read-out-reads
+use Rattle.writer.proofs.write as c-write
+use Rattle.writer.proofs.write.Reads as c-write-reads
+use Rattle.listing.proofs.list_sections as c-sections
+use Rattle.listing.proofs.One.{Listed-post}
+
+-- with such a result the contract admits no other content of lent memory at exit than `lent`
+--     T and Post as for `Determined` (crate base)
+abbrev pub Leaves :
+    (T : Ended) → ((κs : Lfts (T .signature .lifetimes)) → Args (T .signature) κs → Res (T .signature) κs → AtExit T κs → Type 0) →
+    ((κs : Lfts (T .signature .lifetimes)) → Res (T .signature) κs → Type 0) → ((κs : Lfts (T .signature .lifetimes)) (a : Args (T .signature) κs) → Lasts T κs a) → Type 0
+Leaves T Post such lent =
+    (κs : Lfts (T .signature .lifetimes)) (a : Args (T .signature) κs) (r : Res (T .signature) κs) (w : Lasts T κs a) →
+    such κs r → Post κs a r (atExit T κs a w) → w ≡ lent κs a
+
+-- ---- lookups
+
+-- a lookup's answer is a refusal; or absence
+abbrev pub Refused : Looked → Type 0
+Refused r = (q : Refusal) × (r ≡ Looked.Refused q)
+
+abbrev pub Absent : Looked → Type 0
+Absent r = (n : ℕ) × (r ≡ Looked.Absent n)
+
+-- such an outcome leaves what there was
+left-refused : (x : Outcome) (o l m : List ℕ) → Refused (look.answerOf x) → (partnersLeft x o ≡ o) × (logsLeft x l ≡ l) × (marksLeft x m ≡ m)
+unfolding look.answerOf partnersLeft logsLeft marksLeft
+left-refused (found i c ps logs marks) o l m (q, e) = let z : _≡_ {A = ℕ} 0 1 = cc in absurd (omega arith)
+left-refused (absent c) o l m (q, e) = let z : _≡_ {A = ℕ} 0 1 = cc in absurd (omega arith)
+left-refused (refused r) o l m (q, e) = (refl, refl, refl)
+
+left-absent : (x : Outcome) (o l m : List ℕ) → Absent (look.answerOf x) → (partnersLeft x o ≡ o) × (logsLeft x l ≡ l) × (marksLeft x m ≡ m)
+unfolding look.answerOf partnersLeft logsLeft marksLeft
+left-absent (found i c ps logs marks) o l m (n, e) = let z : _≡_ {A = ℕ} 0 1 = cc in absurd (omega arith)
+left-absent (absent c) o l m (n, e) = (refl, refl, refl)
+left-absent (refused r) o l m (n, e) = let z : _≡_ {A = ℕ} 0 1 = cc in absurd (omega arith)
+
+-- of what a call answers and leaves
+module _ (x : Outcome) (r : Looked) (o out : List ℕ) where
+  alone-refused : Refused r → Alone x r o out → out ≡ o
+  alone-refused (q, e) c = c .partners ∙ left-refused x o o o (q, sym (c .answer) ∙ e) .0
+
+  alone-absent : Absent r → Alone x r o out → out ≡ o
+  alone-absent (n, e) c = c .partners ∙ left-absent x o o o (n, sym (c .answer) ∙ e) .0
+
+  module _ (l logs m marks : List ℕ) where
+    whole-refused : Refused r → Whole x r o out l logs m marks → (out ≡ o) × (logs ≡ l) × (marks ≡ m)
+    whole-refused (q, e) c = let left = left-refused x o l m (q, sym (c .answer) ∙ e) in (c .partners ∙ left .0, c .numbers ∙ left .1, c .dead ∙ left .2)
+
+    whole-absent : Absent r → Whole x r o out l logs m marks → (out ≡ o) × (logs ≡ l) × (marks ≡ m)
+    whole-absent (n, e) c = let left = left-absent x o l m (n, sym (c .answer) ∙ e) in (c .partners ∙ left .0, c .numbers ∙ left .1, c .dead ∙ left .2)
+
+pub partners-refused : Leaves c-partners.ended c-partners-reads.Post (λ κs r. Refused r) (λ κs a. (tt {0}, (tt {0}, (now (a .1 .1 .0), tt {0}))))
+partners-refused κs a r w such call = ap (λ (o : List ℕ). (tt {0}, (tt {0}, (o, tt {0})))) (alone-refused _ r _ _ such call)
+
+pub partners-absent : Leaves c-partners.ended c-partners-reads.Post (λ κs r. Absent r) (λ κs a. (tt {0}, (tt {0}, (now (a .1 .1 .0), tt {0}))))
+partners-absent κs a r w such call = ap (λ (o : List ℕ). (tt {0}, (tt {0}, (o, tt {0})))) (alone-absent _ r _ _ such call)
+
+pub partners-with-refused : Leaves c-partners-with.ended c-partners-with-reads.Post (λ κs r. Refused r) (λ κs a. (tt {0}, (tt {0}, (tt {0}, (now (a .1 .1 .1 .0), tt {0})))))
+partners-with-refused κs a r w such call = ap (λ (o : List ℕ). (tt {0}, (tt {0}, (tt {0}, (o, tt {0}))))) (alone-refused _ r _ _ such call)
+
+pub partners-with-absent : Leaves c-partners-with.ended c-partners-with-reads.Post (λ κs r. Absent r) (λ κs a. (tt {0}, (tt {0}, (tt {0}, (now (a .1 .1 .1 .0), tt {0})))))
+partners-with-absent κs a r w such call = ap (λ (o : List ℕ). (tt {0}, (tt {0}, (tt {0}, (o, tt {0}))))) (alone-absent _ r _ _ such call)
+
+pub lookup-refused : Leaves c-lookup.ended c-lookup-reads.Post (λ κs r. Refused r)
+    (λ κs a. (tt {0}, (tt {0}, (now (a .1 .1 .0), (now (a .1 .1 .1 .0), (now (a .1 .1 .1 .1 .0), tt {0}))))))
+lookup-refused κs a r w such call =
+    let left = whole-refused _ r _ _ _ _ _ _ such call in λ i. (tt {0}, (tt {0}, (left .0 i, (left .1 i, (left .2 i, tt {0})))))
+
+pub lookup-absent : Leaves c-lookup.ended c-lookup-reads.Post (λ κs r. Absent r)
+    (λ κs a. (tt {0}, (tt {0}, (now (a .1 .1 .0), (now (a .1 .1 .1 .0), (now (a .1 .1 .1 .1 .0), tt {0}))))))
+lookup-absent κs a r w such call =
+    let left = whole-absent _ r _ _ _ _ _ _ such call in λ i. (tt {0}, (tt {0}, (left .0 i, (left .1 i, (left .2 i, tt {0})))))
+
+pub lookup-with-refused : Leaves c-lookup-with.ended c-lookup-with-reads.Post (λ κs r. Refused r)
+    (λ κs a. (tt {0}, (tt {0}, (tt {0}, (now (a .1 .1 .1 .0), (now (a .1 .1 .1 .1 .0), (now (a .1 .1 .1 .1 .1 .0), tt {0})))))))
+lookup-with-refused κs a r w such call =
+    let left = whole-refused _ r _ _ _ _ _ _ such call in λ i. (tt {0}, (tt {0}, (tt {0}, (left .0 i, (left .1 i, (left .2 i, tt {0}))))))
+
+pub lookup-with-absent : Leaves c-lookup-with.ended c-lookup-with-reads.Post (λ κs r. Absent r)
+    (λ κs a. (tt {0}, (tt {0}, (tt {0}, (now (a .1 .1 .1 .0), (now (a .1 .1 .1 .1 .0), (now (a .1 .1 .1 .1 .1 .0), tt {0})))))))
+lookup-with-absent κs a r w such call =
+    let left = whole-absent _ r _ _ _ _ _ _ such call in λ i. (tt {0}, (tt {0}, (tt {0}, (left .0 i, (left .1 i, (left .2 i, tt {0}))))))
+
+-- ---- the read-out
+
+batch-stays : (f o : List ℕ) (q : Refusal) → readOutOf f (length o) ≡ ReadOut.Refused q → readOutLeaves f o ≡ o
+unfolding readOutOf readOutLeaves out.answerOf leaves
+batch-stays f o q e = go (readCheck f (length o)) e
+  where
+    go : (c : Check) → out.answerOf c (neededFor f) ≡ ReadOut.Refused q → leaves c (batchIn f) o ≡ o
+    go Check.Fine h = let z : _≡_ {A = ℕ} 0 1 = cc in absurd (omega arith)
+    go (Check.Bad r) h = refl
+
+pub read-out-refused : Leaves c-read-out.ended c-read-out-reads.Post (λ κs r. (q : Refusal) × (r ≡ ReadOut.Refused q)) (λ κs a. (tt {0}, (now (a .1 .0), tt {0})))
+read-out-refused κs a r w (q, e) call =
+    ap (λ (o : List ℕ). (tt {0}, (o, tt {0}))) (call .1 ∙ batch-stays (now (a .0)) (now (a .1 .0)) q (sym (call .0) ∙ e))
+
+-- ---- the writer
+
+file-stays : (s o : List ℕ) (r : Written) (o′ : List ℕ) (q : Refusal) → r ≡ Written.Refused q → Wrote s o r o′ → o′ ≡ o
+unfolding writer.leaves
+file-stays s o r o′ q e c = c .output ∙ ap (λ (x : Written). writer.leaves x (fileIn s) o) (sym (c .answer) ∙ e)
+
+pub write-refused : Leaves c-write.ended c-write-reads.Post (λ κs r. (q : Refusal) × (r ≡ Written.Refused q)) (λ κs a. (tt {0}, (now (a .1 .0), tt {0})))
+write-refused κs a r w (q, e) call = ap (λ (o : List ℕ). (tt {0}, (o, tt {0}))) (file-stays (now (a .0)) (now (a .1 .0)) r (w .1 .0) q e call)
+
+-- ---- the section list: the caller's table of rows
+
+pub list-refused : Leaves c-sections.ended Listed-post (λ κs r. (q : Refusal) × (r ≡ Listed.Refused q)) (λ κs a. (tt {0}, (now (a .1 .0), tt {0})))
+list-refused κs a r w (q, e) call =
+    ap (λ (t : List Row). (tt {0}, (t, tt {0}))) (call .1 ∙ refused-leaves (now (a .0)) (length (now (a .1 .0))) q (now (a .1 .0)) (sym (call .0) ∙ e))
