@@ -1,5 +1,6 @@
 -- The stripped copy itself: laid out without gaps, the sections' sums as they were stored. It is a copy as Stripped says.
 use mathlib.Core.Path.{_≡_, refl, sym, ap, ap₂, _∙_}
+use mathlib.Core.Logic.{inl}
 use Prim.Native.Nat.{ℕ, zero, suc, _+_, _-_, _*_, _^_, _≤_, _<_}
 use native.Mathlib.Omega.{arith}
 use native.Mathlib.Decide.{decLt}
@@ -13,20 +14,19 @@ use Rattle.base.specs.Pick.{pick}
 use Rattle.base.specs.Over.{part, length-part}
 use Rattle.codes.specs.Little.{leAt, leBytes}
 use Rattle.codes.specs.Little.Laws.{leAt-lt}
+use Rattle.xxh3_spec.specs.Xxh3.{xxh3}
 use Rattle.refusal.specs.declared.Refusal.{Refusal}
 use Rattle.refusal.specs.declared.Check.{Check}
 use Rattle.refusal.specs.Check.Laws.{pick-fine, and-parts}
 use Rattle.frame.specs.declared.Row.{Row}
-use Rattle.frame.specs.declared.Opened.{Opened}
-use Rattle.frame.specs.declared.Opening.{Opening}
 use Rattle.frame.specs.Frame.{rangeOf, rowAt, nextAt, rowsFrom, endFrom, rowsOf, endOf, countOf, keyCount, edgeCount, bitsOf, rangeGood, ranges, footLen, bodyOf}
-use Rattle.frame.specs.Frame.Laws.{length-rows, end-room, Table}
-use Rattle.frame.specs.Open.{openOf}
-use Rattle.frame.specs.Open.Laws.{Frames, opens-parts, size-parts, tail-parts}
+use Rattle.frame.specs.Kind as kind
+use Rattle.frame.specs.Frame.Laws.{length-rows, end-room, ranges-parts, ranges-made}
+use Rattle.frame.specs.Open.Laws.{size-parts, tail-parts}
 use Rattle.frame.specs.Layout.{Section, Layout, payload, entry, entries, bodyBytes, trailer, layOut}
 use Rattle.laid_out.specs.Rows.{rowsIn, Fits, AllFit, Small, length-entry, past-first, length-first, name-back, length-body, body-rows, body-end, keys-back, edges-back, bits-back}
-use Rattle.laid_out.specs.Laid.{length-laid, body-back, size-fine, tail-fine, sum-fine, file-rows, ranges-fine, head-back, bytes-first}
-use Rattle.copies.specs.Stripped.{unknown, Kept, Copied, none, dropped, kept, Stripped}
+use Rattle.laid_out.specs.Laid.{length-laid, sum-back, magic-back, body-back, size-fine, tail-fine, file-rows, ranges-fine, head-back, bytes-first}
+use Rattle.copies.specs.Stripped.{Kept, Copied, none, dropped, kept, Outer, Stripped, Later}
 
 -- an entry of b with its name, and its bytes in f
 unfoldable pub sectionAt : List ℕ → List ℕ → Row → Section
@@ -40,7 +40,7 @@ sectionAt f b r = record {
 
 unfoldable pub keptOf : List ℕ → List ℕ → List Row → List Section
 keptOf f b [] = []
-keptOf f b (r ∷ rs) = pick (unknown (r .kind)) (keptOf f b rs) (sectionAt f b r ∷ keptOf f b rs)
+keptOf f b (r ∷ rs) = pick (kind.unknown (r .kind)) (keptOf f b rs) (sectionAt f b r ∷ keptOf f b rs)
 
 -- the file's frame without unknown kinds, minor 0
 unfoldable pub stripped : List ℕ → Layout
@@ -94,7 +94,7 @@ module _ (f b : List ℕ) (by : Bytes b) (limit : ℕ) (lim : limit ≤ length f
       let in0 : floor ≤ r .start = leb-true floor (r .start) (q .0) in
       let in1 : r .start + r .len ≤ limit = leb-true (r .start + r .len) limit (q .1) in
       let ih = total d (nextAt b i) (r .start + r .len) (k + 1) in1 (p .1) in
-      go (unknown (r .kind)) in0 in1 ih
+      go (kind.unknown (r .kind)) in0 in1 ih
     where
       rest : List Section
       rest = keptOf f b (rowsFrom d b (nextAt b i))
@@ -113,7 +113,7 @@ unfolding rowsFrom endFrom keptOf entries sectionAt rowAt
 names-total f b zero i at e = omega arith
 names-total f b (suc d) i at e =
     let room = end-room d b (nextAt b i) in
-    go (unknown (rowAt b i .kind)) room (λ a. names-total f b d (nextAt b i) a e)
+    go (kind.unknown (rowAt b i .kind)) room (λ a. names-total f b d (nextAt b i) a e)
   where
     rest : List Section
     rest = keptOf f b (rowsFrom d b (nextAt b i))
@@ -132,7 +132,7 @@ names-total f b (suc d) i at e =
 fewer : (f b : List ℕ) (rs : List Row) → length (keptOf f b rs) ≤ length rs
 unfolding keptOf
 fewer f b [] = omega arith
-fewer f b (r ∷ rs) = go (unknown (r .kind)) (fewer f b rs)
+fewer f b (r ∷ rs) = go (kind.unknown (r .kind)) (fewer f b rs)
   where
     go : (u : Bool) → length (keptOf f b rs) ≤ length rs → length (pick u (keptOf f b rs) (sectionAt f b r ∷ keptOf f b rs)) ≤ suc (length rs)
     go true h = omega arith
@@ -142,7 +142,7 @@ fewer f b (r ∷ rs) = go (unknown (r .kind)) (fewer f b rs)
 all-fit : (f b : List ℕ) {rs : List Row} → AllWithin f b rs → (at : ℕ) → at + length (payload (keptOf f b rs)) < 2 ^ 64 → AllFit at (keptOf f b rs)
 unfolding keptOf AllFit payload sectionAt
 all-fit f b end at h = tt
-all-fit f b (more {r} {rs} w ws) at h = go (unknown (r .kind)) (all-fit f b ws) h
+all-fit f b (more {r} {rs} w ws) at h = go (kind.unknown (r .kind)) (all-fit f b ws) h
   where
     rest : List Section
     rest = keptOf f b rs
@@ -161,7 +161,7 @@ copied : (f b g c : List ℕ) {rs : List Row} → AllWithin f b rs → (at i : �
     → (x y : List ℕ) → length x ≡ i → c ≡ x ++ (entries at (keptOf f b rs) ++ y) → Copied f b g c rs (rowsIn at i (keptOf f b rs))
 unfolding keptOf rowsIn sectionAt payload
 copied f b g c end at i p q l e x y m d = none
-copied f b g c (more {r} {rs} w ws) at i p q l e x y m d = go (unknown (r .kind)) refl e d (copied f b g c ws)
+copied f b g c (more {r} {rs} w ws) at i p q l e x y m d = go (kind.unknown (r .kind)) refl e d (copied f b g c ws)
   where
     rest : List Section
     rest = keptOf f b rs
@@ -169,7 +169,7 @@ copied f b g c (more {r} {rs} w ws) at i p q l e x y m d = go (unknown (r .kind)
     s : Section
     s = sectionAt f b r
 
-    go : (u : Bool) → unknown (r .kind) ≡ u → g ≡ p ++ (payload (pick u rest (s ∷ rest)) ++ q) → c ≡ x ++ (entries at (pick u rest (s ∷ rest)) ++ y)
+    go : (u : Bool) → kind.unknown (r .kind) ≡ u → g ≡ p ++ (payload (pick u rest (s ∷ rest)) ++ q) → c ≡ x ++ (entries at (pick u rest (s ∷ rest)) ++ y)
         → ((a j : ℕ) (p q : List ℕ) → length p ≡ a → g ≡ p ++ (payload rest ++ q) → (x y : List ℕ) → length x ≡ j → c ≡ x ++ (entries a rest ++ y) → Copied f b g c rs (rowsIn a j rest))
         → Copied f b g c (r ∷ rs) (rowsIn at i (pick u rest (s ∷ rest)))
     go true u e d ih = dropped u (ih at i p q l e x y m d)
@@ -188,7 +188,7 @@ copied f b g c (more {r} {rs} w ws) at i p q l e x y m d = go (unknown (r .kind)
           name = ap₂ (λ (t : List ℕ) (a : ℕ). part t (a + 28) (a + 28 + length (s .name))) d (sym m) ∙ name-back s rest at x y;
           len = omega arith;
           bytes = ap₂ (λ (t : List ℕ) (a : ℕ). part t a (a + length (s .bytes))) e (sym l) ∙ bytes-first p s rest q;
-          sum = refl;
+          sum = inl refl;
         } in
         kept u same (ih (at + length (s .bytes)) (i + 28 + length (s .name)) (p ++ bs) q pl (e ∙ on) (x ++ entry at s) y xl (d ∙ past-first s rest at x y))
 
@@ -200,27 +200,19 @@ bytes-part s by a e j = elim (decLt j (e - a)) [
   | no h ↦ rw (List·getD-eq-default (part s a e) 0 {n = j} (simp length-take (omega arith))) (omega arith)
 ]
 
-module _ (f : List ℕ) (by : Bytes f) (o : Opened) (op : openOf f ≡ Opening.Good o) where
+module _ (f : List ℕ) (by : Bytes f) (l : Later f) where
   abbrev b : List ℕ
   b = bodyOf f
 
-  w : Frames f
-  w = opens-parts f o op .frames
+  z : Outer f
+  z = l .outer
 
-  -- the file's size, and its footer's
-  record Sizes : Type 0 where
-    low : 84 ≤ length f
-    high : length f ≤ 2 ^ 30
-    some : 39 ≤ footLen f
-    most : footLen f ≤ length f - 64
-
-  z : Sizes
-  z = let size = size-parts (length f) (w .size) in
-      let tail = tail-parts (length f) f (w .tail) in record { low = size .0; high = size .1; some = tail .0; most = tail .1 }
+  apart : ranges (length f - footLen f) (rowsOf b) 64 0 ≡ Check.Fine
+  apart = ranges-made (length f - footLen f) 64 (rowsOf b) 0 (z .apart)
 
   length-b : length b ≡ footLen f - 20
   unfolding bodyOf
-  length-b = length-part f (length f - footLen f) (length f - 20) (omega arith) ∙ omega (arith, z)
+  length-b = length-part f (length f - footLen f) (length f - 20) (omega arith) ∙ omega (arith, z .low, z .least, z .most)
 
   bytes-b : Bytes b
   unfolding bodyOf
@@ -234,26 +226,26 @@ module _ (f : List ℕ) (by : Bytes f) (o : Opened) (op : openOf f ≡ Opening.G
 
   ok : AllWithin f b (rowsOf b)
   unfolding rowsOf endOf limit
-  ok = within f b bytes-b limit (omega arith) (countOf b) 2 64 0 (omega (arith, w .table .filled)) (w .apart)
+  ok = within f b bytes-b limit (omega arith) (countOf b) 2 64 0 (omega (arith, z .fills)) apart
 
   paid : 64 + length (payload ss) ≤ length f - footLen f
   unfolding rowsOf limit
-  paid = total f b bytes-b limit (omega arith) (countOf b) 2 64 0 (omega (arith, z)) (w .apart)
+  paid = total f b bytes-b limit (omega arith) (countOf b) 2 64 0 (omega (arith, z .low, z .most)) apart
 
   shorter : length (entries 64 ss) + 19 ≤ length b
   unfolding rowsOf endOf
-  shorter = omega (arith, names-total f b (countOf b) 2 64 (omega (arith, w .table .filled)), w .table .filled)
+  shorter = omega (arith, names-total f b (countOf b) 2 64 (omega (arith, z .fills)), z .fills)
 
   pub small : Small ss
   unfolding rowsOf
-  small = (omega (arith, fewer f b (rowsOf b), length-rows (countOf b) b 2, w .table .most), all-fit f b ok 64 (omega (arith, paid, z)))
+  small = (omega (arith, fewer f b (rowsOf b), length-rows (countOf b) b 2, l .few), all-fit f b ok 64 (omega (arith, paid, z .high)))
 
   pub h64 : length (set (take 64 f) 9 0) ≡ 64
-  h64 = rw length-set (length-take-le 64 f (omega (arith, z)))
+  h64 = rw length-set (length-take-le 64 f (omega (arith, z .low)))
 
   pub fits : length (strip f) ≤ 2 ^ 30
   unfolding strip stripped
-  fits = omega (arith, length-laid (stripped f) h64, length-body ss (keyCount b) (edgeCount b) (bitsOf b) small, paid, shorter, length-b, z)
+  fits = omega (arith, length-laid (stripped f) h64, length-body ss (keyCount b) (edgeCount b) (bitsOf b) small, paid, shorter, length-b, z .low, z .high, z .least, z .most)
 
   table-copied : Copied f b (strip f) (bodyBytes ss (keyCount b) (edgeCount b) (bitsOf b)) (rowsOf b) (rowsIn 64 2 ss)
   unfolding strip stripped layOut bodyBytes leBytes
@@ -261,7 +253,24 @@ module _ (f : List ℕ) (by : Bytes f) (o : Opened) (op : openOf f ≡ Opening.G
       let body : List ℕ = bodyBytes (keptOf f b (rowsOf b)) (keyCount b) (edgeCount b) (bitsOf b) in
       copied f b (strip f) body ok 64 2 (set (take 64 f) 9 0) (body ++ trailer body) h64 refl (leBytes 2 (length ss)) (leBytes 8 (keyCount b) ++ (leBytes 8 (edgeCount b) ++ (bitsOf b ∷ []))) refl refl
 
-  -- it is a copy
+  -- size, trailer, footer checksum and ranges are mended
+  outer : Outer (strip f)
+  unfolding strip stripped
+  outer =
+      let x = stripped f in
+      let size = size-parts (length (layOut x)) (size-fine x h64 small fits) in
+      let foot = tail-parts (length (layOut x)) (layOut x) (tail-fine x h64 small fits) in record {
+        low = size .0;
+        high = size .1;
+        magic = magic-back x h64 small fits;
+        least = foot .0;
+        most = foot .1;
+        sum = ap xxh3 (body-back x h64 small fits) ∙ sym (sum-back x h64 small fits);
+        fills = rw (body-back x h64 small fits) (body-end ss (keyCount b) (edgeCount b) (bitsOf b) small);
+        apart = ranges-parts _ 64 (rowsOf (bodyOf (layOut x))) 0 (ranges-fine x h64 small fits);
+      }
+
+  -- it is a copy, of a file that opens and of one that keeps the outer rules alone
   pub is-copy : Stripped f (strip f)
   unfolding strip stripped
   is-copy =
@@ -269,13 +278,9 @@ module _ (f : List ℕ) (by : Bytes f) (o : Opened) (op : openOf f ≡ Opening.G
       let head : (i : ℕ) → i < 64 → getD (layOut x) i 0 ≡ getD (set (take 64 f) 9 0) i 0 = head-back x h64 small fits in
       record {
         header = λ i l ne. head i l ∙ getD-set-other (take 64 f) 9 i 0 0 ne ∙ getD-take 64 f i 0 l;
-        minor = head 9 (omega arith) ∙ getD-set-same (take 64 f) 9 0 0 (rw (length-take-le 64 f (omega (arith, z))) (omega arith));
-        size = size-fine x h64 small fits;
-        tail = tail-fine x h64 small fits;
-        sum = sum-fine x h64 small fits;
-        fills = rw (body-back x h64 small fits) (body-end ss (keyCount b) (edgeCount b) (bitsOf b) small);
+        minor = head 9 (omega arith) ∙ getD-set-same (take 64 f) 9 0 0 (rw (length-take-le 64 f (omega (arith, z .low))) (omega arith));
+        outer = outer;
         table = rw (file-rows x h64 small fits, body-back x h64 small fits) table-copied;
-        apart = ranges-fine x h64 small fits;
         keys = ap keyCount (body-back x h64 small fits) ∙ keys-back ss (keyCount b) (edgeCount b) (bitsOf b) small (leAt-lt b bytes-b (length b - 17) 8);
         edges = ap edgeCount (body-back x h64 small fits) ∙ edges-back ss (keyCount b) (edgeCount b) (bitsOf b) small (leAt-lt b bytes-b (length b - 9) 8);
         bits = ap bitsOf (body-back x h64 small fits) ∙ bits-back ss (keyCount b) (edgeCount b) (bitsOf b) small;

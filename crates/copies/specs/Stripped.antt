@@ -1,40 +1,36 @@
 -- Demand 3, as a relation: a copy of a file "without the unknown sections, minor 0, and offsets, lengths and checksums
--- mended". It opens, and it knows the same.
+-- mended". It opens exactly if the file does, and it knows the same.
 use mathlib.Core.Path.{_≡_, refl, sym, ap, ap₂, _∙_}
-use Prim.Native.Nat.{ℕ, zero, suc, _+_, _-_, _*_, _/_, _≤_, _<_}
+use mathlib.Core.Logic.{_↔_, _⊎_}
+use Prim.Native.Nat.{ℕ, _+_, _-_, _^_, _≤_, _<_}
 use native.Mathlib.Omega.{arith}
 use mathlib.Core.List.{List, [], _∷_}
 use mathlib.Core.Bool.{Bool, true, false, not, _&&_, _||_}
 use lib.ListN.{length, getD}
-use lib.Dec.{ltb, leb, eqb}
-use borrow.Author.Tests.{ne-eqb}
+use lib.Dec.{eqb}
 use Rattle.base.specs.Pick.{pick}
 use Rattle.base.specs.Over.{part}
 use Rattle.codes.specs.Little.{leAt}
-use Rattle.codes.specs.Little.Laws.{leAt-same}
+use Rattle.xxh3_spec.specs.Xxh3.{xxh3}
 use Rattle.refusal.specs.declared.Refusal.{Refusal}
 use Rattle.refusal.specs.declared.Check.{Check}
-use Rattle.refusal.specs.Check.{_⊳_, refuse}
+use Rattle.refusal.specs.Check.{_⊳_}
 use Rattle.refusal.specs.Check.Laws.{fine-parts, fine-both, pick-fine, fine-pick, and-parts, and-both}
 use Rattle.frame.specs.declared.Row.{Row}
 use Rattle.frame.specs.declared.Range.{Range}
 use Rattle.frame.specs.declared.Opened.{Opened}
 use Rattle.frame.specs.declared.Opening.{Opening}
 use Rattle.frame.specs.Kind as kind
-use Rattle.frame.specs.Frame.{has, twice, rangeOf, nowhere, sectionOf, all, nameGood, kindsGood, codecGood, codecs, ranges, countOf, rowsOf, endOf, rowsFrom, sizesGood, presenceGood, countsGood, keyCount, edgeCount, bitsOf, bodyOf, footLen, flagsOf, sizeCheck, headCheck, tailCheck, sumCheck, frameCheck}
-use Rattle.frame.specs.Frame.Laws.{length-rows, Table}
-use Rattle.frame.specs.Open.{Known, knownOf, bytesAt, recordFrom, recordOf, framedFrom, framedOf, contentCheck, fileCheck, opening, openOf}
-use Rattle.frame.specs.Open.Laws.{Frames, frames-parts, frames-made, opens-parts, opens-record}
-use Rattle.lookup.specs.Lookup.{Outcome, Rooms, lookOf}
+use Rattle.frame.specs.Frame.{has, twice, rangeOf, sectionOf, all, nameGood, kindsGood, codecGood, codecs, ranges, countOf, rowsOf, endOf, countsGood, keyCount, edgeCount, bitsOf, bodyOf, footLen, flagsOf, sizeCheck, tailCheck, sumCheck, frameCheck}
+use Rattle.frame.specs.Frame.Laws.{length-rows, Table, Apart, Short, names-short, ranges-parts, ranges-made, SameKnown, skipped, section-skipped, kinds-known, kinds-some, counts-known, codec-skipped, name-skipped, ButMinor, flags-minor, head-minor}
+use Rattle.frame.specs.Open.{Known, knownOf, bytesAt, recordFrom, recordOf, framedFrom, framedOf, contentCheck, fileCheck, openOf}
+use Rattle.frame.specs.Open.Laws.{frames-made, opens-parts, opens-record, opens-fine, size-parts, size-made, tail-parts, tail-magic, tail-made, sum-parts, sum-made}
+use Rattle.lookup.specs.Lookup.{Rooms, lookOf}
 use Rattle.reader.specs.Look.{look-known}
-
--- every kind but 1 to 6 and 0x0100
-abbrev pub unknown : ℕ → Bool
-unknown k = not (kind.fixed k || eqb k kind.properties)
 
 -- ---- the copy's table
 
--- an entry of f's body b, and its copy of g's body c: only the section's place and the name's may differ
+-- an entry of f's body b, and its copy of g's body c: only the section's place, the name's and the stored checksum may differ
 pub record Kept (f b g c : List ℕ) (r t : Row) : Type 0 where
   pub kind : t .kind ≡ r .kind
   pub codec : t .codec ≡ r .codec
@@ -42,73 +38,89 @@ pub record Kept (f b g c : List ℕ) (r t : Row) : Type 0 where
   pub name : part c (t .nameat) (t .nameat + t .namelen) ≡ part b (r .nameat) (r .nameat + r .namelen)
   pub len : t .len ≡ r .len
   pub bytes : bytesAt g (rangeOf t) ≡ bytesAt f (rangeOf r)
-  pub sum : t .sum ≡ r .sum
+  -- as it was stored, or mended
+  pub sum : (t .sum ≡ r .sum) ⊎ (t .sum ≡ xxh3 (bytesAt f (rangeOf r)))
 
 -- the entries of f, and those of the copy g
 pub data Copied (f b g c : List ℕ) : List Row → List Row → Type 0 where
   none : Copied f b g c [] []
-  dropped : {r : Row} {rs ts : List Row} → unknown (r .kind) ≡ true → Copied f b g c rs ts → Copied f b g c (r ∷ rs) ts
-  kept : {r t : Row} {rs ts : List Row} → unknown (r .kind) ≡ false → Kept f b g c r t → Copied f b g c rs ts → Copied f b g c (r ∷ rs) (t ∷ ts)
+  dropped : {r : Row} {rs ts : List Row} → kind.unknown (r .kind) ≡ true → Copied f b g c rs ts → Copied f b g c (r ∷ rs) ts
+  kept : {r t : Row} {rs ts : List Row} → kind.unknown (r .kind) ≡ false → Kept f b g c r t → Copied f b g c rs ts → Copied f b g c (r ∷ rs) (t ∷ ts)
 
 -- ---- the copy
 
+-- size, trailer and footer checksum, a table that fills the body, and sections that lie apart: rules 1, 6 to 8 and 11 and that
+-- part of 9, in numbers
+pub record Outer (f : List ℕ) : Type 0 where
+  pub low : 84 ≤ length f
+  pub high : length f ≤ 2 ^ 30
+  pub magic : leAt f (length f - 8) 8 ≡ kind.magic
+  pub least : 39 ≤ footLen f
+  pub most : footLen f ≤ length f - 64
+  pub sum : xxh3 (bodyOf f) ≡ leAt f (length f - 20) 8
+  pub fills : endOf (bodyOf f) + 17 ≡ length (bodyOf f)
+  pub apart : Apart (length f - footLen f) 64 (rowsOf (bodyOf f))
+
 pub record Stripped (f g : List ℕ) : Type 0 where
   -- the header, but minor 0
-  pub header : (i : ℕ) → i < 64 → (i ≡ 9 → ⊥) → getD g i 0 ≡ getD f i 0
+  pub header : ButMinor g f
   pub minor : getD g 9 0 ≡ 0
-  -- size, trailer and checksum are mended
-  pub size : sizeCheck (length g) ≡ Check.Fine
-  pub tail : tailCheck (length g) g ≡ Check.Fine
-  pub sum : sumCheck g ≡ Check.Fine
-  -- the entries fill the body, and their ranges are as the table rules allow
-  pub fills : endOf (bodyOf g) + 17 ≡ length (bodyOf g)
+  -- offsets, lengths and the footer's checksum are mended
+  pub outer : Outer g
+  -- the entries
   pub table : Copied f (bodyOf f) g (bodyOf g) (rowsOf (bodyOf f)) (rowsOf (bodyOf g))
-  pub apart : ranges (length g - footLen g) (rowsOf (bodyOf g)) 64 0 ≡ Check.Fine
   -- the counts
   pub keys : keyCount (bodyOf g) ≡ keyCount (bodyOf f)
   pub edges : edgeCount (bodyOf g) ≡ edgeCount (bodyOf f)
   pub bits : bitsOf (bodyOf g) ≡ bitsOf (bodyOf f)
 
+-- what is asked of a later writer's file besides: at most 64 sections, and names of at most 63 bytes
+pub record Later (f : List ℕ) : Type 0 where
+  pub outer : Outer f
+  pub few : countOf (bodyOf f) ≤ 64
+  pub names : Short (rowsOf (bodyOf f))
+
 -- ---- what a copied table keeps, of a kind that is known
 
-other : (a k : ℕ) → unknown k ≡ false → unknown a ≡ true → eqb a k ≡ false
-other a k h u = ne-eqb a k (λ e. let v : unknown k ≡ true = (rw e at u) in let w : true ≡ false = sym v ∙ h in let z : _≡_ {A = ℕ} 0 1 = cc in omega arith)
-
 module _ (f b g c : List ℕ) where
-  has-copied : (k : ℕ) → unknown k ≡ false → {rs ts : List Row} → Copied f b g c rs ts → has k ts ≡ has k rs
+  has-copied : (k : ℕ) → kind.unknown k ≡ false → {rs ts : List Row} → Copied f b g c rs ts → has k ts ≡ has k rs
   unfolding has
   has-copied k h none = refl
-  has-copied k h (dropped {r} u d) = rw (other (r .kind) k h u, has-copied k h d)
+  has-copied k h (dropped {r} {rs} u d) = has-copied k h d ∙ skipped r rs u .there k h
   has-copied k h (kept u w d) = rw (w .kind, has-copied k h d)
 
-  twice-copied : (k : ℕ) → unknown k ≡ false → {rs ts : List Row} → Copied f b g c rs ts → twice k ts ≡ twice k rs
+  twice-copied : (k : ℕ) → kind.unknown k ≡ false → {rs ts : List Row} → Copied f b g c rs ts → twice k ts ≡ twice k rs
   unfolding twice
   twice-copied k h none = refl
-  twice-copied k h (dropped {r} u d) = rw (other (r .kind) k h u, twice-copied k h d)
+  twice-copied k h (dropped {r} {rs} u d) = twice-copied k h d ∙ skipped r rs u .doubled k h
   twice-copied k h (kept {r} {t} {rs} {ts} u w d) =
       ap (λ (x : ℕ). pick (eqb x k) (has k ts) (twice k ts)) (w .kind)
       ∙ ap₂ (λ (x y : Bool). pick (eqb (r .kind) k) x y) (has-copied k h d) (twice-copied k h d)
 
-  len-copied : (k : ℕ) → unknown k ≡ false → {rs ts : List Row} → Copied f b g c rs ts → sectionOf k ts .len ≡ sectionOf k rs .len
+  len-copied : (k : ℕ) → kind.unknown k ≡ false → {rs ts : List Row} → Copied f b g c rs ts → sectionOf k ts .len ≡ sectionOf k rs .len
   unfolding sectionOf
   len-copied k h none = refl
-  len-copied k h (dropped {r} u d) = rw (other (r .kind) k h u) (len-copied k h d)
+  len-copied k h (dropped {r} {rs} u d) = len-copied k h d ∙ skipped r rs u .len k h
   len-copied k h (kept {r} {t} {rs} {ts} u w d) = rw (w .kind) (go (eqb (r .kind) k) (len-copied k h d))
     where
       go : (x : Bool) → sectionOf k ts .len ≡ sectionOf k rs .len → pick x (rangeOf t) (sectionOf k ts) .len ≡ pick x (rangeOf r) (sectionOf k rs) .len
       go true ih = w .len
       go false ih = ih
 
-  bytes-copied : (k : ℕ) → unknown k ≡ false → {rs ts : List Row} → Copied f b g c rs ts → bytesAt g (sectionOf k ts) ≡ bytesAt f (sectionOf k rs)
+  bytes-copied : (k : ℕ) → kind.unknown k ≡ false → {rs ts : List Row} → Copied f b g c rs ts → bytesAt g (sectionOf k ts) ≡ bytesAt f (sectionOf k rs)
   unfolding sectionOf
   bytes-copied k h none = refl
-  bytes-copied k h (dropped {r} u d) = rw (other (r .kind) k h u) (bytes-copied k h d)
+  bytes-copied k h (dropped {r} {rs} u d) = bytes-copied k h d ∙ ap (bytesAt f) (section-skipped r rs u k h)
   bytes-copied k h (kept {r} {t} {rs} {ts} u w d) = rw (w .kind) (go (eqb (r .kind) k) (bytes-copied k h d))
     where
       go : (x : Bool) → bytesAt g (sectionOf k ts) ≡ bytesAt f (sectionOf k rs) → bytesAt g (pick x (rangeOf t) (sectionOf k ts)) ≡ bytesAt f (pick x (rangeOf r) (sectionOf k rs))
       go true ih = w .bytes
       go false ih = ih
 
+  known-copied : {rs ts : List Row} → Copied f b g c rs ts → SameKnown rs ts
+  known-copied d = record { there = λ k h. has-copied k h d; doubled = λ k h. twice-copied k h d; len = λ k h. len-copied k h d }
+
+  -- names and codecs: of the copy, and of the file where the copy's are good
   names-copied : {rs ts : List Row} → Copied f b g c rs ts → all nameGood rs ≡ true → all nameGood ts ≡ true
   unfolding all
   names-copied none e = refl
@@ -118,39 +130,62 @@ module _ (f b g c : List ℕ) where
       let q : nameGood t ≡ true = rw (w .kind, w .namelen) (p .0) in
       and-both q (names-copied d (p .1))
 
-  codecs-copied : {rs ts : List Row} → Copied f b g c rs ts → (i j : ℕ) → codecs rs i ≡ Check.Fine → codecs ts j ≡ Check.Fine
+  names-added : {rs ts : List Row} → Copied f b g c rs ts → Short rs → all nameGood ts ≡ true → all nameGood rs ≡ true
+  unfolding all Short
+  names-added none s e = refl
+  names-added (dropped {r} {rs} u d) s e = and-both (name-skipped r rs u (s .0)) (names-added d (s .1) e)
+  names-added (kept {r} {t} {rs} {ts} u w d) s e =
+      let p = and-parts (nameGood t) (all nameGood ts) e in
+      let q : nameGood r ≡ true = rw (w .kind, w .namelen) at (p .0) in
+      and-both q (names-added d (s .1) (p .1))
+
+  codecs-copied : {rs ts : List Row} → Copied f b g c rs ts → (i j : ℕ) → (codecs rs i ≡ Check.Fine) ↔ (codecs ts j ≡ Check.Fine)
   unfolding codecs
-  codecs-copied none i j e = refl
-  codecs-copied (dropped {r} {rs} u d) i j e = codecs-copied d (i + 1) j (pick-fine (codecGood r) (codecs rs (i + 1)) (Refusal.Codec i) e .1)
-  codecs-copied (kept {r} {t} {rs} {ts} u w d) i j e =
-      let p = pick-fine (codecGood r) (codecs rs (i + 1)) (Refusal.Codec i) e in
-      let q : codecGood t ≡ true = rw (w .kind, w .codec) (p .0) in
-      fine-pick (Check.Bad (Refusal.Codec j)) q (codecs-copied d (i + 1) (j + 1) (p .1))
+  codecs-copied none i j = (λ e. refl, λ e. refl)
+  codecs-copied (dropped {r} {rs} u d) i j =
+      let ih = codecs-copied d (i + 1) j in
+      (λ e. ih .0 (sym (codec-skipped r rs u i) ∙ e), λ e. codec-skipped r rs u i ∙ ih .1 e)
+  codecs-copied (kept {r} {t} {rs} {ts} u w d) i j =
+      let ih = codecs-copied d (i + 1) (j + 1) in
+      let same : codecGood t ≡ codecGood r = rw (w .kind, w .codec) in (
+        λ e. let p = pick-fine (codecGood r) (codecs rs (i + 1)) (Refusal.Codec i) e in fine-pick (Check.Bad (Refusal.Codec j)) (same ∙ p .0) (ih .0 (p .1)),
+        λ e. let p = pick-fine (codecGood t) (codecs ts (j + 1)) (Refusal.Codec j) e in fine-pick (Check.Bad (Refusal.Codec i)) (sym same ∙ p .0) (ih .1 (p .1)),
+      )
 
   length-copied : {rs ts : List Row} → Copied f b g c rs ts → length ts ≤ length rs
   length-copied none = omega arith
   length-copied (dropped u d) = omega (arith, length-copied d)
   length-copied (kept u w d) = omega (arith, length-copied d)
 
--- a table that has a kind has an entry
-has-some : (k : ℕ) (rs : List Row) → has k rs ≡ true → 1 ≤ length rs
-unfolding has
-has-some k [] e = let z : _≡_ {A = ℕ} 0 1 = cc in absurd (omega arith)
-has-some k (r ∷ rs) e = omega arith
-
 rows-count : (b : List ℕ) → length (rowsOf b) ≡ countOf b
 unfolding rowsOf
 rows-count b = length-rows (countOf b) b 2
 
--- ---- the copy opens, and knows the same
+-- ---- the copy opens exactly if the file does, and knows the same
 
-opened-fine : (f : List ℕ) (o : Opened) → openOf f ≡ Opening.Good o → fileCheck f ≡ Check.Fine
-unfolding openOf opening
-opened-fine f o e = go (fileCheck f) refl e
-  where
-    go : (x : Check) → fileCheck f ≡ x → opening x (recordOf f) ≡ Opening.Good o → fileCheck f ≡ Check.Fine
-    go Check.Fine q d = q
-    go (Check.Bad r) q d = let z : _≡_ {A = ℕ} 0 1 = cc in absurd (omega arith)
+-- rules 1, 6 to 8 and 11
+outer-checks : (f : List ℕ) → Outer f
+    → (sizeCheck (length f) ≡ Check.Fine) × (tailCheck (length f) f ≡ Check.Fine) × (sumCheck f ≡ Check.Fine) × (ranges (length f - footLen f) (rowsOf (bodyOf f)) 64 0 ≡ Check.Fine)
+outer-checks f o =
+    (size-made (length f) (o .low) (o .high), tail-made (length f) f (o .magic) (o .least) (o .most), sum-made f (o .sum), ranges-made _ 64 (rowsOf (bodyOf f)) 0 (o .apart))
+
+-- a file that opens keeps them
+pub opened-later : (f : List ℕ) (o : Opened) → openOf f ≡ Opening.Good o → Later f
+opened-later f o e =
+    let w = opens-parts f o e .frames in
+    let size = size-parts (length f) (w .size) in
+    let foot = tail-parts (length f) f (w .tail) in
+    let outer : Outer f = record {
+      low = size .0;
+      high = size .1;
+      magic = tail-magic (length f) f (w .tail);
+      least = foot .0;
+      most = foot .1;
+      sum = sum-parts f (w .sum);
+      fills = w .table .filled;
+      apart = ranges-parts _ 64 (rowsOf (bodyOf f)) 0 (w .apart);
+    } in
+    record { outer = outer; few = w .table .most; names = names-short (rowsOf (bodyOf f)) (w .table .names) }
 
 module _ (f g : List ℕ) (s : Stripped f g) where
   abbrev b : List ℕ
@@ -158,16 +193,6 @@ module _ (f g : List ℕ) (s : Stripped f g) where
 
   abbrev c : List ℕ
   c = bodyOf g
-
-  flags-same : flagsOf g ≡ flagsOf f
-  flags-same = leAt-same g f 12 12 4 (λ k h. s .header (12 + k) (omega arith) (λ e. omega arith))
-
-  head-same : headCheck g ≡ headCheck f
-  unfolding headCheck
-  head-same =
-      let x = leAt-same g f 0 0 8 (λ k h. s .header (0 + k) (omega arith) (λ e. omega arith)) in
-      let y = leAt-same g f 10 10 2 (λ k h. s .header (10 + k) (omega arith) (λ e. omega arith)) in
-      rw (x, s .header 8 (omega arith) (λ e. omega arith), y, flags-same)
 
   known-same : knownOf g (recordOf g) ≡ knownOf f (recordOf f)
   unfolding knownOf recordOf recordFrom
@@ -189,54 +214,83 @@ module _ (f g : List ℕ) (s : Stripped f g) where
   content-same : contentCheck (knownOf g (recordOf g)) (framedOf g .fenced) (bytesAt g (framedOf g .fences)) ≡ contentCheck (knownOf f (recordOf f)) (framedOf f .fenced) (bytesAt f (framedOf f .fences))
   content-same = λ j. contentCheck (known-same j) (fences-same .0 j) (fences-same .1 j)
 
+  table-known : SameKnown (rowsOf b) (rowsOf c)
+  table-known = known-copied f b g c (s .table)
+
   counts-same : countsGood (flagsOf g) (keyCount c) (edgeCount c) (bitsOf c) (rowsOf c) ≡ countsGood (flagsOf f) (keyCount b) (edgeCount b) (bitsOf b) (rowsOf b)
-  unfolding countsGood
-  counts-same = λ j.
-      sizesGood (s .keys j) (s .edges j) (s .bits j) (len-copied f b g c kind.keys refl (s .table) j) (len-copied f b g c kind.offsets refl (s .table) j)
-      (len-copied f b g c kind.logs refl (s .table) j) (has-copied f b g c kind.tombstones refl (s .table) j) (len-copied f b g c kind.tombstones refl (s .table) j)
-      && presenceGood (flags-same j) (s .keys j) (s .edges j) (has-copied f b g c kind.tombstones refl (s .table) j) (has-copied f b g c kind.fences refl (s .table) j) (has-copied f b g c kind.properties refl (s .table) j)
+  counts-same =
+      (λ j. countsGood (flags-minor g f (s .header) j) (s .keys j) (s .edges j) (s .bits j) (rowsOf c))
+      ∙ counts-known (rowsOf b) (rowsOf c) table-known (flagsOf f) (keyCount b) (edgeCount b) (bitsOf b)
 
   kinds-same : kindsGood (rowsOf c) ≡ kindsGood (rowsOf b)
-  unfolding kindsGood
-  kinds-same = λ j.
-      (has-copied f b g c kind.keys refl (s .table) j && not (twice-copied f b g c kind.keys refl (s .table) j))
-      && ((has-copied f b g c kind.offsets refl (s .table) j && not (twice-copied f b g c kind.offsets refl (s .table) j))
-      && ((has-copied f b g c kind.partners refl (s .table) j && not (twice-copied f b g c kind.partners refl (s .table) j))
-      && ((has-copied f b g c kind.logs refl (s .table) j && not (twice-copied f b g c kind.logs refl (s .table) j))
-      && (not (twice-copied f b g c kind.tombstones refl (s .table) j) && not (twice-copied f b g c kind.fences refl (s .table) j)))))
+  kinds-same = kinds-known (rowsOf b) (rowsOf c) table-known
 
-  table-good : Table b → Table c
-  unfolding kindsGood
-  table-good t =
+  fewer : countOf c ≤ countOf b
+  fewer = omega (arith, rows-count c, rows-count b, length-copied f b g c (s .table))
+
+  -- the copy's table
+  table-copied : Table b → Table c
+  table-copied t =
       let kinds : kindsGood (rowsOf c) ≡ true = kinds-same ∙ t .kinds in
-      let one = has-some kind.keys (rowsOf c) (and-parts _ _ (and-parts _ _ kinds .0) .0) in
+      let one = kinds-some (rowsOf c) kinds in
       let n = rows-count c in
-      let m = rows-count b in
-      let fewer = length-copied f b g c (s .table) in
+      let less = fewer in
       let most = t .most in
-      record { some = omega arith; most = omega arith; filled = s .fills; names = names-copied f b g c (s .table) (t .names); kinds = kinds }
+      record { some = omega arith; most = omega arith; filled = s .outer .fills; names = names-copied f b g c (s .table) (t .names); kinds = kinds }
+
+  -- the file's, where it is a later writer's
+  table-added : Later f → Table c → Table b
+  table-added l t =
+      let less = fewer in
+      let some = t .some in record {
+        some = omega arith;
+        most = l .few;
+        filled = l .outer .fills;
+        names = names-added f b g c (s .table) (l .names) (t .names);
+        kinds = sym kinds-same ∙ t .kinds;
+      }
 
   module _ (o : Opened) (e : openOf f ≡ Opening.Good o) where
-    frames : Frames f
-    frames = opens-parts f o e .frames
+    good : openOf f ≡ Opening.Good (recordOf f)
+    good = e ∙ ap Opening.Good (sym (opens-record f o e))
 
     pub copy-opens : openOf g ≡ Opening.Good (recordOf g)
-    unfolding openOf opening fileCheck
+    unfolding fileCheck
     copy-opens =
+        let file = opens-parts f o e .frames in
+        let (size, tail, sum, apart) = outer-checks g (s .outer) in
         let frame : frameCheck (length g) g g ≡ Check.Fine = frames-made g (record {
-          size = s .size;
-          head = head-same ∙ frames .head;
-          tail = s .tail;
-          sum = s .sum;
-          table = table-good (frames .table);
-          raw = codecs-copied f b g c (s .table) 0 0 (frames .raw);
-          apart = s .apart;
-          counts = counts-same ∙ frames .counts;
+          size = size;
+          head = head-minor g f (s .header) ∙ file .head;
+          tail = tail;
+          sum = sum;
+          table = table-copied (file .table);
+          raw = codecs-copied f b g c (s .table) 0 0 .0 (file .raw);
+          apart = apart;
+          counts = counts-same ∙ file .counts;
         }) in
-        let content = content-same ∙ fine-parts (frameCheck (length f) f f) _ (opened-fine f o e) .1 in
-        rw (fine-both frame content)
+        let content = content-same ∙ fine-parts (frameCheck (length f) f f) _ (opens-fine f .0 good) .1 in
+        opens-fine g .1 (fine-both frame content)
 
     -- every key has the same answer from both, with equal room: refusals, places and the outputs' contents are the outcome's
     pub copy-answers : (full : Bool) (rooms : Rooms) (key : ℕ) → lookOf full rooms key g ≡ lookOf full rooms key f
-    copy-answers full rooms key =
-        look-known full rooms key g f (recordOf g) (recordOf f) copy-opens (e ∙ ap Opening.Good (sym (opens-record f o e))) known-same
+    copy-answers full rooms key = look-known full rooms key g f (recordOf g) (recordOf f) copy-opens good known-same
+
+  -- the other way: a later writer's file opens where its copy does
+  pub added-opens : Later f → openOf g ≡ Opening.Good (recordOf g) → openOf f ≡ Opening.Good (recordOf f)
+  unfolding fileCheck
+  added-opens l e =
+      let copy = opens-parts g (recordOf g) e .frames in
+      let (size, tail, sum, apart) = outer-checks f (l .outer) in
+      let frame : frameCheck (length f) f f ≡ Check.Fine = frames-made f (record {
+        size = size;
+        head = sym (head-minor g f (s .header)) ∙ copy .head;
+        tail = tail;
+        sum = sum;
+        table = table-added l (copy .table);
+        raw = codecs-copied f b g c (s .table) 0 0 .1 (copy .raw);
+        apart = apart;
+        counts = sym counts-same ∙ copy .counts;
+      }) in
+      let content = sym content-same ∙ fine-parts (frameCheck (length g) g g) _ (opens-fine g .0 e) .1 in
+      opens-fine f .1 (fine-both frame content)

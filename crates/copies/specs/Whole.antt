@@ -14,7 +14,6 @@ use Rattle.frame.specs.Kind as kind
 use Rattle.frame.specs.Frame.{all, rowsOf, bodyOf, footLen, rowAt, nextAt, rowsFrom, countOf}
 use Rattle.frame.specs.Layout.{Section, Layout, payload, entry, entries, bodyBytes, trailer, layOut}
 use Rattle.laid_out.specs.Rows.{rowsIn}
-use Rattle.copies.specs.Stripped.{unknown}
 use Rattle.copies.specs.Strip.{sectionAt, keptOf, stripped, strip, Bytes, bytes-part}
 
 -- every element is a byte
@@ -57,16 +56,16 @@ byted-magic : Byted kind.magicBytes
 byted-magic = cons (lit< tt) (cons (lit< tt) (cons (lit< tt) (cons (lit< tt) (cons (lit< tt) (cons (lit< tt) (cons (lit< tt) (cons (lit< tt) nil)))))))
 
 -- no unknown kind is left
-pub none-unknown : (f b : List ℕ) (rs : List Row) (at i : ℕ) → all (λ r. not (unknown (r .kind))) (rowsIn at i (keptOf f b rs)) ≡ true
+pub none-unknown : (f b : List ℕ) (rs : List Row) (at i : ℕ) → all (λ r. not (kind.unknown (r .kind))) (rowsIn at i (keptOf f b rs)) ≡ true
 unfolding all rowsIn keptOf sectionAt
 none-unknown f b [] at i = refl
-none-unknown f b (r ∷ rs) at i = go (unknown (r .kind)) refl (none-unknown f b rs)
+none-unknown f b (r ∷ rs) at i = go (kind.unknown (r .kind)) refl (none-unknown f b rs)
   where
     rest : List Section
     rest = keptOf f b rs
 
-    go : (u : Bool) → unknown (r .kind) ≡ u → ((at i : ℕ) → all (λ r. not (unknown (r .kind))) (rowsIn at i rest) ≡ true)
-        → all (λ r. not (unknown (r .kind))) (rowsIn at i (pick u rest (sectionAt f b r ∷ rest))) ≡ true
+    go : (u : Bool) → kind.unknown (r .kind) ≡ u → ((at i : ℕ) → all (λ r. not (kind.unknown (r .kind))) (rowsIn at i rest) ≡ true)
+        → all (λ r. not (kind.unknown (r .kind))) (rowsIn at i (pick u rest (sectionAt f b r ∷ rest))) ≡ true
     go true e ih = ih at i
     go false e ih = rw e (ih _ _)
 
@@ -99,7 +98,7 @@ module _ (f b : List ℕ) (by : Bytes f) (bb : Bytes b) where
   plain-kept : (d i : ℕ) → Plain (keptOf f b (rowsFrom d b i))
   unfolding keptOf rowsFrom sectionAt rowAt
   plain-kept zero i = done
-  plain-kept (suc d) i = go (unknown (rowAt b i .kind)) (plain-kept d (nextAt b i))
+  plain-kept (suc d) i = go (kind.unknown (rowAt b i .kind)) (plain-kept d (nextAt b i))
     where
       rest : List Section
       rest = keptOf f b (rowsFrom d b (nextAt b i))

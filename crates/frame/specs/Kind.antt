@@ -1,8 +1,8 @@
 -- Section kinds, their numbers and the sizes of their rows; magic; bounds. Each stands here once.
 use Prim.Native.Nat.{ℕ, _^_}
-use mathlib.Core.Bool.{Bool, _&&_}
+use mathlib.Core.Bool.{Bool, not, _&&_, _||_}
 use mathlib.Core.List.{List, [], _∷_}
-use lib.Dec.{leb}
+use lib.Dec.{leb, eqb}
 
 -- "1 keys, 2 offsets, 3 partners, 4 log numbers", "5 tombstones, 6 fences", "0x0100 property stream"
 abbrev pub keys : ℕ
@@ -29,6 +29,10 @@ properties = 0x0100
 -- kinds 1 to 6: raw, without a name, and read
 abbrev pub fixed : ℕ → Bool
 fixed k = leb 1 k && leb k 6
+
+-- "Every other kind is skipped, at any minor version": every kind but 1 to 6 and 0x0100
+abbrev pub unknown : ℕ → Bool
+unknown k = not (fixed k || eqb k properties)
 
 -- bytes of a key, of a log number, of a fence, of what stands before the fences, of an entry without its name
 abbrev pub keySize : ℕ

@@ -1,3 +1,4 @@
 pub mod Full
 pub mod Marks
 pub mod Checked
+pub mod Given

@@ -2,6 +2,7 @@
 use Prim.Native.Nat.{ℕ}
 use Rattle.refusal.specs.declared.Refusal.{Refusal}
 use Rattle.group.specs.declared.fault.Fault.{Fault}
+pub mod Laws
 
 abbrev pub refusalOf : ℕ → Fault → Refusal
 -- 16: "unknown tag"

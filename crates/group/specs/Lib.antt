@@ -2,4 +2,5 @@ pub mod Fault
 pub mod Group
 pub mod Written
 pub mod Good
+pub mod Tag
 pub mod Cases

@@ -2,3 +2,4 @@ pub mod Lookup
 pub mod Record
 pub mod Groups
 pub mod Calls
+pub mod Given

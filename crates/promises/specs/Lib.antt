@@ -1,3 +1,4 @@
+pub mod Given
 pub mod Later
 pub mod Calls
 pub mod Marked

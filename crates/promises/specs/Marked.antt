@@ -14,7 +14,6 @@ use Rattle.codes.specs.Varint.{lastByte, varFrom, varintAt, bytesFrom, varBytes
 use Rattle.xxh3_spec.specs.Xxh3.{mul, fold, xorshift, rotl, swap, rrmxmx, secret, of1to3, of4to8, of9to16, small, pair, mixStep, inward, of17to128, onward, of129to240, lane, accumulate, stir, scramble, turn, run, start, twice, merge, large, xxh3}
 use Rattle.refusal.specs.declared.Refusal.{Refusal}
 use Rattle.refusal.specs.declared.Check.{Check}
-use Rattle.refusal.specs.Refusal.{numberOf, placeOf}
 use Rattle.frame.specs.Layout.{headBytes, payload, entry, entries, bodyBytes, trailer, layOut}
 use Rattle.frame.specs.Cases.{ids, headingOnly, oneEdge}
 use Rattle.group.specs.Group.{Partners, good, onVarint, splitStep, denseStep, stepAt, onStep, cons, walkFrom, degreeOf, headOf, onHead, groupOf, bytesOf}
@@ -27,6 +26,7 @@ use Rattle.plan.specs.Bounds.{tooMany}
 use Rattle.writer.specs.declared.Written.{Written}
 use Rattle.writer.specs.Written.{answerOf, neededCheck, neededOf}
 use Rattle.back.specs.Demand2.{fileFor}
+use Rattle.promises.specs.Given.{Gives}
 
 abbrev id : ℕ → ℕ → Id
 id hi lo = record { hi = hi; lo = lo }
@@ -53,10 +53,6 @@ unfoldable pub rising : ℕ → ℕ → List Id
 rising zero lo = []
 rising (suc n) lo = id 5 lo ∷ rising n (lo + 1)
 
--- a rule that is broken, told by its number and place
-abbrev pub Tells : Check → ℕ → ℕ → Type 0
-Tells c number place = (r : Refusal) × (c ≡ Check.Bad r) × (numberOf r ≡ number) × (placeOf r ≡ place)
-
 pub record Marked : Type 0 where
   -- "1. Varint 0: `00`. 2. 127: `7F`. 3. 128: `80 01`. 4. 300: `AC 02`."
   pub c1 : (varBytes 0 ≡ 0x00 ∷ []) × (varintAt (0x00 ∷ []) 0 ≡ Value 0 1)
@@ -64,14 +60,14 @@ pub record Marked : Type 0 where
   pub c3 : (varBytes 128 ≡ 0x80 ∷ 0x01 ∷ []) × (varintAt (0x80 ∷ 0x01 ∷ []) 0 ≡ Value 128 2)
   pub c4 : (varBytes 300 ≡ 0xac ∷ 0x02 ∷ []) × (varintAt (0xac ∷ 0x02 ∷ []) 0 ≡ Value 300 2)
   -- "5. `80 00` is refused": as a group's degree, 17 at the group
-  pub c5 : (varintAt (0x80 ∷ 0x00 ∷ []) 0 ≡ Bad Long) × ((g : ℕ) → Tells (groupCheck g (groupOf (0x80 ∷ 0x00 ∷ []))) 17 g)
+  pub c5 : (varintAt (0x80 ∷ 0x00 ∷ []) 0 ≡ Bad Long) × ((g : ℕ) → Gives Check.Bad (groupCheck g (groupOf (0x80 ∷ 0x00 ∷ []))) 17 g 0)
   -- "6. One partner, upper half 2^49 − 1: cost 15, split. 7. 2^49: cost 16, dense."
   pub c6 : (splitCost 0 (id (2 ^ 49 - 1) 1 ∷ []) ≡ 15) × (isDense 1 (id (2 ^ 49 - 1) 1 ∷ []) ≡ false)
   pub c7 : (splitCost 0 (id (2 ^ 49) 1 ∷ []) ≡ 16) × (isDense 1 (id (2 ^ 49) 1 ∷ []) ≡ true)
   -- "8. Two partners, upper halves 5 and 5, lower 1 and 2: .., 20 bytes."
   pub c8 : (groupBytes 1 (id 5 1 ∷ id 5 2 ∷ []) ≡ two 1 2) × (length (two 1 2) ≡ 20) × (groupOf (two 1 2) ≡ good false (id 5 1 ∷ id 5 2 ∷ []))
   -- "9. The same with lower 2 and 2: 18."
-  pub c9 : (g : ℕ) → Tells (groupCheck g (groupOf (two 2 2))) 18 g
+  pub c9 : (g : ℕ) → Gives Check.Bad (groupCheck g (groupOf (two 2 2))) 18 g 0
   -- "10. Degree 1,025 with 65,536 keys is dense; 1,024 isn't forced": any 1,025 partners; and 1,024 by their cost alone, so that
   -- those of the upper half 5 are split
   pub c10 : ((ps : List Id) → length ps ≡ 1025 → isDense 65536 ps ≡ true)
@@ -104,11 +100,11 @@ marked = record {
   c2 = (refl, refl);
   c3 = (refl, refl);
   c4 = (refl, refl);
-  c5 = (refl, λ g. (Refusal.Varint g, refl, refl, refl));
+  c5 = (refl, λ g. record { refusal = Refusal.Varint g; is = refl; number = refl; place = refl; beside = refl });
   c6 = (refl, refl);
   c7 = (refl, refl);
   c8 = (refl, refl, refl);
-  c9 = λ g. (Refusal.Group g, refl, refl, refl);
+  c9 = λ g. record { refusal = Refusal.Group g; is = refl; number = refl; place = refl; beside = refl };
   c10 = (by-degree, by-cost, refl);
   c11 = (refl, refl);
   c12 = (refl, refl);

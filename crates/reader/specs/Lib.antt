@@ -3,4 +3,5 @@ pub mod Rows
 pub mod Opened
 pub mod Inside
 pub mod Look
+pub mod Given
 pub mod Compared

@@ -1,21 +1,24 @@
--- The laws of the section table and of rules 9 to 12.
+-- The laws of the section table and of rules 9 to 12, and what the rules do not see: sections of unknown kinds and the minor
+-- version.
 use mathlib.Core.Path.{_≡_, refl, sym, ap, _∙_}
+use mathlib.Core.Logic.{_↔_}
 use Prim.Native.Nat.{ℕ, zero, suc, _+_, _-_, _*_, _≤_, _<_}
 use native.Mathlib.Omega.{arith}
 use mathlib.Core.List.{List, [], _∷_}
 use mathlib.Core.Bool.{Bool, true, false, not, _&&_, _||_}
-use lib.ListN.{length}
+use lib.ListN.{length, getD}
 use lib.Dec.{leb, eqb}
-use borrow.Author.Tests.{eqb-true, leb-true, eq-eqb, le-leb}
+use borrow.Author.Tests.{eqb-true, eqb-false, leb-true, eq-eqb, ne-eqb, le-leb}
 use Rattle.base.specs.Pick.{pick}
-use Rattle.codes.specs.Little.{leBytes}
+use Rattle.codes.specs.Little.{leAt, leBytes}
+use Rattle.codes.specs.Little.Laws.{leAt-same}
 use Rattle.refusal.specs.declared.Refusal.{Refusal}
 use Rattle.refusal.specs.declared.Check.{Check}
-use Rattle.refusal.specs.Check.Laws.{pick-fine, and-parts, and-both}
+use Rattle.refusal.specs.Check.Laws.{pick-fine, fine-pick, and-parts, and-both}
 use Rattle.frame.specs.declared.Row.{Row}
 use Rattle.frame.specs.declared.Range.{Range}
 use Rattle.frame.specs.Kind as kind
-use Rattle.frame.specs.Frame.{rowAt, nextAt, rowsFrom, endFrom, countOf, rowsOf, endOf, sectionOf, rangeOf, nowhere, rangeGood, ranges, all, nameGood, kindsGood, fills, tableGood}
+use Rattle.frame.specs.Frame.{rowAt, nextAt, rowsFrom, endFrom, countOf, rowsOf, endOf, has, twice, once, sectionOf, rangeOf, nowhere, rangeGood, ranges, all, nameGood, kindsGood, fills, tableGood, codecGood, codecs, sizesGood, presenceGood, countsGood, flagsOf, headCheck}
 
 -- the magic's number is that of its bytes
 pub magic-is : leBytes 8 kind.magic ≡ kind.magicBytes
@@ -95,3 +98,132 @@ section-within limit q (r ∷ rs) floor k e =
         → pick b (rangeOf r) (sectionOf q rs) .start + pick b (rangeOf r) (sectionOf q rs) .len ≤ limit
     go true a ih = a
     go false a ih = ih
+
+-- rule 11 in numbers: each section begins at the floor or later, where the one before it ends, and ends at the limit or before
+unfoldable pub Apart : ℕ → ℕ → List Row → Type 0
+Apart limit floor [] = Unit {0}
+Apart limit floor (r ∷ rs) = (floor ≤ r .start) × (r .start + r .len ≤ limit) × Apart limit (r .start + r .len) rs
+
+pub ranges-parts : (limit floor : ℕ) (rs : List Row) (k : ℕ) → ranges limit rs floor k ≡ Check.Fine → Apart limit floor rs
+unfolding ranges Apart
+ranges-parts limit floor [] k e = tt
+ranges-parts limit floor (r ∷ rs) k e =
+    let p = pick-fine (rangeGood limit floor r) (ranges limit rs (r .start + r .len) (k + 1)) (Refusal.Range k) e in
+    let w = and-parts (leb floor (r .start)) (leb (r .start + r .len) limit) (p .0) in
+    (leb-true _ _ (w .0), leb-true _ _ (w .1), ranges-parts limit (r .start + r .len) rs (k + 1) (p .1))
+
+pub ranges-made : (limit floor : ℕ) (rs : List Row) (k : ℕ) → Apart limit floor rs → ranges limit rs floor k ≡ Check.Fine
+unfolding ranges Apart
+ranges-made limit floor [] k a = refl
+ranges-made limit floor (r ∷ rs) k a =
+    let good : rangeGood limit floor r ≡ true = and-both (le-leb floor (r .start) (a .0)) (le-leb (r .start + r .len) limit (a .1)) in
+    fine-pick (Check.Bad (Refusal.Range k)) good (ranges-made limit (r .start + r .len) rs (k + 1) (a .2))
+
+-- ---- "Every other kind is skipped"
+
+-- which kinds those are: neither 1 to 6 nor 0x0100
+pub unknown-kinds : (k : ℕ) → (kind.unknown k ≡ true) ↔ ((1 ≤ k → k ≤ 6 → ⊥) × (k ≡ 0x0100 → ⊥))
+unknown-kinds k = (go (kind.fixed k) refl (eqb k 0x0100) refl, back (leb 1 k) refl (leb k 6) refl)
+  where
+    go : (x : Bool) → kind.fixed k ≡ x → (y : Bool) → eqb k 0x0100 ≡ y → not (x || y) ≡ true → (1 ≤ k → k ≤ 6 → ⊥) × (k ≡ 0x0100 → ⊥)
+    go true p y q e = let z : _≡_ {A = ℕ} 0 1 = cc in absurd (omega arith)
+    go false p true q e = let z : _≡_ {A = ℕ} 0 1 = cc in absurd (omega arith)
+    go false p false q e =
+        (λ a b. let t : kind.fixed k ≡ true = and-both (le-leb 1 k a) (le-leb k 6 b) in let z : _≡_ {A = ℕ} 0 1 = cc in omega arith, eqb-false k 0x0100 q)
+
+    back : (x : Bool) → leb 1 k ≡ x → (y : Bool) → leb k 6 ≡ y → (1 ≤ k → k ≤ 6 → ⊥) × (k ≡ 0x0100 → ⊥) → not ((x && y) || eqb k 0x0100) ≡ true
+    back true p true q h = absurd (h .0 (leb-true 1 k p) (leb-true k 6 q))
+    back true p false q h = rw (ne-eqb k 0x0100 (h .1))
+    back false p y q h = rw (ne-eqb k 0x0100 (h .1))
+
+-- what the rules ask a table of known kinds is the same of both: whether one is there, whether twice, and how long it is
+pub record SameKnown (rs ts : List Row) : Type 0 where
+  pub there : (k : ℕ) → kind.unknown k ≡ false → has k ts ≡ has k rs
+  pub doubled : (k : ℕ) → kind.unknown k ≡ false → twice k ts ≡ twice k rs
+  pub len : (k : ℕ) → kind.unknown k ≡ false → sectionOf k ts .len ≡ sectionOf k rs .len
+
+module _ (rs ts : List Row) (s : SameKnown rs ts) where
+  once-known : (k : ℕ) → kind.unknown k ≡ false → once k ts ≡ once k rs
+  once-known k h = λ j. s .there k h j && not (s .doubled k h j)
+
+  -- rule 9 asks for no unknown kind
+  pub kinds-known : kindsGood ts ≡ kindsGood rs
+  unfolding kindsGood
+  kinds-known = λ j.
+      once-known kind.keys refl j && (once-known kind.offsets refl j && (once-known kind.partners refl j && (once-known kind.logs refl j
+      && (not (s .doubled kind.tombstones refl j) && not (s .doubled kind.fences refl j)))))
+
+  -- nor does rule 12
+  pub counts-known : (flags n e bits : ℕ) → countsGood flags n e bits ts ≡ countsGood flags n e bits rs
+  unfolding countsGood
+  counts-known flags n e bits = λ j.
+      sizesGood n e bits (s .len kind.keys refl j) (s .len kind.offsets refl j) (s .len kind.logs refl j) (s .there kind.tombstones refl j) (s .len kind.tombstones refl j)
+      && presenceGood flags n e (s .there kind.tombstones refl j) (s .there kind.fences refl j) (s .there kind.properties refl j)
+
+-- a table with the kinds of rule 9 has an entry
+pub kinds-some : (rs : List Row) → kindsGood rs ≡ true → 1 ≤ length rs
+unfolding kindsGood has
+kinds-some [] e = let z : _≡_ {A = ℕ} 0 1 = cc in absurd (omega arith)
+kinds-some (r ∷ rs) e = omega arith
+
+-- names have at most 63 bytes
+unfoldable pub Short : List Row → Type 0
+Short [] = Unit {0}
+Short (r ∷ rs) = (r .namelen ≤ 63) × Short rs
+
+pub names-short : (rs : List Row) → all nameGood rs ≡ true → Short rs
+unfolding all Short
+names-short [] e = tt
+names-short (r ∷ rs) e =
+    let p = and-parts (nameGood r) (all nameGood rs) e in
+    (leb-true (r .namelen) 63 (and-parts (leb (r .namelen) 63) _ (p .0) .0), names-short rs (p .1))
+
+module _ (r : Row) (rs : List Row) (u : kind.unknown (r .kind) ≡ true) where
+  unlike : (k : ℕ) → kind.unknown k ≡ false → eqb (r .kind) k ≡ false
+  unlike k h = ne-eqb (r .kind) k (λ e. let v : kind.unknown k ≡ true = (rw e at u) in let w : true ≡ false = sym v ∙ h in let z : _≡_ {A = ℕ} 0 1 = cc in omega arith)
+
+  not-fixed : kind.fixed (r .kind) ≡ false
+  not-fixed = go (kind.fixed (r .kind)) u
+    where
+      go : (x : Bool) → not (x || eqb (r .kind) kind.properties) ≡ true → x ≡ false
+      go true e = let z : _≡_ {A = ℕ} 0 1 = cc in absurd (omega arith)
+      go false e = refl
+
+  -- an entry of an unknown kind makes no difference to what is asked of known ones
+  pub section-skipped : (k : ℕ) → kind.unknown k ≡ false → sectionOf k rs ≡ sectionOf k (r ∷ rs)
+  unfolding sectionOf
+  section-skipped k h = rw (unlike k h)
+
+  pub skipped : SameKnown (r ∷ rs) rs
+  unfolding has twice
+  skipped = record { there = λ k h. rw (unlike k h); doubled = λ k h. rw (unlike k h); len = λ k h. ap (λ (x : Range). x .len) (section-skipped k h) }
+
+  -- so none to rule 9's kinds
+  pub kinds-skipped : kindsGood (r ∷ rs) ≡ kindsGood rs
+  kinds-skipped = sym (kinds-known (r ∷ rs) rs skipped)
+
+  -- its codec and its name's bytes are its writer's own
+  pub codec-skipped : (k : ℕ) → codecs (r ∷ rs) k ≡ codecs rs (k + 1)
+  unfolding codecs
+  codec-skipped k = rw not-fixed
+
+  pub name-skipped : r .namelen ≤ 63 → nameGood r ≡ true
+  name-skipped h = rw (le-leb (r .namelen) 63 h, not-fixed)
+
+-- ---- "minor u8, any"
+
+-- two headers that differ in the minor version at most
+abbrev pub ButMinor : List ℕ → List ℕ → Type 0
+ButMinor g h = (i : ℕ) → i < 64 → (i ≡ 9 → ⊥) → getD g i 0 ≡ getD h i 0
+
+module _ (g h : List ℕ) (same : ButMinor g h) where
+  pub flags-minor : flagsOf g ≡ flagsOf h
+  flags-minor = leAt-same g h 12 12 4 (λ k l. same (12 + k) (omega arith) (λ e. omega arith))
+
+  -- rules 2 to 5 do not see it
+  pub head-minor : headCheck g ≡ headCheck h
+  unfolding headCheck
+  head-minor =
+      let magic = leAt-same g h 0 0 8 (λ k l. same (0 + k) (omega arith) (λ e. omega arith)) in
+      let size = leAt-same g h 10 10 2 (λ k l. same (10 + k) (omega arith) (λ e. omega arith)) in
+      rw (magic, same 8 (omega arith) (λ e. omega arith), size, flags-minor)

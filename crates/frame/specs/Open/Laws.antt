@@ -1,13 +1,15 @@
 -- Opening taken apart and put together: a file opens exactly if each rule is fine.
 use mathlib.Core.Path.{_≡_, refl, sym, ap, _∙_}
+use mathlib.Core.Logic.{_↔_}
 use Prim.Native.Nat.{ℕ, suc, _+_, _-_, _*_, _/_, _^_, _≤_, _<_}
 use native.Mathlib.Omega.{arith}
 use mathlib.Core.List.{List}
 use mathlib.Core.Bool.{Bool, true, false, not, _&&_, _||_}
 use lib.ListN.{length}
 use lib.Dec.{ltb, leb, eqb}
-use borrow.Author.Tests.{ltb-false, leb-true, eqb-true}
+use borrow.Author.Tests.{ltb-false, leb-true, eqb-true, le-ltb, eq-eqb}
 use Rattle.codes.specs.Little.{leAt}
+use Rattle.xxh3_spec.specs.Xxh3.{xxh3}
 use Rattle.refusal.specs.declared.Refusal.{Refusal}
 use Rattle.refusal.specs.declared.Check.{Check}
 use Rattle.refusal.specs.Check.{_⊳_, refuse}
@@ -73,6 +75,29 @@ tail-parts n t e =
     let p = fine-parts (refuse Refusal.TailMagic (not (eqb (leAt t (length t - 8) 8) kind.magic))) _ e in
     let a = either-parts Refusal.FooterLength (ltb (footLen t) 39) (ltb (n - 64) (footLen t)) (p .1) in
     (ltb-false (footLen t) 39 (a .0), ltb-false (n - 64) (footLen t) (a .1))
+
+pub tail-magic : (n : ℕ) (t : List ℕ) → tailCheck n t ≡ Check.Fine → leAt t (length t - 8) 8 ≡ kind.magic
+unfolding tailCheck
+tail-magic n t e =
+    let magic : Bool = eqb (leAt t (length t - 8) 8) kind.magic in
+    eqb-true _ _ (good-parts Refusal.TailMagic magic (fine-parts (refuse Refusal.TailMagic (not magic)) _ e .0))
+
+pub sum-parts : (t : List ℕ) → sumCheck t ≡ Check.Fine → xxh3 (bodyOf t) ≡ leAt t (length t - 20) 8
+unfolding sumCheck
+sum-parts t e = eqb-true _ _ (good-parts Refusal.FooterSum (eqb (xxh3 (bodyOf t)) (leAt t (length t - 20) 8)) e)
+
+-- rules 1, 6 and 7, and 8, from the numbers
+pub size-made : (n : ℕ) → 84 ≤ n → n ≤ 2 ^ 30 → sizeCheck n ≡ Check.Fine
+unfolding sizeCheck
+size-made n a b = rw (le-ltb n 84 a, le-ltb (2 ^ 30) n b)
+
+pub tail-made : (n : ℕ) (t : List ℕ) → leAt t (length t - 8) 8 ≡ kind.magic → 39 ≤ footLen t → footLen t ≤ n - 64 → tailCheck n t ≡ Check.Fine
+unfolding tailCheck
+tail-made n t m a b = rw (eq-eqb (leAt t (length t - 8) 8) kind.magic m, le-ltb (footLen t) 39 a, le-ltb (n - 64) (footLen t) b)
+
+pub sum-made : (t : List ℕ) → xxh3 (bodyOf t) ≡ leAt t (length t - 20) 8 → sumCheck t ≡ Check.Fine
+unfolding sumCheck
+sum-made t e = rw (eq-eqb (xxh3 (bodyOf t)) (leAt t (length t - 20) 8) e)
 
 -- the bounds and lengths of rule 12
 pub record Sized (n e bits k o l : ℕ) (marked : Bool) (d : ℕ) : Type 0 where
@@ -165,6 +190,20 @@ opens-made f s =
     ap (refuse Refusal.Fences) (s .fences) in
     let good : fileCheck f ≡ Check.Fine = fine-both (frames-made f (s .frames)) (fine-both (s .keys) (fine-both (s .offsets) fences)) in
     ap (λ (t : Check). opening t (recordOf f)) good
+
+-- what opening answers, exactly: the record where no rule is broken, or the first refusal
+module _ (f : List ℕ) where
+  pub opens-fine : (openOf f ≡ Opening.Good (recordOf f)) ↔ (fileCheck f ≡ Check.Fine)
+  unfolding openOf opening
+  opens-fine = (λ e. opening-good (fileCheck f) (recordOf f) (recordOf f) e .0, λ e. rw e)
+
+  pub opens-refused : (r : Refusal) → (openOf f ≡ Opening.Refused r) ↔ (fileCheck f ≡ Check.Bad r)
+  unfolding openOf opening
+  opens-refused r = (go (fileCheck f), λ e. rw e)
+    where
+      go : (c : Check) → opening c (recordOf f) ≡ Opening.Refused r → c ≡ Check.Bad r
+      go Check.Fine e = let z : _≡_ {A = ℕ} 0 1 = cc in absurd (omega arith)
+      go (Check.Bad q) e = let same : q ≡ r = cc in ap Check.Bad same
 
 -- ---- a chain of rules, one after the other, as the code goes through them
 

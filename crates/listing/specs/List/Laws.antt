@@ -1,5 +1,6 @@
 -- The laws of the section list.
 use mathlib.Core.Path.{_≡_, refl, sym, ap, _∙_}
+use mathlib.Core.Logic.{_↔_}
 use Prim.Native.Nat.{ℕ, zero, suc, _-_, _≤_, _<_}
 use native.Mathlib.Omega.{arith}
 use mathlib.Core.List.{List}
@@ -10,8 +11,9 @@ use borrow.Author.Tests.{lt-ltb, le-ltb, ltb-false}
 use Rattle.base.specs.Over.{part}
 use Rattle.refusal.specs.declared.Refusal.{Refusal}
 use Rattle.refusal.specs.declared.Check.{Check}
+use Rattle.refusal.specs.Refusal.{numberOf}
 use Rattle.refusal.specs.Check.{_⊳_, refuse}
-use Rattle.refusal.specs.Check.Laws.{bad-then, fine-then}
+use Rattle.refusal.specs.Check.Laws.{bad-then, fine-then, by-first, refuse-own}
 use Rattle.frame.specs.declared.Row.{Row}
 use Rattle.frame.specs.declared.Opened.{Opened}
 use Rattle.frame.specs.declared.Opening.{Opening}
@@ -55,6 +57,18 @@ module _ (f : List ℕ) (room : ℕ) where
     unfolding planOf planned listCheck
     plan-good h =
         ap (λ (c : Check). planned c (needed f)) (fine-then _ fine ∙ ap (refuse (Refusal.Room (needed f))) (le-ltb room (needed f) h))
+
+-- a refusal other than 20 is the section list's exactly if it is opening's
+pub list-opening : (f : List ℕ) (room : ℕ) (r : Refusal) → (numberOf r ≡ 20 → ⊥) → (answerOf f room ≡ Listed.Refused r) ↔ (fileCheck f ≡ Check.Bad r)
+unfolding planOf planned listCheck
+list-opening f room r n =
+    let rule : Check = refuse (Refusal.Room (needed f)) (ltb room (needed f)) in
+    let a = by-first (fileCheck f) rule r (refuse-own (Refusal.Room (needed f)) r (ltb room (needed f)) (λ e. n (sym e))) in
+    (λ e. a .0 (go (fileCheck f ⊳ rule) e), λ e. ap (λ (c : Check). planned c (needed f) .answer) (a .1 e))
+  where
+    go : (c : Check) → planned c (needed f) .answer ≡ Listed.Refused r → c ≡ Check.Bad r
+    go Check.Fine e = let z : _≡_ {A = ℕ} 0 1 = cc in absurd (omega arith)
+    go (Check.Bad q) e = let same : q ≡ r = cc in ap Check.Bad same
 
 -- the rows that are written have room
 pub plan-fits : (f : List ℕ) (room : ℕ) → planOf f room .n ≤ room

@@ -1,5 +1,6 @@
 -- The read-out by its ways out.
 use mathlib.Core.Path.{_≡_, refl, sym, ap, ap₂, _∙_}
+use mathlib.Core.Logic.{_↔_}
 use Prim.Native.Nat.{ℕ, suc, _+_, _-_, _*_, _/_, _%_, _≤_, _<_}
 use native.Mathlib.Nat.{zero-add}
 use native.Mathlib.Omega.{arith}
@@ -14,8 +15,9 @@ use Rattle.base.specs.Pick.{pick}
 use Rattle.base.specs.Over.{part, over, length-part, sets-append, sets-over}
 use Rattle.refusal.specs.declared.Refusal.{Refusal}
 use Rattle.refusal.specs.declared.Check.{Check}
+use Rattle.refusal.specs.Refusal.{numberOf}
 use Rattle.refusal.specs.Check.{_⊳_, refuse}
-use Rattle.refusal.specs.Check.Laws.{fine-parts, good-parts, and-parts, bad-then, fine-then}
+use Rattle.refusal.specs.Check.Laws.{fine-parts, good-parts, and-parts, bad-then, fine-then, by-first, refuse-own}
 use Rattle.frame.specs.declared.Opened.{Opened}
 use Rattle.frame.specs.declared.Opening.{Opening}
 use Rattle.frame.specs.Frame.{rowsOf, flagsOf, bodyOf}
@@ -163,6 +165,18 @@ refused-leaves f o q = go (readCheck f (length o))
     go : (c : Check) → answerOf c (neededFor f) ≡ ReadOut.Refused q → leaves c (batchIn f) o ≡ o
     go Check.Fine e = let z : _≡_ {A = ℕ} 0 1 = cc in absurd (omega arith)
     go (Check.Bad r) e = refl
+
+-- a refusal other than 20 is the read-out's exactly if it is the full check's
+pub read-full : (f : List ℕ) (room : ℕ) (r : Refusal) → (numberOf r ≡ 20 → ⊥) → (readOutOf f room ≡ ReadOut.Refused r) ↔ (fullCheck f ≡ Check.Bad r)
+unfolding readOutOf readCheck answerOf
+read-full f room r n =
+    let rule : Check = refuse (Refusal.Room (neededFor f)) (ltb room (neededFor f)) in
+    let a = by-first (fullCheck f) rule r (refuse-own (Refusal.Room (neededFor f)) r (ltb room (neededFor f)) (λ e. n (sym e))) in
+    (λ e. a .0 (go (fullCheck f ⊳ rule) e), λ e. ap (λ (c : Check). answerOf c (neededFor f)) (a .1 e))
+  where
+    go : (c : Check) → answerOf c (neededFor f) ≡ ReadOut.Refused r → c ≡ Check.Bad r
+    go Check.Fine e = let z : _≡_ {A = ℕ} 0 1 = cc in absurd (omega arith)
+    go (Check.Bad q) e = let same : q ≡ r = cc in ap Check.Bad same
 
 -- ---- the sections by other names, as they are lent
 

@@ -1,11 +1,15 @@
 -- The laws of rules in their order, and of the tests that they are made of.
-use mathlib.Core.Path.{_≡_, refl}
-use Prim.Native.Nat.{ℕ}
+use mathlib.Core.Path.{_≡_, refl, sym, ap, _∙_}
+use mathlib.Core.Logic.{_↔_, _⊎_, inl, inr, ⊎-elim}
+use Prim.Native.Nat.{ℕ, _≤_, _<_}
 use native.Mathlib.Omega.{arith}
 use mathlib.Core.Bool.{Bool, true, false, not, _&&_, _||_}
+use lib.Dec.{leb}
+use borrow.Author.Tests.{leb-true}
 use Rattle.base.specs.Pick.{pick}
 use Rattle.refusal.specs.declared.Refusal.{Refusal}
 use Rattle.refusal.specs.declared.Check.{Check}
+use Rattle.refusal.specs.Refusal.{numberOf}
 use Rattle.refusal.specs.Check.{_⊳_, refuse}
 
 -- ---- rules
@@ -27,6 +31,43 @@ fine-then b e = rw e
 pub then-assoc : (a b c : Check) → (a ⊳ b) ⊳ c ≡ a ⊳ (b ⊳ c)
 then-assoc Check.Fine b c = refl
 then-assoc (Check.Bad r) b c = refl
+
+-- r is a chain's refusal exactly if
+module _ (a b : Check) (r : Refusal) where
+  bad-parts : a ⊳ b ≡ Check.Bad r → (a ≡ Check.Bad r) ⊎ ((a ≡ Check.Fine) × (b ≡ Check.Bad r))
+  bad-parts = go a
+    where
+      go : (c : Check) → c ⊳ b ≡ Check.Bad r → (c ≡ Check.Bad r) ⊎ ((c ≡ Check.Fine) × (b ≡ Check.Bad r))
+      go Check.Fine e = inr (refl, e)
+      go (Check.Bad q) e = inl e
+
+  -- it is the first rule's, where the second never gives it
+  pub by-first : (b ≡ Check.Bad r → ⊥) → (a ⊳ b ≡ Check.Bad r) ↔ (a ≡ Check.Bad r)
+  by-first n = (λ e. ⊎-elim (λ h. h) (λ h. absurd (n (h .1))) (bad-parts e), bad-then b)
+
+  -- it is the second's and the first is fine, where the first never gives it
+  pub by-second : (a ≡ Check.Bad r → ⊥) → (a ⊳ b ≡ Check.Bad r) ↔ ((a ≡ Check.Fine) × (b ≡ Check.Bad r))
+  by-second n = (λ e. ⊎-elim (λ h. absurd (n h)) (λ h. h) (bad-parts e), λ h. fine-then b (h .0) ∙ h .1)
+
+-- a rule is broken exactly if the fault is there
+pub refuse-bad : (r : Refusal) (t : Bool) → (refuse r t ≡ Check.Bad r) ↔ (t ≡ true)
+refuse-bad r t = (go t, λ e. ap (refuse r) e)
+  where
+    go : (t : Bool) → refuse r t ≡ Check.Bad r → t ≡ true
+    go true e = refl
+    go false e = let z : _≡_ {A = ℕ} 0 1 = cc in absurd (omega arith)
+
+pub refuse-fine : (r : Refusal) (t : Bool) → (refuse r t ≡ Check.Fine) ↔ (t ≡ false)
+refuse-fine r t = (go t, λ e. ap (refuse r) e)
+  where
+    go : (t : Bool) → refuse r t ≡ Check.Fine → t ≡ false
+    go true e = let z : _≡_ {A = ℕ} 0 1 = cc in absurd (omega arith)
+    go false e = refl
+
+-- and it gives no other refusal
+pub refuse-own : (q r : Refusal) (t : Bool) → (numberOf q ≡ numberOf r → ⊥) → refuse q t ≡ Check.Bad r → ⊥
+refuse-own q r true n e = let same : q ≡ r = cc in n (ap numberOf same)
+refuse-own q r false n e = let z : _≡_ {A = ℕ} 0 1 = cc in omega arith
 
 -- a rule that asks for a test to be good
 pub good-parts : (r : Refusal) (t : Bool) → refuse r (not t) ≡ Check.Fine → t ≡ true
@@ -61,3 +102,43 @@ and-both e d = rw (e, d)
 pub or-cases : (a b : Bool) → (a || b) ≡ true → a ≡ false → b ≡ true
 or-cases true b e f = let z : _≡_ {A = ℕ} 0 1 = cc in absurd (omega arith)
 or-cases false b e f = e
+
+-- ---- the numbers that rules may give
+
+abbrev pub Numbers : ℕ → ℕ → Check → Type 0
+Numbers low high c = (r : Refusal) → c ≡ Check.Bad r → (low ≤ numberOf r) × (numberOf r ≤ high)
+
+module _ (low high : ℕ) where
+  pub numbers-fine : Numbers low high Check.Fine
+  numbers-fine r e = let z : _≡_ {A = ℕ} 0 1 = cc in absurd (omega arith)
+
+  abbrev pub given : Refusal → Bool
+  given q = leb low (numberOf q) && leb (numberOf q) high
+
+  pub numbers-bad : (q : Refusal) → given q ≡ true → Numbers low high (Check.Bad q)
+  numbers-bad q g r e =
+      let p = and-parts (leb low (numberOf q)) (leb (numberOf q) high) g in
+      let low = leb-true low (numberOf q) (p .0) in
+      let high = leb-true (numberOf q) high (p .1) in
+      let same : q ≡ r = cc in
+      let n = ap numberOf same in
+      (omega arith, omega arith)
+
+  pub numbers-refuse : (q : Refusal) (t : Bool) → given q ≡ true → Numbers low high (refuse q t)
+  numbers-refuse q true g = numbers-bad q g
+  numbers-refuse q false g = numbers-fine
+
+  pub numbers-then : (a b : Check) → Numbers low high a → Numbers low high b → Numbers low high (a ⊳ b)
+  numbers-then Check.Fine b m n = n
+  numbers-then (Check.Bad q) b m n = m
+
+  pub numbers-pick : (t : Bool) (a b : Check) → Numbers low high a → Numbers low high b → Numbers low high (pick t a b)
+  numbers-pick true a b m n = m
+  numbers-pick false a b m n = n
+
+-- another number is never given
+pub below : (low high : ℕ) {c : Check} → Numbers low high c → (r : Refusal) → numberOf r < low → c ≡ Check.Bad r → ⊥
+below low high n r l e = let h = n r e .0 in omega arith
+
+pub above : (low high : ℕ) {c : Check} → Numbers low high c → (r : Refusal) → high < numberOf r → c ≡ Check.Bad r → ⊥
+above low high n r l e = let h = n r e .1 in omega arith

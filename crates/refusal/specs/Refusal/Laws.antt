@@ -1,5 +1,5 @@
 -- The laws of the table of refusals: a number is never 0, and number and places tell which refusal it is.
-use mathlib.Core.Path.{_≡_, refl}
+use mathlib.Core.Path.{_≡_, refl, sym, _∙_}
 use Prim.Native.Nat.{_≤_}
 use mathlib.Core.Bool.{true, _&&_}
 use lib.Dec.{leb}
@@ -79,3 +79,7 @@ told-back (Refusal.Unordered at) = refl
 told-back Refusal.Bounds = refl
 
 -- told-back: to here
+
+-- and so number and places tell one refusal
+pub told-once : (r s : Refusal) → numberOf r ≡ numberOf s → placeOf r ≡ placeOf s → besideOf r ≡ besideOf s → r ≡ s
+told-once r s n p q = sym (told-back r) ∙ (λ i. refusalTold (n i) (p i) (q i)) ∙ told-back s

@@ -1,0 +1,266 @@
+-- Another major version and an unassigned flag bit: when opening gives 3 and 5, exactly. And which numbers opening gives.
+use mathlib.Core.Path.{_≡_, refl, sym, ap, _∙_}
+use mathlib.Core.Logic.{_↔_}
+use Prim.Native.Nat.{ℕ, zero, suc, _+_, _-_, _*_, _/_, _%_, _^_, _≤_, _<_}
+use native.Mathlib.Nat.{div-one, pow-suc, mul-comm, div-div-eq-div-mul, div-eq-of-lt, pow-le-pow-right, zero-lt-suc}
+use native.Mathlib.Decide.{ℕ-discrete, decLt}
+use native.Mathlib.Omega.{arith}
+use mathlib.Core.List.{List, [], _∷_}
+use mathlib.Core.Bool.{Bool, true, false, not, _&&_, _||_}
+use lib.ListN.{length, getD}
+use lib.Dec.{ltb, eqb}
+use borrow.Author.Tests.{ltb-true, lt-ltb, eqb-true, eqb-false, eq-eqb, ne-eqb, not-true, not-false}
+use Rattle.codes.specs.Little.{leAt}
+use Rattle.codes.specs.Little.Laws.{leAt-lt}
+use Rattle.xxh3_spec.specs.Xxh3.{xxh3}
+use Rattle.refusal.specs.declared.Refusal.{Refusal}
+use Rattle.refusal.specs.declared.Check.{Check}
+use Rattle.refusal.specs.Refusal.{numberOf}
+use Rattle.refusal.specs.Check.{_⊳_, refuse}
+use Rattle.refusal.specs.Check.Laws.{then-assoc, by-first, by-second, refuse-bad, refuse-fine, refuse-own, Numbers, numbers-fine, numbers-bad, numbers-refuse, numbers-then, numbers-pick, below, above}
+use Rattle.frame.specs.declared.Row.{Row}
+use Rattle.frame.specs.Kind as kind
+use Rattle.frame.specs.Frame.{codecGood, codecs, rangeGood, ranges, tableGood, countsGood, keyCount, edgeCount, bitsOf, rowsOf, bodyOf, footLen, flag, flagsOf, sizeCheck, headCheck, tailCheck, sumCheck, tableCheck, frameCheck}
+use Rattle.frame.specs.Open.{Known, knownOf, recordOf, framedOf, bytesAt, keyAt, keysFrom, offsetGood, offsetsFrom, fencesGood, contentCheck, fileCheck}
+use Rattle.frame.specs.Open.Laws.{size-parts, size-made}
+
+-- ---- the tests of rules 2 to 8
+
+module _ (f : List ℕ) where
+  abbrev otherMagic : Bool
+  otherMagic = not (eqb (leAt f 0 8) kind.magic)
+
+  abbrev otherMajor : Bool
+  otherMajor = not (eqb (getD f 8 0) 1)
+
+  abbrev otherSize : Bool
+  otherSize = not (eqb (leAt f 10 2) 64)
+
+  abbrev moreFlags : Bool
+  moreFlags = ltb 15 (flagsOf f)
+
+  abbrev otherTail : Bool
+  otherTail = not (eqb (leAt f (length f - 8) 8) kind.magic)
+
+  abbrev otherFoot : Bool
+  otherFoot = ltb (footLen f) 39 || ltb (length f - 64) (footLen f)
+
+  abbrev otherSum : Bool
+  otherSum = not (eqb (xxh3 (bodyOf f)) (leAt f (length f - 20) 8))
+
+-- ---- which numbers each rule gives
+
+size-numbers : (n : ℕ) → Numbers 1 1 (sizeCheck n)
+unfolding sizeCheck
+size-numbers n = numbers-refuse 1 1 Refusal.Size (ltb n 84 || ltb kind.mostBytes n) refl
+
+module _ (f : List ℕ) where
+  head-numbers : Numbers 2 5 (headCheck f)
+  unfolding headCheck
+  head-numbers =
+      numbers-then 2 5 _ _ (numbers-refuse 2 5 Refusal.Magic (otherMagic f) refl)
+      (numbers-then 2 5 _ _ (numbers-refuse 2 5 Refusal.Major (otherMajor f) refl)
+      (numbers-then 2 5 _ _ (numbers-refuse 2 5 Refusal.HeaderSize (otherSize f) refl) (numbers-refuse 2 5 Refusal.Flags (moreFlags f) refl)))
+
+  tail-numbers : Numbers 6 15 (tailCheck (length f) f)
+  unfolding tailCheck
+  tail-numbers = numbers-then 6 15 _ _ (numbers-refuse 6 15 Refusal.TailMagic (otherTail f) refl) (numbers-refuse 6 15 Refusal.FooterLength (otherFoot f) refl)
+
+  sum-numbers : Numbers 6 15 (sumCheck f)
+  unfolding sumCheck
+  sum-numbers = numbers-refuse 6 15 Refusal.FooterSum (otherSum f) refl
+
+codecs-numbers : (rs : List Row) (k : ℕ) → Numbers 6 15 (codecs rs k)
+unfolding codecs
+codecs-numbers [] k = numbers-fine 6 15
+codecs-numbers (r ∷ rs) k = numbers-pick 6 15 (codecGood r) _ _ (codecs-numbers rs (k + 1)) (numbers-bad 6 15 (Refusal.Codec k) refl)
+
+ranges-numbers : (limit : ℕ) (rs : List Row) (floor k : ℕ) → Numbers 6 15 (ranges limit rs floor k)
+unfolding ranges
+ranges-numbers limit [] floor k = numbers-fine 6 15
+ranges-numbers limit (r ∷ rs) floor k =
+    numbers-pick 6 15 (rangeGood limit floor r) _ _ (ranges-numbers limit rs (r .start + r .len) (k + 1)) (numbers-bad 6 15 (Refusal.Range k) refl)
+
+table-numbers : (limit flags : ℕ) (b : List ℕ) → Numbers 6 15 (tableCheck limit flags b)
+unfolding tableCheck
+table-numbers limit flags b =
+    numbers-then 6 15 _ _ (numbers-refuse 6 15 Refusal.Table (not (tableGood b)) refl)
+    (numbers-then 6 15 _ _ (codecs-numbers (rowsOf b) 0)
+    (numbers-then 6 15 _ _ (ranges-numbers limit (rowsOf b) 64 0)
+    (numbers-refuse 6 15 Refusal.Counts (not (countsGood flags (keyCount b) (edgeCount b) (bitsOf b) (rowsOf b))) refl)))
+
+keys-numbers : (d : ℕ) (s : List ℕ) (k : ℕ) → Numbers 6 15 (keysFrom d s k)
+unfolding keysFrom
+keys-numbers zero s k = numbers-fine 6 15
+keys-numbers (suc d) s k = numbers-pick 6 15 (ltb (keyAt s (k - 1)) (keyAt s k)) _ _ (keys-numbers d s (k + 1)) (numbers-bad 6 15 (Refusal.Key k) refl)
+
+offsets-numbers : (d : ℕ) (o : List ℕ) (w n len i : ℕ) → Numbers 6 15 (offsetsFrom d o w n len i)
+unfolding offsetsFrom
+offsets-numbers zero o w n len i = numbers-fine 6 15
+offsets-numbers (suc d) o w n len i =
+    numbers-pick 6 15 (offsetGood o w n len i) _ _ (offsets-numbers d o w n len (i + 1)) (numbers-bad 6 15 (Refusal.Offset i) refl)
+
+content-numbers : (k : Known) (fenced : Bool) (fences : List ℕ) → Numbers 6 15 (contentCheck k fenced fences)
+unfolding contentCheck
+content-numbers k fenced fences =
+    numbers-then 6 15 _ _ (keys-numbers (k .keycount - 1) (k .keys) 1)
+    (numbers-then 6 15 _ _ (offsets-numbers (k .keycount + 1) (k .offsets) (k .bits / 8) (k .keycount) (length (k .partners)) 0)
+    (numbers-refuse 6 15 Refusal.Fences (fenced && not (fencesGood fences (k .keys) (k .keycount))) refl))
+
+-- ---- rules 6 to 15
+
+afterHead : List ℕ → Check
+afterHead f =
+    (tailCheck (length f) f ⊳ sumCheck f ⊳ tableCheck (length f - footLen f) (flagsOf f) (bodyOf f))
+    ⊳ contentCheck (knownOf f (recordOf f)) (framedOf f .fenced) (bytesAt f (framedOf f .fences))
+
+after-numbers : (f : List ℕ) → Numbers 6 15 (afterHead f)
+unfolding afterHead
+after-numbers f =
+    numbers-then 6 15 _ _
+    (numbers-then 6 15 _ _ (tail-numbers f) (numbers-then 6 15 _ _ (sum-numbers f) (table-numbers (length f - footLen f) (flagsOf f) (bodyOf f))))
+    (content-numbers (knownOf f (recordOf f)) (framedOf f .fenced) (bytesAt f (framedOf f .fences)))
+
+module _ (f : List ℕ) where
+  -- the rules: size, header, and the rest
+  chain : fileCheck f ≡ sizeCheck (length f) ⊳ (headCheck f ⊳ afterHead f)
+  unfolding fileCheck frameCheck afterHead
+  chain = then-assoc (sizeCheck (length f)) _ _ ∙ ap (λ (t : Check). sizeCheck (length f) ⊳ t) (then-assoc (headCheck f) _ _)
+
+  -- opening gives 1 to 15
+  pub opening-numbers : Numbers 1 15 (fileCheck f)
+  opening-numbers r e =
+      numbers-then 1 15 (sizeCheck (length f)) _ (λ q d. let n = size-numbers (length f) q d in (omega arith, omega arith))
+      (numbers-then 1 15 (headCheck f) _ (λ q d. let n = head-numbers f q d in (omega arith, omega arith))
+      (λ q d. let n = after-numbers f q d in (omega arith, omega arith)))
+      r (sym chain ∙ e)
+
+  -- the header's refusal is opening's exactly if the size is right
+  head-first : (r : Refusal) → 2 ≤ numberOf r → numberOf r ≤ 5 → (fileCheck f ≡ Check.Bad r) ↔ ((sizeCheck (length f) ≡ Check.Fine) × (headCheck f ≡ Check.Bad r))
+  head-first r l h =
+      let a = by-second (sizeCheck (length f)) (headCheck f ⊳ afterHead f) r (above 1 1 (size-numbers (length f)) r (omega arith)) in
+      let b = by-first (headCheck f) (afterHead f) r (below 6 15 (after-numbers f) r (omega arith)) in
+      (λ e. let x = a .0 (sym chain ∙ e) in (x .0, b .0 (x .1)), λ x. chain ∙ a .1 (x .0, b .1 (x .1)))
+
+-- ---- the header's tests in numbers
+
+-- a size within the bounds, and the magic
+pub record Begins (f : List ℕ) : Type 0 where
+  pub low : 84 ≤ length f
+  pub high : length f ≤ 2 ^ 30
+  pub magic : leAt f 0 8 ≡ kind.magic
+
+-- "major not 1", and no earlier rule is broken
+pub record OtherMajor (f : List ℕ) : Type 0 where
+  pub begins : Begins f
+  pub major : getD f 8 0 ≡ 1 → ⊥
+
+-- "a flag bit 4 to 31 is set", and no earlier rule is broken
+pub record UnassignedFlag (f : List ℕ) : Type 0 where
+  pub begins : Begins f
+  pub major : getD f 8 0 ≡ 1
+  pub header : leAt f 10 2 ≡ 64
+  pub bit : ℕ
+  pub least : 4 ≤ bit
+  pub most : bit < 32
+  pub set : flag bit (flagsOf f) ≡ true
+
+-- a number above 15 has such a bit
+set-bit : (k y : ℕ) → 1 ≤ y → y < 2 ^ k → (j : ℕ) × (j < k) × (y / 2 ^ j % 2 ≡ 1)
+set-bit zero y a b = absurd (omega arith)
+set-bit (suc k) y a b =
+    elim (ℕ-discrete (y % 2) 1) [
+      | yes h ↦ (0, omega arith, ap (λ (t : ℕ). t % 2) (div-one y) ∙ h)
+      | no h ↦
+          let (j, l, e) = set-bit k (y / 2) (omega arith) (omega (arith, pow-suc 2 k)) in
+          (suc j, omega arith, ap (λ (t : ℕ). y / t % 2) (pow-suc 2 j ∙ mul-comm (2 ^ j) 2) ∙ ap (λ (t : ℕ). t % 2) (sym (div-div-eq-div-mul y 2 (2 ^ j))) ∙ e)
+    ]
+
+flag-bits : (x : ℕ) → x < 2 ^ 32 → 15 < x → (i : ℕ) × (4 ≤ i) × (i < 32) × (flag i x ≡ true)
+flag-bits x h l =
+    let (j, m, e) = set-bit 28 (x / 16) (omega arith) (omega arith) in
+    let bit : x / 2 ^ (4 + j) ≡ x / 16 / 2 ^ j = ap (λ (t : ℕ). x / t) (pow j) ∙ sym (div-div-eq-div-mul x 16 (2 ^ j)) in
+    (4 + j, omega arith, omega arith, eq-eqb (x / 2 ^ (4 + j) % 2) 1 (ap (λ (t : ℕ). t % 2) bit ∙ e))
+  where
+    pow : (j : ℕ) → 2 ^ (4 + j) ≡ 16 * 2 ^ j
+    pow zero = refl
+    pow (suc j) = let n : 4 + suc j ≡ suc (4 + j) = omega arith in ap (λ (t : ℕ). 2 ^ t) n ∙ pow-suc 2 (4 + j) ∙ omega (arith, pow j, pow-suc 2 j)
+
+bits-flag : (x i : ℕ) → 4 ≤ i → flag i x ≡ true → 15 < x
+bits-flag x i l e =
+    elim (decLt 15 x) [
+      | yes h ↦ h
+      | no h ↦
+          let big : 2 ^ 4 ≤ 2 ^ i = pow-le-pow-right (zero-lt-suc 1) l in
+          let none : x / 2 ^ i ≡ 0 = div-eq-of-lt (omega arith) in
+          let one = eqb-true (x / 2 ^ i % 2) 1 e in absurd (omega (arith, ap (λ (t : ℕ). t % 2) none))
+    ]
+
+module _ (f : List ℕ) where
+  abbrev magicRule : Check
+  magicRule = refuse Refusal.Magic (otherMagic f)
+
+  abbrev majorRule : Check
+  majorRule = refuse Refusal.Major (otherMajor f)
+
+  abbrev sizeRule : Check
+  sizeRule = refuse Refusal.HeaderSize (otherSize f)
+
+  abbrev flagsRule : Check
+  flagsRule = refuse Refusal.Flags (moreFlags f)
+
+  begins : sizeCheck (length f) ≡ Check.Fine → magicRule ≡ Check.Fine → Begins f
+  begins s m =
+      let z = size-parts (length f) s in
+      record { low = z .0; high = z .1; magic = eqb-true _ _ (not-false _ (refuse-fine Refusal.Magic (otherMagic f) .0 m)) }
+
+  begun : Begins f → (sizeCheck (length f) ≡ Check.Fine) × (magicRule ≡ Check.Fine)
+  begun b = (size-made (length f) (b .low) (b .high), refuse-fine Refusal.Magic (otherMagic f) .1 (ap not (eq-eqb (leAt f 0 8) kind.magic (b .magic))))
+
+  -- 3, exactly
+  pub major-exactly : (fileCheck f ≡ Check.Bad Refusal.Major) ↔ OtherMajor f
+  unfolding headCheck
+  major-exactly =
+      let first = head-first f Refusal.Major (omega arith) (omega arith) in
+      let a = by-second magicRule (majorRule ⊳ (sizeRule ⊳ flagsRule)) Refusal.Major (refuse-own Refusal.Magic Refusal.Major (otherMagic f) (λ e. omega arith)) in
+      let later = numbers-then 4 5 sizeRule flagsRule (numbers-refuse 4 5 Refusal.HeaderSize (otherSize f) refl) (numbers-refuse 4 5 Refusal.Flags (moreFlags f) refl) in
+      let b = by-first majorRule (sizeRule ⊳ flagsRule) Refusal.Major (below 4 5 later Refusal.Major (omega arith)) in (
+        λ e.
+            let x = first .0 e in
+            let y = a .0 (x .1) in
+            record { begins = begins (x .0) (y .0); major = eqb-false _ _ (not-true _ (refuse-bad Refusal.Major (otherMajor f) .0 (b .0 (y .1)))) },
+        λ m.
+            let x = begun (m .begins) in
+            first .1 (x .0, a .1 (x .1, b .1 (refuse-bad Refusal.Major (otherMajor f) .1 (ap not (ne-eqb (getD f 8 0) 1 (m .major)))))),
+      )
+
+  -- 5, exactly, of a file of bytes
+  pub flags-exactly : ((j : ℕ) → getD f j 0 < 2 ^ 8) → (fileCheck f ≡ Check.Bad Refusal.Flags) ↔ UnassignedFlag f
+  unfolding headCheck
+  flags-exactly by =
+      let first = head-first f Refusal.Flags (omega arith) (omega arith) in
+      let a = by-second magicRule (majorRule ⊳ (sizeRule ⊳ flagsRule)) Refusal.Flags (refuse-own Refusal.Magic Refusal.Flags (otherMagic f) (λ e. omega arith)) in
+      let b = by-second majorRule (sizeRule ⊳ flagsRule) Refusal.Flags (refuse-own Refusal.Major Refusal.Flags (otherMajor f) (λ e. omega arith)) in
+      let c = by-second sizeRule flagsRule Refusal.Flags (refuse-own Refusal.HeaderSize Refusal.Flags (otherSize f) (λ e. omega arith)) in (
+        λ e.
+            let x = first .0 e in
+            let y = a .0 (x .1) in
+            let z = b .0 (y .1) in
+            let v = c .0 (z .1) in
+            let (i, l, m, s) = flag-bits (flagsOf f) (leAt-lt f by 12 4) (ltb-true 15 (flagsOf f) (refuse-bad Refusal.Flags (moreFlags f) .0 (v .1))) in
+            record {
+              begins = begins (x .0) (y .0);
+              major = eqb-true _ _ (not-false _ (refuse-fine Refusal.Major (otherMajor f) .0 (z .0)));
+              header = eqb-true _ _ (not-false _ (refuse-fine Refusal.HeaderSize (otherSize f) .0 (v .0)));
+              bit = i;
+              least = l;
+              most = m;
+              set = s;
+            },
+        λ u.
+            let x = begun (u .begins) in
+            let major = refuse-fine Refusal.Major (otherMajor f) .1 (ap not (eq-eqb (getD f 8 0) 1 (u .major))) in
+            let size = refuse-fine Refusal.HeaderSize (otherSize f) .1 (ap not (eq-eqb (leAt f 10 2) 64 (u .header))) in
+            let flags = refuse-bad Refusal.Flags (moreFlags f) .1 (lt-ltb 15 (flagsOf f) (bits-flag (flagsOf f) (u .bit) (u .least) (u .set))) in
+            first .1 (x .0, a .1 (x .1, b .1 (major, c .1 (size, flags)))),
+      )
