@@ -1,4 +1,53 @@
-/* Edge SST files for C: link libedge_sst_c.a ('rt staticlib edge_sst_c'). */
+/* Edge SST files for C99 and C++: link libedge_sst_c.a ('rt staticlib edge_sst_c').
+ *
+ * docs/FORMAT.md says what a file and a batch are, byte by byte, and has a glossary.
+ * tests/c/example.c looks up a key, example_check.c checks files, example_write.c
+ * writes one.
+ *
+ * For every call:
+ *
+ * - Any bytes may be lent, and any numbers as a record. A call answers or refuses,
+ *   and always returns.
+ * - No pointer is null, also where its length is 0: any other address will do there.
+ *   Records and runs of uint64_t are aligned as their type asks.
+ * - A call reads and writes only what it is lent. An output overlaps nothing else that
+ *   is lent, and nobody writes what is lent while the call runs.
+ * - number is 0 where there is no refusal, otherwise the refusal's number. place is
+ *   its place; beside is a second place beside it, which no refusal of this version
+ *   has. Fields that do not apply are 0.
+ * - A refusal, or the absence of a key, leaves every output as it was. Of an answer,
+ *   what lies past it stays.
+ * - Not enough room is EDGE_SST_ROOM (20), and its place is what is needed: ask with
+ *   a length of 0, lend that much and ask again.
+ * - The calls keep no state and ask for no memory. They may run at the same time, also
+ *   on the same file.
+ *
+ * The refusals of each call, in the order in which they are asked:
+ *
+ *   edge_sst_open             1 to 15
+ *   edge_sst_sections, list   1 to 15, 20
+ *   edge_sst_partners         1 to 15, 16 to 18, 20
+ *   edge_sst_lookup           1 to 15, 16 to 18, 19, 20
+ *   edge_sst_partners_with    21, 14, 16 to 18, 20
+ *   edge_sst_lookup_with      21, 14, 16 to 18, 19, 20
+ *   edge_sst_check            1 to 15, 22, 16 to 18, 23
+ *   edge_sst_read_out         those of edge_sst_check, 20
+ *   edge_sst_needed           24 and 25 record by record, 26
+ *   edge_sst_write            24 and 25 record by record, 26, 20
+ *   edge_sst_sum              none
+ *
+ * The place of each, counted from 0:
+ *
+ *   10, 11, 22                the entry of the section table, skipped kinds counted
+ *   13                        the key that is not above the one before
+ *   14                        the offset, of key count plus one; from the lookups by a
+ *                             record the group, whose offsets fall or leave the partners
+ *   16, 17, 18                the group, which is the index of its key
+ *   19                        the group asked for, not the earlier one at fault
+ *   20                        what is needed. Lookups: the degree, whichever output is
+ *                             short. Section list: rows. Read-out and writer: bytes
+ *   24, 25                    the first byte of the record in the batch
+ *   all others                0 */
 #ifndef EDGE_SST_H
 #define EDGE_SST_H
 
@@ -8,6 +57,56 @@
 #ifdef __cplusplus
 extern "C" {
 #endif
+
+/* The version of this header and of the archive that it is for: 10000 for the major
+ * number, 100 for the minor one, 1 for the patch. A new patch changes nothing in this
+ * header. Until 1.0 a new minor number may add calls, refusals and fields, and may tell
+ * a fault by a finer number in the place of a coarse one. Numbers keep their meaning,
+ * new ones follow after the last; fields are only added at the end of a struct: the
+ * record may get another range, a row another number. As structs are given by value
+ * and rows lie back to back, an archive goes with the header of its own version and no
+ * other. */
+#define EDGE_SST_VERSION_MAJOR 0
+#define EDGE_SST_VERSION_MINOR 1
+#define EDGE_SST_VERSION_PATCH 0
+#define EDGE_SST_VERSION \
+    (10000 * EDGE_SST_VERSION_MAJOR + 100 * EDGE_SST_VERSION_MINOR + EDGE_SST_VERSION_PATCH)
+#define EDGE_SST_VERSION_TEXT "0.1.0"
+
+/* Bytes of a key and of a partner. They compare as 16 bytes from the first. */
+#define EDGE_SST_KEY_BYTES 16
+
+/* A batch is a heading and then edges, which strictly increase by key, then partner.
+ *
+ *   heading   0 kind, 3      1 direction, 0 forward or 1 inverse     2 edge type
+ *             18 source label               34 destination label     16 bytes each
+ *   edge      0 kind, 1 live or 2 dead      1 key     17 partner     33 log number
+ *
+ * A log number is 8 bytes, lowest first. Edge k begins at EDGE_SST_HEADING_BYTES +
+ * EDGE_SST_EDGE_BYTES * k. */
+#define EDGE_SST_HEADING_BYTES 50
+#define EDGE_SST_EDGE_BYTES 41
+#define EDGE_SST_BATCH_LIVE 1
+#define EDGE_SST_BATCH_DEAD 2
+#define EDGE_SST_BATCH_HEADING 3
+
+/* Bounds; exactly the bound is lawful. A file has at least EDGE_SST_LEAST_BYTES. */
+#define EDGE_SST_LEAST_BYTES 84
+#define EDGE_SST_MOST_BYTES 1073741824
+#define EDGE_SST_MOST_KEYS 16777216
+#define EDGE_SST_MOST_EDGES 67108864
+#define EDGE_SST_MOST_SECTIONS 64
+#define EDGE_SST_MOST_NAME 63
+#define EDGE_SST_MOST_COMPARED 25
+
+/* Kinds of sections. Every other kind is skipped. */
+#define EDGE_SST_KIND_KEYS 1
+#define EDGE_SST_KIND_OFFSETS 2
+#define EDGE_SST_KIND_PARTNERS 3
+#define EDGE_SST_KIND_LOG_NUMBERS 4
+#define EDGE_SST_KIND_TOMBSTONES 5
+#define EDGE_SST_KIND_FENCES 6
+#define EDGE_SST_KIND_PROPERTIES 0x0100
 
 /* The refusals, as the calls tell them in number; 0 is none. Their texts:
  * edge_sst_text. */
@@ -78,12 +177,11 @@ static inline const char *edge_sst_text(uint64_t number) {
     return number < sizeof texts / sizeof texts[0] ? texts[number] : "unknown refusal";
 }
 
-/* What opening a file gives. number is 0 where the file is open, otherwise the
- * refusal's number, 1 to 15, with its place, and then all else is 0. The start
- * of a range counts from the file's first byte. marked is 1 where the file has
- * tombstones, 0 where it has none. */
+/* The opened record: what opening a file gives. Where it is refused, all but the
+ * refusal is 0. The start of a range counts from the file's first byte. marked is 1
+ * where the file has tombstones, 0 where it has none. */
 typedef struct {
-    uint64_t number, place;
+    uint64_t number, place, beside;
     uint64_t keystart, keylen;
     uint64_t offsetstart, offsetlen;
     uint64_t partnerstart, partnerlen;
@@ -92,35 +190,31 @@ typedef struct {
     uint64_t keycount, edgecount, bits;
 } EdgeSstOpened;
 
-/* Opens the n bytes at p: the frame, the keys, the offsets and the fences are checked. Any
- * bytes may be lent; p is not null, also where n is 0. */
+/* Opens the n bytes at p: the frame, the keys, the offsets and the fences are checked. */
 EdgeSstOpened edge_sst_open(const uint8_t *p, size_t n);
 
-/* What a lookup gives. number is 0 or the refusal's number with its place; where
- * it is 0, found is 1 if the key is there, with its count of partners and its
- * index among the keys, and compared is the count of keys that were compared.
- * What does not apply is 0. */
+/* What a lookup gives. found is 1 if the key is there, with its count of partners and
+ * its index among the keys; compared is the count of keys that were compared, of an
+ * absent key too. */
 typedef struct {
-    uint64_t number, place;
+    uint64_t number, place, beside;
     uint64_t found, degree, index, compared;
 } EdgeSstLooked;
 
-/* Writes the partners of the key of 16 bytes, 16 bytes each, over the start of
- * the m bytes at out. o is what edge_sst_open gave for these n bytes, or any
- * numbers: number and place are not looked at, a mark other than 0 is 1, and
- * numbers that cannot be of this file are refusal 21. A refusal or absence leaves
- * out as it was; refusal 20 has the count of partners as its place. out overlaps
- * nothing else that is lent, and no pointer is null. */
+/* Writes the partners of the key, EDGE_SST_KEY_BYTES each, over the start of the m
+ * bytes at out. o is what edge_sst_open gave for these n bytes, or any numbers: its
+ * refusal is not looked at, a mark other than 0 is 1, and numbers that cannot
+ * be of these bytes are refusal 21. A record of other bytes is answered with what these
+ * bytes say at its ranges: open again when the bytes change. */
 EdgeSstLooked edge_sst_partners_with(const uint8_t *p, size_t n, const EdgeSstOpened *o,
                                      const uint8_t key[16], uint8_t *out, size_t m);
 
-/* The same of the n bytes at p, which are opened first: refusals 1 to 15 too. */
+/* The same of the n bytes at p, which are opened first. */
 EdgeSstLooked edge_sst_partners(const uint8_t *p, size_t n, const uint8_t key[16], uint8_t *out,
                                 size_t m);
 
-/* As edge_sst_partners_with, with the log numbers over the start of the l numbers
- * at logs and the dead marks, 0 or 1, over the start of the k bytes at marks.
- * Refusal 19 besides; refusal 20 where any of the three outputs is too short. */
+/* As edge_sst_partners_with, with the log numbers over the start of the l numbers at
+ * logs and the dead marks, 0 or 1, over the start of the k bytes at marks. */
 EdgeSstLooked edge_sst_lookup_with(const uint8_t *p, size_t n, const EdgeSstOpened *o,
                                    const uint8_t key[16], uint8_t *out, size_t m, uint64_t *logs,
                                    size_t l, uint8_t *marks, size_t k);
@@ -129,40 +223,28 @@ EdgeSstLooked edge_sst_lookup_with(const uint8_t *p, size_t n, const EdgeSstOpen
 EdgeSstLooked edge_sst_lookup(const uint8_t *p, size_t n, const uint8_t key[16], uint8_t *out,
                               size_t m, uint64_t *logs, size_t l, uint8_t *marks, size_t k);
 
-/* What a check gives: the refusal's number with its place, 0 and 0 where there
- * is none. */
+/* What a check gives: zeros where the file passes. */
 typedef struct {
-    uint64_t number, place;
+    uint64_t number, place, beside;
 } EdgeSstTold;
 
 /* Checks the n bytes at p in full: opening, the checksum of every section, every
- * group, and what they say together. Where the file passes, number is 0; the
- * refusals are 1 to 18, 22 and 23. Any bytes may be lent; p is not null, also
- * where n is 0. */
+ * group, and what they say together. */
 EdgeSstTold edge_sst_check(const uint8_t *p, size_t n);
 
-/* What a read-out gives: the refusal's number with its place, or 0 and 0 and how
- * many bytes were written. What does not apply is 0. */
+/* What a read-out and the writer give: how many bytes were written, or are needed. */
 typedef struct {
-    uint64_t number, place, bytes;
+    uint64_t number, place, beside, bytes;
 } EdgeSstDone;
 
-/* Writes the batch of the n bytes at p, a heading of 50 bytes and 41 bytes for
- * each edge, over the start of the m bytes at out. The file is checked in full
- * before; the refusals are those of edge_sst_check, and then 20, which has the
- * bytes needed as its place. A refusal leaves out as it was, and what lies past
- * the batch stays. Any bytes may be lent; out does not overlap them, and no
- * pointer is null. */
+/* Writes the batch of the n bytes at p over the start of the m bytes at out, once the
+ * file has passed the full check. */
 EdgeSstDone edge_sst_read_out(const uint8_t *p, size_t n, uint8_t *out, size_t m);
 
-/* How many bytes the file of the batch of n bytes at p takes: refusals 24, 25 and
- * 26. Any bytes may be lent. */
+/* How many bytes the file of the batch of n bytes at p takes. */
 EdgeSstDone edge_sst_needed(const uint8_t *p, size_t n);
 
-/* Writes the file of the batch of n bytes at p over the start of the m bytes at
- * out: refusals 24 and 25 at the first faulty record's first byte, then 26, then
- * 20, which has the file's bytes as its place. A refusal leaves out as it was, and
- * what lies past the file stays. out does not overlap the batch. */
+/* Writes the file of the batch of n bytes at p over the start of the m bytes at out. */
 EdgeSstDone edge_sst_write(const uint8_t *p, size_t n, uint8_t *out, size_t m);
 
 /* The XXH3-64 of the n bytes at p: seed 0, default secret. */
@@ -174,23 +256,22 @@ typedef struct {
     uint64_t kind, codec, nameat, namelen, start, len, sum;
 } EdgeSstRow;
 
-/* What the section list gives: the refusal's number with its place, or 0 and 0 and
- * how many rows were written. */
+/* Numbers of a row. */
+#define EDGE_SST_ROW_NUMBERS 7
+
+/* What the section list gives: how many rows were written. */
 typedef struct {
-    uint64_t number, place, rows;
+    uint64_t number, place, beside, rows;
 } EdgeSstListed;
 
-/* Lists the sections of the n bytes at p, in table order, skipped kinds too: seven
- * numbers for each row, in the order of EdgeSstRow, over the start of the m numbers
- * at numbers. A file has at most 64 sections, so 448 numbers are always enough.
- * Refusals 1 to 15, then 20 with the rows needed as its place. A refusal leaves all
- * numbers as they were, and those past the last row stay. numbers does not overlap
- * the bytes, and no pointer is null. */
+/* Lists the sections of the n bytes at p, in table order, skipped kinds too:
+ * EDGE_SST_ROW_NUMBERS numbers for each row, in the order of EdgeSstRow, over the start
+ * of the m numbers at numbers. EDGE_SST_MOST_SECTIONS rows are always enough. */
 EdgeSstListed edge_sst_sections(const uint8_t *p, size_t n, uint64_t *numbers, size_t m);
 
 /* The same over a table of m rows. */
 static inline EdgeSstListed edge_sst_list(const uint8_t *p, size_t n, EdgeSstRow *rows, size_t m) {
-    return edge_sst_sections(p, n, (uint64_t *)rows, 7 * m);
+    return edge_sst_sections(p, n, (uint64_t *)rows, EDGE_SST_ROW_NUMBERS * m);
 }
 
 #ifdef __cplusplus

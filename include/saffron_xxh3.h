@@ -9,8 +9,8 @@
 extern "C" {
 #endif
 
-/* The sum of the n bytes at p. The bytes must stay as they are during the call; where n is 0, p is not read.
-   It keeps no state, allocates nothing and may be called from several threads at once. */
+/* The sum of the n bytes at p. p is not null, also where n is 0: any other address will do there. The bytes must stay as
+   they are during the call. It keeps no state, allocates nothing and may be called from several threads at once. */
 uint64_t saffron_xxh3_64(const uint8_t *p, size_t n);
 
 #ifdef __cplusplus

@@ -2,10 +2,13 @@
  *
  *   example FILE KEY      KEY is 32 hexadecimal digits
  *
+ * Exit status: 0 answered, absence too; 1 refused; 2 usage or input.
+ *
  *   cc -Iinclude tests/c/example.c target/staticlib/libedge_sst_c.a -o example
  *   ./example samples/board.edges 018f6e2a7c1070000000000000000001 */
 #include <stdio.h>
 #include <stdlib.h>
+#include <string.h>
 
 #include "edge_sst.h"
 
@@ -35,34 +38,47 @@ static uint8_t *read_file(const char *path, size_t *n) {
     return bytes;
 }
 
-static void read_key(const char *hex, uint8_t key[16]) {
+static int digit(char c) {
+    if ('0' <= c && c <= '9')
+        return c - '0';
+    if ('a' <= c && c <= 'f')
+        return c - 'a' + 10;
+    if ('A' <= c && c <= 'F')
+        return c - 'A' + 10;
+    return -1;
+}
+
+/* The key of exactly 32 hexadecimal digits; 0 where it is none. */
+static int read_key(const char *hex, uint8_t key[EDGE_SST_KEY_BYTES]) {
     int i;
-    for (i = 0; i < 16; i++) {
-        unsigned byte;
-        if (sscanf(hex + 2 * i, "%2x", &byte) != 1) {
-            fputs("the key is 32 hexadecimal digits\n", stderr);
-            exit(2);
-        }
-        key[i] = (uint8_t)byte;
+    if (strlen(hex) != 2 * EDGE_SST_KEY_BYTES)
+        return 0;
+    for (i = 0; i < EDGE_SST_KEY_BYTES; i++) {
+        int high = digit(hex[2 * i]), low = digit(hex[2 * i + 1]);
+        if (high < 0 || low < 0)
+            return 0;
+        key[i] = (uint8_t)(16 * high + low);
     }
+    return 1;
 }
 
 /* Looks the key up with no room: refusal 20 tells how many partners there are. */
-static EdgeSstLooked look(const uint8_t *p, size_t n, const EdgeSstOpened *o, const uint8_t key[16], uint8_t **out) {
+static EdgeSstLooked look(const uint8_t *p, size_t n, const EdgeSstOpened *o, const uint8_t key[EDGE_SST_KEY_BYTES],
+                          uint8_t **out) {
     uint8_t none[1];
     EdgeSstLooked l = edge_sst_partners_with(p, n, o, key, none, 0);
     *out = NULL;
     if (l.number != EDGE_SST_ROOM)
         return l;
-    *out = malloc(16 * l.place);
+    *out = malloc(EDGE_SST_KEY_BYTES * l.place);
     if (*out == NULL)
         exit(2);
-    return edge_sst_partners_with(p, n, o, key, *out, 16 * l.place);
+    return edge_sst_partners_with(p, n, o, key, *out, EDGE_SST_KEY_BYTES * l.place);
 }
 
 static void print_id(const uint8_t *id) {
     int i;
-    for (i = 0; i < 16; i++)
+    for (i = 0; i < EDGE_SST_KEY_BYTES; i++)
         printf("%02x", id[i]);
     putchar('\n');
 }
@@ -70,14 +86,13 @@ static void print_id(const uint8_t *id) {
 int main(int argc, char **argv) {
     size_t n;
     uint64_t i;
-    uint8_t key[16], *bytes, *partners;
+    uint8_t key[EDGE_SST_KEY_BYTES], *bytes, *partners;
     EdgeSstOpened o;
     EdgeSstLooked l;
-    if (argc != 3) {
-        fputs("example FILE KEY\n", stderr);
+    if (argc != 3 || !read_key(argv[2], key)) {
+        fputs("usage: example FILE KEY, where KEY is 32 hexadecimal digits\n", stderr);
         return 2;
     }
-    read_key(argv[2], key);
     bytes = read_file(argv[1], &n);
 
     /* Open once; the record serves any number of lookups in these bytes. */
@@ -90,7 +105,7 @@ int main(int argc, char **argv) {
     if (!l.found)
         puts("absent");
     for (i = 0; l.found && i < l.degree; i++)
-        print_id(partners + 16 * i);
+        print_id(partners + EDGE_SST_KEY_BYTES * i);
     free(partners);
     free(bytes);
     return 0;

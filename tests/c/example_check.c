@@ -1,0 +1,53 @@
+/* Checks files in full: a small example of the calls for C.
+ *
+ *   example_check FILE...      a line for each: fine, or the first refusal
+ *
+ * Exit status: 0 all fine; 1 one is refused; 2 usage or input.
+ *
+ *   cc -Iinclude tests/c/example_check.c target/staticlib/libedge_sst_c.a -o example_check
+ *   ./example_check samples/board.edges */
+#include <stdio.h>
+#include <stdlib.h>
+
+#include "edge_sst.h"
+
+/* The file's bytes. Never null, also for an empty file: the calls ask for that. */
+static uint8_t *read_file(const char *path, size_t *n) {
+    FILE *f = fopen(path, "rb");
+    uint8_t *bytes;
+    long size;
+    if (f == NULL || fseek(f, 0, SEEK_END) != 0 || (size = ftell(f)) < 0) {
+        perror(path);
+        exit(2);
+    }
+    rewind(f);
+    bytes = malloc((size_t)size + 1);
+    if (bytes == NULL || (*n = fread(bytes, 1, (size_t)size, f)) != (size_t)size) {
+        fprintf(stderr, "cannot read %s\n", path);
+        exit(2);
+    }
+    fclose(f);
+    return bytes;
+}
+
+int main(int argc, char **argv) {
+    int i, status = 0;
+    if (argc < 2) {
+        fputs("usage: example_check FILE...\n", stderr);
+        return 2;
+    }
+    for (i = 1; i < argc; i++) {
+        size_t n;
+        uint8_t *bytes = read_file(argv[i], &n);
+        EdgeSstTold told = edge_sst_check(bytes, n);
+        if (told.number == 0) {
+            printf("%s: fine\n", argv[i]);
+        } else {
+            printf("%s: refused %llu at %llu: %s\n", argv[i], (unsigned long long)told.number,
+                   (unsigned long long)told.place, edge_sst_text(told.number));
+            status = 1;
+        }
+        free(bytes);
+    }
+    return status;
+}
