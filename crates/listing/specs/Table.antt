@@ -12,6 +12,7 @@ use Rattle.base.specs.Over.{sets-append, sets-over}
 use Rattle.frame.specs.declared.Row.{Row}
 use Rattle.frame.specs.declared.Opened.{Opened}
 use Rattle.frame.specs.declared.Opening.{Opening}
+use Rattle.frame.specs.Kind as kind
 use Rattle.frame.specs.Frame.{rowAt, nextAt, rowsFrom, endFrom, rowsOf, endOf, footLen, bodyOf}
 use Rattle.frame.specs.Frame.Laws.{end-room}
 use Rattle.frame.specs.Open.{openOf}
@@ -85,8 +86,8 @@ module _ (f : List ℕ) (s : Frames f) where
   abbrev b : List ℕ
   b = bodyOf f
 
-  -- entry i ends before the body does
-  entry-room : (i : ℕ) → i < needed f → nextAt b (endFrom i b 2) ≤ length b
+  -- entry i ends before the counts do
+  entry-room : (i : ℕ) → i < needed f → nextAt b (endFrom i b 2) + kind.countsSize ≤ length b
   unfolding endOf
   entry-room i h =
       let rest : ℕ = needed f - suc i in
