@@ -6,7 +6,7 @@ use mathlib.Core.List.{List, [], _∷_}
 use mathlib.Core.Bool.{Bool, true, false, not, _&&_, _||_}
 use lib.ListN.{length}
 use lib.Dec.{leb, eqb}
-use borrow.Author.Tests.{eqb-true, leb-true, eq-eqb, le-leb}
+use borrow.Author.Tests.{eqb-true, leb-true, eq-eqb, le-leb, lt-ltb}
 use Rattle.base.specs.Pick.{pick}
 use Rattle.codes.specs.Little.{leBytes}
 use Rattle.refusal.specs.declared.Refusal.{Refusal}
@@ -15,7 +15,7 @@ use Rattle.refusal.specs.Check.Laws.{pick-fine, and-parts, and-both}
 use Rattle.frame.specs.declared.Row.{Row}
 use Rattle.frame.specs.declared.Range.{Range}
 use Rattle.frame.specs.Kind as kind
-use Rattle.frame.specs.Frame.{rowAt, nextAt, rowsFrom, endFrom, countOf, rowsOf, endOf, sectionOf, rangeOf, nowhere, rangeGood, ranges, all, nameGood, kindsGood, fills, tableGood}
+use Rattle.frame.specs.Frame.{rowAt, nextAt, rowsFrom, endFrom, countOf, rowsOf, endOf, has, twice, sectionOf, rangeOf, nowhere, rangeGood, ranges, all, nameGood, onceGood, kindsGood, fills, tableGood}
 
 -- the magic's number is that of its bytes
 pub magic-is : leBytes 8 kind.magic ≡ kind.magicBytes
@@ -57,6 +57,28 @@ unfolding tableGood
 table-made b t =
     and-both (le-leb 1 (countOf b) (t .some)) (and-both (le-leb (countOf b) 64 (t .most))
     (and-both (eq-eqb (endOf b + 17) (length b) (t .filled)) (and-both (t .names) (t .kinds))))
+
+-- tables that have the same kinds that are read, as often, are good alike
+all-once : (rs ts : List Row) (qs : List kind.Kind) → ((k : ℕ) → kind.slotIn k qs < length qs → (has k ts ≡ has k rs) × (twice k ts ≡ twice k rs)) → all (onceGood ts) qs ≡ all (onceGood rs) qs
+unfolding all
+all-once rs ts [] h = refl
+all-once rs ts (q ∷ qs) h =
+    let first : kind.slotIn (q .number) (q ∷ qs) ≡ 0 = rw (eq-eqb (q .number) (q .number) refl) in
+    let same = h (q .number) (omega arith) in
+    λ j. (not (same .1 j) && (not (q .needed) || same .0 j)) && all-once rs ts qs (λ k l. h k (later (eqb k (q .number)) (kind.slotIn k qs) l)) j
+  where
+    later : (b : Bool) (n : ℕ) → n < length qs → pick b 0 (suc n) < suc (length qs)
+    later true n l = omega arith
+    later false n l = omega arith
+
+pub kinds-alike : (rs ts : List Row) → ((k : ℕ) → kind.fixed k ≡ true → (has k ts ≡ has k rs) × (twice k ts ≡ twice k rs)) → kindsGood ts ≡ kindsGood rs
+unfolding kindsGood
+kinds-alike rs ts h = all-once rs ts kind.kinds (λ k l. h k (lt-ltb (kind.slotOf k) (length kind.kinds) l))
+
+-- a good table has its keys
+pub kinds-keys : (rs : List Row) → kindsGood rs ≡ true → has kind.keys rs ≡ true
+unfolding kindsGood all
+kinds-keys rs e = and-parts (not (twice kind.keys rs)) (has kind.keys rs) (and-parts (onceGood rs (kind.exactlyOnce kind.keys)) _ e .0) .1
 
 -- ---- walking the table: k entries are passed, the next is at i
 
