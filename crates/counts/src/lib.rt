@@ -3,11 +3,18 @@ ghost use mathlib.Core.Path.{_≡_};
 ghost use mathlib.Core.Bool.{not, _||_, Bool·beq};
 ghost use Prim.Native.Nat.{_/_, _%_, _<_};
 ghost use lib.Dec.{eqb, leb};
-ghost use Rattle.frame.specs.Frame.{widthGood, sizesGood, presenceGood};
+ghost use Rattle.frame.specs.Kind as kind;
+ghost use Rattle.frame.specs.Frame.{widthGood, sizesGood, presenceGood, countsGood};
+use frame::Framed;
 use frame::Opened;
-use frame::Row;
+use frame::bounds::Bounds;
+use frame::kind::Keys;
+use frame::kind::Logs;
+use frame::kind::Offsets;
+use frame::kind::Tombstones;
 
-fn width_good(bits: u8) -> bool
+// Offset bits, which are asked of a lent record too.
+pub fn width_good(bits: u8) -> bool
     ensures { λ r. ⌜ r ≡ widthGood bits ⌝ }
 {
     if bits == 24 {
@@ -22,39 +29,35 @@ fn width_good(bits: u8) -> bool
     bits == 48
 }
 
-// Bounds, offset bits and lengths, which are asked of a lent record too.
+// Bounds and lengths, which are asked of a lent record too.
 pub fn sizes_good(o: Opened) -> bool
-    ensures { λ r. ⌜ r ≡ sizesGood (o .keycount) (o .edgecount) (o .bits) (o .keys .len) (o .offsets .len) (o .logs .len) (o .marked) (o .dead .len) ⌝ }
+    ensures { λ r. ⌜ r ≡ sizesGood o ⌝ }
 {
     let n = o.keycount;
     let e = o.edgecount;
-    let bits = o.bits;
-    if 16777216 < n {
+    if Bounds::KEYS < n {
         return false;
     }
-    if 67108864 < e {
-        return false;
-    }
-    if !width_good(bits) {
+    if Bounds::EDGES < e {
         return false;
     }
     let keys = o.keys;
     let offsets = o.offsets;
     let logs = o.logs;
     let dead = o.dead;
-    if keys.len != Row::KEY * n {
+    if keys.len != Keys::bytes(n) {
         return false;
     }
-    if offsets.len != (n + 1) * (bits as u64 / 8) {
+    if offsets.len != Offsets::bytes(n, o.bits as u64 / 8) {
         return false;
     }
-    if logs.len != Row::LOG * e {
+    if logs.len != Logs::bytes(e) {
         return false;
     }
     if !o.marked {
         return true;
     }
-    dead.len == (e + 7) / 8
+    dead.len == Tombstones::bytes(e)
 }
 
 // No edges without keys.
@@ -68,9 +71,9 @@ fn edges_good(n: u64, e: u64) -> bool
 }
 
 fn fences_there(n: u64, fenced: bool) -> bool
-    ensures { λ r. ⌜ r ≡ (leb n 65536 || fenced) ⌝ }
+    ensures { λ r. ⌜ r ≡ (leb n kind.mostUnfenced || fenced) ⌝ }
 {
-    if n <= 65536 {
+    if n <= Bounds::UNFENCED {
         return true;
     }
     fenced
@@ -104,20 +107,35 @@ fn implied(a: bool, b: bool) -> bool
 }
 
 // Edges against keys, fences where they are required, and the flag bits 0 and 1.
-pub fn presence_good(flags: u64, n: u64, e: u64, marked: bool, fenced: bool, streams: bool) -> bool
-    ensures { λ r. ⌜ r ≡ presenceGood flags n e marked fenced streams ⌝ }
+fn presence_good(flags: u64, x: Framed) -> bool
+    ensures { λ r. ⌜ r ≡ presenceGood flags x ⌝ }
 {
-    if e < n {
+    let o = x.opened;
+    if o.edgecount < o.keycount {
         return false;
     }
-    if !edges_good(n, e) {
+    if !edges_good(o.keycount, o.edgecount) {
         return false;
     }
-    if !fences_there(n, fenced) {
+    if !fences_there(o.keycount, x.fenced) {
         return false;
     }
-    if !alike(flag_of(flags, 1), streams) {
+    if !alike(flag_of(flags, 1), x.streams) {
         return false;
     }
-    implied(flag_of(flags, 2), marked)
+    implied(flag_of(flags, 2), o.marked)
+}
+
+// All of rule 12.
+pub fn counts_good(flags: u64, x: Framed) -> bool
+    ensures { λ r. ⌜ r ≡ countsGood flags x ⌝ }
+{
+    let o = x.opened;
+    if !width_good(o.bits) {
+        return false;
+    }
+    if !sizes_good(o) {
+        return false;
+    }
+    presence_good(flags, x)
 }

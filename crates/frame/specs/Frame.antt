@@ -14,6 +14,8 @@ use Rattle.refusal.specs.declared.Check.{Check}
 use Rattle.refusal.specs.Check.{_⊳_, refuse}
 use Rattle.frame.specs.declared.Row.{Row}
 use Rattle.frame.specs.declared.Range.{Range}
+use Rattle.frame.specs.declared.Opened.{Opened}
+use Rattle.frame.specs.declared.Framed.{Framed}
 use Rattle.frame.specs.Kind as kind
 pub mod Laws
 
@@ -60,7 +62,7 @@ unfoldable pub endOf : List ℕ → ℕ
 endOf b = endFrom (countOf b) b 2
 
 abbrev pub keyCount : List ℕ → ℕ
-keyCount b = leAt b (length b - 17) 8
+keyCount b = leAt b (length b - kind.countsSize) 8
 
 abbrev pub edgeCount : List ℕ → ℕ
 edgeCount b = leAt b (length b - 9) 8
@@ -79,9 +81,6 @@ unfoldable pub twice : ℕ → List Row → Bool
 twice k [] = false
 twice k (r ∷ rs) = pick (eqb (r .kind) k) (has k rs) (twice k rs)
 
-abbrev pub once : ℕ → List Row → Bool
-once k rs = has k rs && not (twice k rs)
-
 -- where the first section of kind k lies; none: an empty range
 abbrev pub rangeOf : Row → Range
 rangeOf r = record { start = r .start; len = r .len }
@@ -93,9 +92,32 @@ unfoldable pub sectionOf : ℕ → List Row → Range
 sectionOf k [] = nowhere
 sectionOf k (r ∷ rs) = pick (eqb (r .kind) k) (rangeOf r) (sectionOf k rs)
 
-unfoldable pub all : (Row → Bool) → List Row → Bool
+unfoldable pub all : {A : Type 0} → (A → Bool) → List A → Bool
 all p [] = true
-all p (r ∷ rs) = p r && all p rs
+all p (x ∷ xs) = p x && all p xs
+
+-- ---- what the frame gives: a body b with the rows rs
+
+unfoldable pub recordFrom : List ℕ → List Row → Opened
+recordFrom b rs = record {
+  keys = sectionOf kind.keys rs;
+  offsets = sectionOf kind.offsets rs;
+  partners = sectionOf kind.partners rs;
+  logs = sectionOf kind.logs rs;
+  marked = has kind.tombstones rs;
+  dead = sectionOf kind.tombstones rs;
+  keycount = keyCount b;
+  edgecount = edgeCount b;
+  bits = bitsOf b;
+}
+
+unfoldable pub framedFrom : List ℕ → List Row → Framed
+framedFrom b rs = record {
+  opened = recordFrom b rs;
+  fenced = has kind.fences rs;
+  fences = sectionOf kind.fences rs;
+  streams = has kind.properties rs;
+}
 
 -- ---- rule 9: "table doesn't fill the body, section count, name rules, missing or doubled kind"
 
@@ -103,15 +125,16 @@ all p (r ∷ rs) = p r && all p rs
 abbrev pub nameGood : Row → Bool
 nameGood r = leb (r .namelen) kind.longestName && (not (kind.fixed (r .kind)) || eqb (r .namelen) 0)
 
--- 1 to 4 "each exactly once", 5 and 6 "at most once"
-unfoldable pub kindsGood : List Row → Bool
-kindsGood rs =
-    once kind.keys rs && (once kind.offsets rs && (once kind.partners rs && (once kind.logs rs
-    && (not (twice kind.tombstones rs) && not (twice kind.fences rs)))))
+-- kind q stands there as often as it may: exactly once, or at most once
+abbrev pub onceGood : List Row → kind.Kind → Bool
+onceGood rs q = not (twice (q .number) rs) && (not (q .needed) || has (q .number) rs)
 
--- the entries and the 17 bytes of the counts and the offset bits fill the body
+unfoldable pub kindsGood : List Row → Bool
+kindsGood rs = all (onceGood rs) kind.kinds
+
+-- the entries, and the counts and the offset bits after them, fill the body
 abbrev pub fills : List ℕ → Bool
-fills b = eqb (endOf b + 17) (length b)
+fills b = eqb (endOf b + kind.countsSize) (length b)
 
 unfoldable pub tableGood : List ℕ → Bool
 tableGood b =
@@ -142,26 +165,31 @@ ranges limit (r ∷ rs) floor k =
 abbrev pub flag : ℕ → ℕ → Bool
 flag i flags = eqb (flags / 2 ^ i % 2) 1
 
+-- "offset bits", asked of a lent record too (21)
 abbrev pub widthGood : ℕ → Bool
 widthGood bits = eqb bits 24 || (eqb bits 32 || (eqb bits 40 || eqb bits 48))
 
--- "counts over bounds, offset bits, a length that the counts don't give": asked of a lent record too (21)
-unfoldable pub sizesGood : ℕ → ℕ → ℕ → ℕ → ℕ → ℕ → Bool → ℕ → Bool
-sizesGood n e bits keys offsets logs marked dead =
-    leb n kind.mostKeys && (leb e kind.mostEdges && (widthGood bits
-    && (eqb keys (kind.keySize * n) && (eqb offsets ((n + 1) * (bits / 8)) && (eqb logs (kind.logSize * e)
-    && (not marked || eqb dead ((e + 7) / 8)))))))
+-- "counts over bounds, a length that the counts don't give", asked of a lent record too (21)
+unfoldable pub sizesGood : Opened → Bool
+sizesGood o =
+    leb (o .keycount) kind.mostKeys
+    && (leb (o .edgecount) kind.mostEdges
+    && (eqb (o .keys .len) (kind.keysLen (o .keycount))
+    && (eqb (o .offsets .len) (kind.offsetsLen (o .keycount) (o .bits / 8))
+    && (eqb (o .logs .len) (kind.logsLen (o .edgecount))
+    && (not (o .marked) || eqb (o .dead .len) (kind.tombstonesLen (o .edgecount)))))))
 
 -- "edges below keys, edges without keys, fences missing; bit 0 unlike the presence of 0x0100; bit 1 without section 5"
-unfoldable pub presenceGood : ℕ → ℕ → ℕ → Bool → Bool → Bool → Bool
-presenceGood flags n e marked fenced streams =
-    leb n e && ((not (eqb n 0) || eqb e 0) && ((leb n kind.mostUnfenced || fenced)
-    && (Bool·beq (flag 0 flags) streams && (not (flag 1 flags) || marked))))
+unfoldable pub presenceGood : ℕ → Framed → Bool
+presenceGood flags x =
+    leb (x .opened .keycount) (x .opened .edgecount)
+    && ((not (eqb (x .opened .keycount) 0) || eqb (x .opened .edgecount) 0)
+    && ((leb (x .opened .keycount) kind.mostUnfenced || x .fenced)
+    && (Bool·beq (flag 0 flags) (x .streams)
+    && (not (flag 1 flags) || x .opened .marked))))
 
-unfoldable pub countsGood : ℕ → ℕ → ℕ → ℕ → List Row → Bool
-countsGood flags n e bits rs =
-    sizesGood n e bits (sectionOf kind.keys rs .len) (sectionOf kind.offsets rs .len) (sectionOf kind.logs rs .len) (has kind.tombstones rs) (sectionOf kind.tombstones rs .len)
-    && presenceGood flags n e (has kind.tombstones rs) (has kind.fences rs) (has kind.properties rs)
+unfoldable pub countsGood : ℕ → Framed → Bool
+countsGood flags x = widthGood (x .opened .bits) && (sizesGood (x .opened) && presenceGood flags x)
 
 -- ---- header, footer and trailer
 
@@ -174,36 +202,73 @@ abbrev pub footLen : List ℕ → ℕ
 footLen t = leAt t (length t - 12) 4
 
 unfoldable pub bodyOf : List ℕ → List ℕ
-bodyOf t = part t (length t - footLen t) (length t - 20)
+bodyOf t = part t (length t - footLen t) (length t - kind.trailerSize)
 
--- ---- the rules in their order
+-- the record, and all that the frame gives
+unfoldable pub recordOf : List ℕ → Opened
+recordOf t = recordFrom (bodyOf t) (rowsOf (bodyOf t))
 
+unfoldable pub framedOf : List ℕ → Framed
+framedOf t = framedFrom (bodyOf t) (rowsOf (bodyOf t))
+
+-- ---- the rules, each by its name
+
+-- 1
 unfoldable pub sizeCheck : ℕ → Check
-sizeCheck size = refuse Refusal.Size (ltb size 84 || ltb kind.mostBytes size)
+sizeCheck size = refuse Refusal.Size (ltb size (kind.headerSize + kind.trailerSize) || ltb kind.mostBytes size)
 
+-- 2 to 5
 unfoldable pub headCheck : List ℕ → Check
 headCheck h =
     refuse Refusal.Magic (not (eqb (leAt h 0 8) kind.magic))
     ⊳ refuse Refusal.Major (not (eqb (getD h 8 0) 1))
-    ⊳ refuse Refusal.HeaderSize (not (eqb (leAt h 10 2) 64))
+    ⊳ refuse Refusal.HeaderSize (not (eqb (leAt h 10 2) kind.headerSize))
     ⊳ refuse Refusal.Flags (ltb 15 (flagsOf h))
 
+-- 6 and 7
 unfoldable pub tailCheck : ℕ → List ℕ → Check
 tailCheck size t =
     refuse Refusal.TailMagic (not (eqb (leAt t (length t - 8) 8) kind.magic))
-    ⊳ refuse Refusal.FooterLength (ltb (footLen t) 39 || ltb (size - 64) (footLen t))
+    ⊳ refuse Refusal.FooterLength (ltb (footLen t) kind.leastFooter || ltb (size - kind.headerSize) (footLen t))
 
+-- 8
 unfoldable pub sumCheck : List ℕ → Check
-sumCheck t = refuse Refusal.FooterSum (not (eqb (xxh3 (bodyOf t)) (leAt t (length t - 20) 8)))
+sumCheck t = refuse Refusal.FooterSum (not (eqb (xxh3 (bodyOf t)) (leAt t (length t - kind.trailerSize) 8)))
 
--- b the body, limit where the footer begins
-unfoldable pub tableCheck : ℕ → ℕ → List ℕ → Check
-tableCheck limit flags b =
-    refuse Refusal.Table (not (tableGood b))
-    ⊳ codecs (rowsOf b) 0
-    ⊳ ranges limit (rowsOf b) 64 0
-    ⊳ refuse Refusal.Counts (not (countsGood flags (keyCount b) (edgeCount b) (bitsOf b) (rowsOf b)))
+-- 9, of a body b
+abbrev pub tableCheck : List ℕ → Check
+tableCheck b = refuse Refusal.Table (not (tableGood b))
 
+-- 10, of the rows rs
+abbrev pub codecCheck : List Row → Check
+codecCheck rs = codecs rs 0
+
+-- 11, of rows whose sections end at the limit
+abbrev pub rangeCheck : ℕ → List Row → Check
+rangeCheck limit rs = ranges limit rs kind.headerSize 0
+
+-- 12
+abbrev pub countsCheck : ℕ → Framed → Check
+countsCheck flags x = refuse Refusal.Counts (not (countsGood flags x))
+
+-- ---- the rules in their order
+
+-- 2 to 7
+unfoldable pub endsCheck : ℕ → List ℕ → List ℕ → Check
+endsCheck size h t = headCheck h ⊳ tailCheck size t
+
+-- 9 to 11
+unfoldable pub rowsCheck : ℕ → List ℕ → Check
+rowsCheck limit b = tableCheck b ⊳ codecCheck (rowsOf b) ⊳ rangeCheck limit (rowsOf b)
+
+-- 8 to 11
+unfoldable pub footerCheck : ℕ → List ℕ → Check
+footerCheck size t = sumCheck t ⊳ rowsCheck (size - footLen t) (bodyOf t)
+
+-- 1 to 11
+unfoldable pub shapeCheck : ℕ → List ℕ → List ℕ → Check
+shapeCheck size h t = sizeCheck size ⊳ endsCheck size h t ⊳ footerCheck size t
+
+-- 1 to 12
 unfoldable pub frameCheck : ℕ → List ℕ → List ℕ → Check
-frameCheck size h t =
-    sizeCheck size ⊳ headCheck h ⊳ tailCheck size t ⊳ sumCheck t ⊳ tableCheck (size - footLen t) (flagsOf h) (bodyOf t)
+frameCheck size h t = shapeCheck size h t ⊳ countsCheck (flagsOf h) (framedOf t)

@@ -20,8 +20,8 @@ use Rattle.refusal.specs.Check.{_⊳_, refuse}
 use Rattle.refusal.specs.Check.Laws.{then-assoc, by-first, by-second, refuse-bad, refuse-fine, refuse-own, Numbers, numbers-fine, numbers-bad, numbers-refuse, numbers-then, numbers-pick, below, above}
 use Rattle.frame.specs.declared.Row.{Row}
 use Rattle.frame.specs.Kind as kind
-use Rattle.frame.specs.Frame.{codecGood, codecs, rangeGood, ranges, tableGood, countsGood, keyCount, edgeCount, bitsOf, rowsOf, bodyOf, footLen, flag, flagsOf, sizeCheck, headCheck, tailCheck, sumCheck, tableCheck, frameCheck}
-use Rattle.frame.specs.Open.{Known, knownOf, recordOf, framedOf, bytesAt, keyAt, keysFrom, offsetGood, offsetsFrom, fencesGood, contentCheck, fileCheck}
+use Rattle.frame.specs.Frame.{codecGood, codecs, rangeGood, ranges, tableGood, countsGood, recordOf, framedOf, rowsOf, bodyOf, footLen, flag, flagsOf, sizeCheck, headCheck, tailCheck, sumCheck, countsCheck, endsCheck, rowsCheck, footerCheck, shapeCheck, frameCheck}
+use Rattle.frame.specs.Open.{Known, knownOf, bytesAt, keyAt, keysFrom, offsetGood, offsetsFrom, fencesGood, contentCheck, fileCheck}
 use Rattle.frame.specs.Open.Laws.{size-parts, size-made}
 
 -- ---- the tests of rules 2 to 8
@@ -81,13 +81,15 @@ ranges-numbers limit [] floor k = numbers-fine 6 15
 ranges-numbers limit (r ∷ rs) floor k =
     numbers-pick 6 15 (rangeGood limit floor r) _ _ (ranges-numbers limit rs (r .start + r .len) (k + 1)) (numbers-bad 6 15 (Refusal.Range k) refl)
 
-table-numbers : (limit flags : ℕ) (b : List ℕ) → Numbers 6 15 (tableCheck limit flags b)
-unfolding tableCheck
-table-numbers limit flags b =
+rows-numbers : (limit : ℕ) (b : List ℕ) → Numbers 6 15 (rowsCheck limit b)
+unfolding rowsCheck
+rows-numbers limit b =
     numbers-then 6 15 _ _ (numbers-refuse 6 15 Refusal.Table (not (tableGood b)) refl)
-    (numbers-then 6 15 _ _ (codecs-numbers (rowsOf b) 0)
-    (numbers-then 6 15 _ _ (ranges-numbers limit (rowsOf b) 64 0)
-    (numbers-refuse 6 15 Refusal.Counts (not (countsGood flags (keyCount b) (edgeCount b) (bitsOf b) (rowsOf b))) refl)))
+    (numbers-then 6 15 _ _ (codecs-numbers (rowsOf b) 0) (ranges-numbers limit (rowsOf b) kind.headerSize 0))
+
+footer-numbers : (size : ℕ) (t : List ℕ) → Numbers 6 15 (footerCheck size t)
+unfolding footerCheck
+footer-numbers size t = numbers-then 6 15 _ _ (sum-numbers t) (rows-numbers (size - footLen t) (bodyOf t))
 
 keys-numbers : (d : ℕ) (s : List ℕ) (k : ℕ) → Numbers 6 15 (keysFrom d s k)
 unfolding keysFrom
@@ -109,23 +111,32 @@ content-numbers k fenced fences =
 
 -- ---- rules 6 to 15
 
+contents : List ℕ → Check
+contents f = contentCheck (knownOf f (recordOf f)) (framedOf f .fenced) (bytesAt f (framedOf f .fences))
+
 afterHead : List ℕ → Check
-afterHead f =
-    (tailCheck (length f) f ⊳ sumCheck f ⊳ tableCheck (length f - footLen f) (flagsOf f) (bodyOf f))
-    ⊳ contentCheck (knownOf f (recordOf f)) (framedOf f .fenced) (bytesAt f (framedOf f .fences))
+afterHead f = tailCheck (length f) f ⊳ (footerCheck (length f) f ⊳ (countsCheck (flagsOf f) (framedOf f) ⊳ contents f))
 
 after-numbers : (f : List ℕ) → Numbers 6 15 (afterHead f)
-unfolding afterHead
+unfolding afterHead contents
 after-numbers f =
-    numbers-then 6 15 _ _
-    (numbers-then 6 15 _ _ (tail-numbers f) (numbers-then 6 15 _ _ (sum-numbers f) (table-numbers (length f - footLen f) (flagsOf f) (bodyOf f))))
-    (content-numbers (knownOf f (recordOf f)) (framedOf f .fenced) (bytesAt f (framedOf f .fences)))
+    numbers-then 6 15 _ _ (tail-numbers f)
+    (numbers-then 6 15 _ _ (footer-numbers (length f) f)
+    (numbers-then 6 15 _ _ (numbers-refuse 6 15 Refusal.Counts (not (countsGood (flagsOf f) (framedOf f))) refl)
+    (content-numbers (knownOf f (recordOf f)) (framedOf f .fenced) (bytesAt f (framedOf f .fences)))))
+
+-- parts of the order, one after the other
+flat : (a b c d e f : Check) → ((a ⊳ ((b ⊳ c) ⊳ d)) ⊳ e) ⊳ f ≡ a ⊳ (b ⊳ (c ⊳ (d ⊳ (e ⊳ f))))
+flat (Check.Bad r) b c d e f = refl
+flat Check.Fine (Check.Bad r) c d e f = refl
+flat Check.Fine Check.Fine (Check.Bad r) d e f = refl
+flat Check.Fine Check.Fine Check.Fine d e f = then-assoc d e f
 
 module _ (f : List ℕ) where
   -- the rules: size, header, and the rest
   chain : fileCheck f ≡ sizeCheck (length f) ⊳ (headCheck f ⊳ afterHead f)
-  unfolding fileCheck frameCheck afterHead
-  chain = then-assoc (sizeCheck (length f)) _ _ ∙ ap (λ (t : Check). sizeCheck (length f) ⊳ t) (then-assoc (headCheck f) _ _)
+  unfolding fileCheck frameCheck shapeCheck endsCheck afterHead contents
+  chain = flat (sizeCheck (length f)) (headCheck f) (tailCheck (length f) f) (footerCheck (length f) f) (countsCheck (flagsOf f) (framedOf f)) (contents f)
 
   -- opening gives 1 to 15
   pub opening-numbers : Numbers 1 15 (fileCheck f)

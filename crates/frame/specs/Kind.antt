@@ -1,8 +1,13 @@
--- Section kinds, their numbers and the sizes of their rows; magic; bounds. Each stands here once.
-use Prim.Native.Nat.{ℕ, _^_}
-use mathlib.Core.Bool.{Bool, not, _&&_, _||_}
+-- Section kinds, their numbers, rows and lengths; header, footer and trailer; bounds. Each stands here once.
+use Prim.Native.Nat.{ℕ, suc, _+_, _*_, _/_, _^_}
+use mathlib.Core.Bool.{Bool, true, false, not, _||_}
 use mathlib.Core.List.{List, [], _∷_}
-use lib.Dec.{leb, eqb}
+use lib.ListN.{length}
+use lib.Dec.{ltb, eqb}
+use Rattle.base.specs.Pick.{pick}
+pub mod Laws
+
+-- ---- kinds
 
 -- "1 keys, 2 offsets, 3 partners, 4 log numbers", "5 tombstones, 6 fences", "0x0100 property stream"
 abbrev pub keys : ℕ
@@ -26,13 +31,38 @@ fences = 6
 abbrev pub properties : ℕ
 properties = 0x0100
 
--- kinds 1 to 6: raw, without a name, and read
+-- a kind that is read: its number, and whether a file must have it
+pub record Kind : Type 0 where
+  pub number : ℕ
+  pub needed : Bool
+
+abbrev pub exactlyOnce : ℕ → Kind
+exactlyOnce k = record { number = k; needed = true }
+
+abbrev pub atMostOnce : ℕ → Kind
+atMostOnce k = record { number = k; needed = false }
+
+-- the kinds that are read, each raw and without a name. A kind's slot is its place in this list.
+abbrev pub kinds : List Kind
+kinds = exactlyOnce keys ∷ exactlyOnce offsets ∷ exactlyOnce partners ∷ exactlyOnce logs ∷ atMostOnce tombstones ∷ atMostOnce fences ∷ []
+
+-- the place of kind k in a list of kinds; the list's length where it is not there
+abbrev pub slotIn : ℕ → List Kind → ℕ
+slotIn k [] = 0
+slotIn k (q ∷ qs) = pick (eqb k (q .number)) 0 (suc (slotIn k qs))
+
+abbrev pub slotOf : ℕ → ℕ
+slotOf k = slotIn k kinds
+
+-- a kind that is read
 abbrev pub fixed : ℕ → Bool
-fixed k = leb 1 k && leb k 6
+fixed k = ltb (slotOf k) (length kinds)
 
 -- "Every other kind is skipped, at any minor version": every kind but 1 to 6 and 0x0100
 abbrev pub unknown : ℕ → Bool
 unknown k = not (fixed k || eqb k properties)
+
+-- ---- rows and lengths
 
 -- bytes of a key, of a log number, of a fence, of what stands before the fences, of an entry without its name
 abbrev pub keySize : ℕ
@@ -50,9 +80,27 @@ fencesHead = 8
 abbrev pub entrySize : ℕ
 entrySize = 28
 
--- bytes of the key count, the edge count and the offset bits, which end the footer body
-abbrev pub countsSize : ℕ
-countsSize = 17
+-- bytes of n keys, of the offsets of n keys in w bytes each, of e log numbers, of the tombstones of e edges, of m fences
+abbrev pub keysLen : ℕ → ℕ
+keysLen n = keySize * n
+
+abbrev pub offsetsLen : ℕ → ℕ → ℕ
+offsetsLen n w = (n + 1) * w
+
+abbrev pub logsLen : ℕ → ℕ
+logsLen e = logSize * e
+
+abbrev pub tombstonesLen : ℕ → ℕ
+tombstonesLen e = (e + 7) / 8
+
+abbrev pub fencesLen : ℕ → ℕ
+fencesLen m = fencesHead + fenceSize * m
+
+-- "stride 256" in the writer's fences
+abbrev pub fenceStride : ℕ
+fenceStride = 256
+
+-- ---- header, footer, trailer
 
 -- `TGEDGE` and two zero bytes, and the number that they make
 abbrev pub magicBytes : List ℕ
@@ -60,6 +108,21 @@ magicBytes = 84 ∷ 71 ∷ 69 ∷ 68 ∷ 71 ∷ 69 ∷ 0 ∷ 0 ∷ []
 
 abbrev pub magic : ℕ
 magic = 0x0000_4547_4445_4754
+
+-- bytes of the header, of the trailer, of what stands after the entries in a footer body, and of the least footer
+abbrev pub headerSize : ℕ
+headerSize = 64
+
+abbrev pub trailerSize : ℕ
+trailerSize = 20
+
+abbrev pub countsSize : ℕ
+countsSize = 17
+
+abbrev pub leastFooter : ℕ
+leastFooter = 39
+
+-- ---- bounds
 
 -- "file 2^30 bytes, 2^24 keys, 2^26 edges, 64 sections, name 63 bytes"; fences are "required above 65,536 keys"
 abbrev pub mostBytes : ℕ

@@ -27,7 +27,7 @@ rawSection k bytes = record { kind = k; codec = 0; sum = xxh3 bytes; name = []; 
 
 -- minor, flags and the three ids
 unfoldable pub headBytes : ℕ → ℕ → List ℕ → List ℕ
-headBytes minor flags ids = kind.magicBytes ++ (1 ∷ minor ∷ (leBytes 2 64 ++ (leBytes 4 flags ++ ids)))
+headBytes minor flags ids = kind.magicBytes ++ (1 ∷ minor ∷ (leBytes 2 kind.headerSize ++ (leBytes 4 flags ++ ids)))
 
 unfoldable pub payload : List Section → List ℕ
 payload [] = []
@@ -44,10 +44,10 @@ entries at [] = []
 entries at (s ∷ ss) = entry at s ++ entries (at + length (s .bytes)) ss
 
 unfoldable pub bodyBytes : List Section → ℕ → ℕ → ℕ → List ℕ
-bodyBytes ss n e bits = leBytes 2 (length ss) ++ (entries 64 ss ++ (leBytes 8 n ++ (leBytes 8 e ++ (bits ∷ []))))
+bodyBytes ss n e bits = leBytes 2 (length ss) ++ (entries kind.headerSize ss ++ (leBytes 8 n ++ (leBytes 8 e ++ (bits ∷ []))))
 
 unfoldable pub trailer : List ℕ → List ℕ
-trailer body = leBytes 8 (xxh3 body) ++ (leBytes 4 (length body + 20) ++ kind.magicBytes)
+trailer body = leBytes 8 (xxh3 body) ++ (leBytes 4 (length body + kind.trailerSize) ++ kind.magicBytes)
 
 unfoldable pub layOut : Layout → List ℕ
 layOut x =

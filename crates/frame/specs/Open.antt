@@ -11,40 +11,15 @@ use Rattle.codes.specs.Ids.{idAt}
 use Rattle.refusal.specs.declared.Refusal.{Refusal}
 use Rattle.refusal.specs.declared.Check.{Check}
 use Rattle.refusal.specs.Check.{_⊳_, refuse}
-use Rattle.frame.specs.declared.Row.{Row}
 use Rattle.frame.specs.declared.Range.{Range}
 use Rattle.frame.specs.declared.Opened.{Opened}
 use Rattle.frame.specs.declared.Framed.{Framed}
 use Rattle.frame.specs.declared.Framing.{Framing}
 use Rattle.frame.specs.declared.Opening.{Opening}
 use Rattle.frame.specs.Kind as kind
-use Rattle.frame.specs.Frame.{rowsOf, keyCount, edgeCount, bitsOf, has, sectionOf, sizesGood, bodyOf, frameCheck}
+use Rattle.frame.specs.Frame.{widthGood, sizesGood, frameCheck}
+unfoldable pub use Rattle.frame.specs.Frame.{recordFrom, recordOf, framedFrom, framedOf}
 pub mod Laws
-
--- ---- what the frame gives: a body b with the rows rs
-
-unfoldable pub recordFrom : List ℕ → List Row → Opened
-recordFrom b rs = record {
-  keys = sectionOf kind.keys rs;
-  offsets = sectionOf kind.offsets rs;
-  partners = sectionOf kind.partners rs;
-  logs = sectionOf kind.logs rs;
-  marked = has kind.tombstones rs;
-  dead = sectionOf kind.tombstones rs;
-  keycount = keyCount b;
-  edgecount = edgeCount b;
-  bits = bitsOf b;
-}
-
-unfoldable pub framedFrom : List ℕ → List Row → Framed
-framedFrom b rs = record { opened = recordFrom b rs; fenced = has kind.fences rs; fences = sectionOf kind.fences rs }
-
--- of a file
-unfoldable pub recordOf : List ℕ → Opened
-recordOf f = recordFrom (bodyOf f) (rowsOf (bodyOf f))
-
-unfoldable pub framedOf : List ℕ → Framed
-framedOf f = framedFrom (bodyOf f) (rowsOf (bodyOf f))
 
 -- ---- what a lookup sees of a file: the bytes of the known sections, the counts, the offset bits. "Without the section
 -- every edge is live": no tombstones read as none.
@@ -78,13 +53,22 @@ knownOf f o = record {
 -- break rule 12's bounds or lengths (edges below keys or without keys isn't asked); its file over 2^30 bytes". Without
 -- tombstones their range is not looked at.
 
-abbrev pub inside : List ℕ → Range → Bool
-inside f p = leb (p .start + p .len) (length f)
+abbrev pub inside : ℕ → Range → Bool
+inside size p = leb (p .start + p .len) size
 
-unfoldable pub recordGood : List ℕ → Opened → Bool
-recordGood f o =
-    leb (length f) kind.mostBytes && (inside f (o .keys) && (inside f (o .offsets) && (inside f (o .partners) && (inside f (o .logs) && ((not (o .marked) || inside f (o .dead))
-    && sizesGood (o .keycount) (o .edgecount) (o .bits) (o .keys .len) (o .offsets .len) (o .logs .len) (o .marked) (o .dead .len))))))
+-- of a file of that size
+unfoldable pub recordWithin : ℕ → Opened → Bool
+recordWithin size o =
+    leb size kind.mostBytes
+    && (inside size (o .keys)
+    && (inside size (o .offsets)
+    && (inside size (o .partners)
+    && (inside size (o .logs)
+    && ((not (o .marked) || inside size (o .dead))
+    && (widthGood (o .bits) && sizesGood o))))))
+
+abbrev pub recordGood : List ℕ → Opened → Bool
+recordGood f o = recordWithin (length f) o
 
 -- ---- rule 13: d keys from k on, each above the one before
 
@@ -133,7 +117,7 @@ fenceCount x = leAt x 4 4
 unfoldable pub fencesGood : List ℕ → List ℕ → ℕ → Bool
 fencesGood x keys n =
     leb kind.fencesHead (length x) && (leb 1 (strideOf x) && (eqb (fenceCount x) ((n + (strideOf x - 1)) / strideOf x)
-    && (eqb (length x) (kind.fencesHead + kind.fenceSize * fenceCount x) && fencesFrom (fenceCount x) x keys (strideOf x) 0)))
+    && (eqb (length x) (kind.fencesLen (fenceCount x)) && fencesFrom (fenceCount x) x keys (strideOf x) 0)))
 
 -- ---- opening
 

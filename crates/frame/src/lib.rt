@@ -7,6 +7,10 @@ ghost use Rattle.frame.specs.Frame.{rawRow};
 ghost use Rattle.frame.specs.Open.{bytesAt};
 use refusal::Refusal;
 
+pub mod bounds;
+pub mod ends;
+pub mod kind;
+
 // Where a section lies.
 pub struct Range {
     pub start: u64,
@@ -26,40 +30,12 @@ pub struct Row {
 }
 
 impl Row {
-    // The kinds that are read.
-    pub const KEYS: u16 = 1;
-
-    pub const OFFSETS: u16 = 2;
-
-    pub const PARTNERS: u16 = 3;
-
-    pub const LOGS: u16 = 4;
-
-    pub const TOMBSTONES: u16 = 5;
-
-    pub const FENCES: u16 = 6;
-
-    // Property streams: any number of them, not read.
-    pub const PROPERTIES: u16 = 256;
-
-    pub const RAW: u8 = 0;
-
-    // Bytes of a key, a log number and a fence, and of what stands before the fences.
-    pub const KEY: u64 = 16;
-
-    pub const LOG: u64 = 8;
-
-    pub const FENCE: u64 = 24;
-
-    pub const FENCES_HEAD: u64 = 8;
-
     // Bytes of an entry without its name.
     pub const ENTRY: usize = 28;
 
-    // Bytes of the counts and the offset bits, which follow the last entry.
-    pub const COUNTS: usize = 17;
+    pub const RAW: u8 = 0;
 
-    // An entry without a name, as kinds 1 to 6 have it.
+    // An entry without a name, as the kinds that are read have it.
     pub fn raw(kind: u16, start: u64, len: u64, sum: u64) -> Row
         ensures { λ r. ⌜ r ≡ rawRow kind start len sum ⌝ }
     {
@@ -89,11 +65,12 @@ pub struct Opened {
     pub bits: u8,
 }
 
-// What the frame alone gives: the record, and the fences, which only opening looks at.
+// What the frame alone gives: the record, the fences and whether there are property streams, which only opening looks at.
 pub struct Framed {
     pub opened: Opened,
     pub fenced: bool,
     pub fences: Range,
+    pub streams: bool,
 }
 
 // The frame's answer, and that of opening.

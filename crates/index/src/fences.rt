@@ -4,6 +4,7 @@ ghost use Prim.Native.Nat.{_+_, _*_, _≤_, _<_};
 ghost use lib.ListN.{length};
 ghost use lib.Dec.{eqb};
 ghost use Rattle.codes.specs.Ids.{numberOf};
+ghost use Rattle.frame.specs.Kind as kind;
 ghost use Rattle.frame.specs.Open.{fenceGood, fencesFrom, fencesGood};
 use super::keys::key_at;
 use codes::ids::Id;
@@ -12,7 +13,8 @@ use codes::ids::compare;
 use codes::ids::id_at;
 use codes::little::le32;
 use codes::little::le64;
-use frame::Row;
+use frame::kind::Fences;
+use frame::kind::Keys;
 
 // Are a and b one id?
 fn same(a: Id, b: Id) -> bool
@@ -27,21 +29,21 @@ fn same(a: Id, b: Id) -> bool
 
 // Is fence i key i * stride, and its place?
 fn fence_good(x: &[u8], keys: &[u8], stride: usize, i: usize) -> bool
-    requires { ⌜ (i ≤ 16777216) × (i * stride ≤ 16777216) × (32 + 24 * i ≤ length (now x)) × (i * stride * 16 + 16 ≤ length (now keys)) ⌝ }
+    requires { ⌜ (i ≤ kind.mostKeys) × (i * stride ≤ kind.mostKeys) × (kind.fencesLen (i + 1) ≤ length (now x)) × (i * stride * kind.keySize + kind.keySize ≤ length (now keys)) ⌝ }
     ensures { λ r. ⌜ r ≡ fenceGood (now (x .entry)) (now (keys .entry)) stride i ⌝ }
 {
     let k = i * stride;
-    let at = (Row::FENCES_HEAD as usize) + (Row::FENCE as usize) * i;
+    let at = (Fences::HEAD as usize) + (Fences::ROW as usize) * i;
     if !same(id_at(x, at), key_at(keys, k)) {
         return false;
     }
-    let place = le64(x, at + (Row::KEY as usize));
-    place == Row::KEY * (k as u64)
+    let place = le64(x, at + (Keys::ROW as usize));
+    place == Keys::ROW * (k as u64)
 }
 
 // Are all `count` fences good? The last of them is still one of the n keys.
 fn all_good(x: &[u8], keys: &[u8], n: usize, stride: usize, count: usize) -> bool
-    requires { ⌜ (n ≤ 16777216) × (count ≤ n) × (count * stride < n + stride) × (8 + 24 * count ≤ length (now x)) × (n * 16 ≤ length (now keys)) ⌝ }
+    requires { ⌜ (n ≤ kind.mostKeys) × (count ≤ n) × (count * stride < n + stride) × (kind.fencesLen count ≤ length (now x)) × (n * kind.keySize ≤ length (now keys)) ⌝ }
     ensures { λ r. ⌜ r ≡ fencesFrom count (now (x .entry)) (now (keys .entry)) stride 0 ⌝ }
 {
     let mut i: usize = 0;
@@ -57,10 +59,10 @@ fn all_good(x: &[u8], keys: &[u8], n: usize, stride: usize, count: usize) -> boo
 // Rule 15: the stride is at least 1, the count is that of n keys divided by the stride, rounded up, the fences fill the
 // section x, and each is good.
 pub fn fences_good(x: &[u8], keys: &[u8], n: usize) -> bool
-    requires { ⌜ (n ≤ 16777216) × (n * 16 ≤ length (now keys)) ⌝ }
+    requires { ⌜ (n ≤ kind.mostKeys) × (n * kind.keySize ≤ length (now keys)) ⌝ }
     ensures { λ r. ⌜ r ≡ fencesGood (now (x .entry)) (now (keys .entry)) n ⌝ }
 {
-    let head = Row::FENCES_HEAD as usize;
+    let head = Fences::HEAD as usize;
     if x.len() < head {
         return false;
     }
@@ -72,7 +74,7 @@ pub fn fences_good(x: &[u8], keys: &[u8], n: usize) -> bool
     if count != (n + (stride - 1)) / stride {
         return false;
     }
-    if x.len() != head + (Row::FENCE as usize) * count {
+    if x.len() != head + (Fences::ROW as usize) * count {
         return false;
     }
     all_good(x, keys, n, stride, count)

@@ -4,13 +4,14 @@ ghost use Prim.Native.Nat.{_+_, _-_, _*_, _≤_};
 ghost use lib.ListN.{length};
 ghost use lib.Dec.{ltb};
 ghost use Rattle.codes.specs.Ids.{numberOf, halvesAt};
+ghost use Rattle.frame.specs.Kind as kind;
 ghost use Rattle.frame.specs.Open.{keysFrom};
 ghost use Rattle.index.specs.Find.{findIn};
 use codes::ids::Id;
 use codes::ids::Order;
 use codes::ids::compare;
 use codes::ids::id_at;
-use frame::Row;
+use frame::kind::Keys;
 use refusal::Check;
 use refusal::Refusal;
 
@@ -22,10 +23,10 @@ pub enum Found {
 
 // Key k.
 pub fn key_at(keys: &[u8], k: usize) -> Id
-    requires { ⌜ (k ≤ 16777216) × (k * 16 + 16 ≤ length (now keys)) ⌝ }
-    ensures { λ r. ⌜ r ≡ halvesAt (now (keys .entry)) (k * 16) ⌝ }
+    requires { ⌜ (k ≤ kind.mostKeys) × (k * kind.keySize + kind.keySize ≤ length (now keys)) ⌝ }
+    ensures { λ r. ⌜ r ≡ halvesAt (now (keys .entry)) (k * kind.keySize) ⌝ }
 {
-    id_at(keys, k * (Row::KEY as usize))
+    id_at(keys, k * (Keys::ROW as usize))
 }
 
 // Is b above a?
@@ -41,7 +42,7 @@ fn above(a: Id, b: Id) -> bool
 
 // Rule 13: the first of n keys that is not above the one before it. Each key is read once.
 pub fn keys_check(keys: &[u8], n: usize) -> Check
-    requires { ⌜ (n ≤ 16777216) × (n * 16 ≤ length (now keys)) ⌝ }
+    requires { ⌜ (n ≤ kind.mostKeys) × (n * kind.keySize ≤ length (now keys)) ⌝ }
     ensures { λ r. ⌜ r ≡ keysFrom (n - 1) (now (keys .entry)) 1 ⌝ }
 {
     if n == 0 {
@@ -64,7 +65,7 @@ pub fn keys_check(keys: &[u8], n: usize) -> Check
 
 // The place of a key among n keys. The count is of keys compared, the one that was found too.
 pub fn find(keys: &[u8], n: usize, key: Id) -> Found
-    requires { ⌜ (n ≤ 16777216) × (n * 16 ≤ length (now keys)) ⌝ }
+    requires { ⌜ (n ≤ kind.mostKeys) × (n * kind.keySize ≤ length (now keys)) ⌝ }
     ensures { λ r. ⌜ r ≡ findIn (now (keys .entry)) n (numberOf key) ⌝ }
 {
     let mut low: usize = 0;

@@ -2,6 +2,7 @@
 ghost use mathlib.Core.Path.{_≡_};
 ghost use Prim.Native.Nat.{_+_, _*_, _^_, _<_, _≤_};
 ghost use lib.ListN.{length};
+ghost use Rattle.frame.specs.Kind as kind;
 ghost use Rattle.frame.specs.Open.{offsetAt, offsetsFrom};
 use codes::little::le24;
 use codes::little::le32;
@@ -12,7 +13,7 @@ use refusal::Refusal;
 
 // Offset i, of w bytes. Each width has its own loads; a loop over offsets becomes four, one for each width.
 pub fn offset_at(offs: &[u8], w: usize, i: usize) -> u64
-    requires { ⌜ (3 ≤ w) × (w ≤ 6) × (i ≤ 16777216) × (i * w + w ≤ length (now offs)) ⌝ }
+    requires { ⌜ (3 ≤ w) × (w ≤ 6) × (i ≤ kind.mostKeys) × (i * w + w ≤ length (now offs)) ⌝ }
     ensures { λ r. ⌜ (r ≡ offsetAt (now (offs .entry)) w i) × (r < 2 ^ 48) ⌝ }
 {
     let at = i * w;
@@ -40,7 +41,7 @@ fn refused(i: usize) -> Check
 // Rule 14 of n + 1 offsets: the first is 0, each is above the one before, the last is len. Each offset is read once: `last`
 // is offset i, which rises, and only the very last is held against len.
 pub fn offsets_check(offs: &[u8], w: usize, n: usize, len: u64) -> Check
-    requires { ⌜ (3 ≤ w) × (w ≤ 6) × (n ≤ 16777216) × ((n + 1) * w ≤ length (now offs)) ⌝ }
+    requires { ⌜ (3 ≤ w) × (w ≤ 6) × (n ≤ kind.mostKeys) × (kind.offsetsLen n w ≤ length (now offs)) ⌝ }
     ensures { λ r. ⌜ r ≡ offsetsFrom (n + 1) (now (offs .entry)) w n len 0 ⌝ }
 {
     let mut last = offset_at(offs, w, 0);

@@ -1,13 +1,38 @@
 -- Each public contract of the crate leaves one result.
 use mathlib.Core.Path.{_≡_, refl, sym, _∙_}
 use Rattle.base.proofs.Determined.{Determined}
-use Rattle.opening.proofs.frames.table_framing as table-framing
-use Rattle.opening.proofs.frames.table_framing.Reads as table-framing-reads
+use Rattle.opening.proofs.ends.size_check as size-check
+use Rattle.opening.proofs.ends.size_check.Reads as size-check-reads
+use Rattle.opening.proofs.ends.flags_of as flags-of
+use Rattle.opening.proofs.ends.flags_of.Reads as flags-of-reads
+use Rattle.opening.proofs.ends.ends_check as ends-check
+use Rattle.opening.proofs.ends.ends_check.Reads as ends-check-reads
+use Rattle.opening.proofs.frames.counted as counted
+use Rattle.opening.proofs.frames.counted.Reads as counted-reads
+use Rattle.opening.proofs.frames.footed as footed
+use Rattle.opening.proofs.frames.footed.Reads as footed-reads
+use Rattle.opening.proofs.frames.footer_framing as footer-framing
+use Rattle.opening.proofs.frames.footer_framing.Reads as footer-framing-reads
 use Rattle.opening.proofs.frames.frame_of as frame-of
 use Rattle.opening.proofs.frames.frame_of.Reads as frame-of-reads
 
-pub table-framing-determined : Determined table-framing.ended table-framing-reads.Pre table-framing-reads.Post
-table-framing-determined κs a pre r₁ r₂ w₁ w₂ p q = (p ∙ sym q, refl)
+pub size-check-determined : Determined size-check.ended size-check-reads.Pre size-check-reads.Post
+size-check-determined κs a pre r₁ r₂ w₁ w₂ p q = (p ∙ sym q, refl)
+
+pub flags-of-determined : Determined flags-of.ended flags-of-reads.Pre flags-of-reads.Post
+flags-of-determined κs a pre r₁ r₂ w₁ w₂ p q = (p ∙ sym q, refl)
+
+pub ends-check-determined : Determined ends-check.ended ends-check-reads.Pre ends-check-reads.Post
+ends-check-determined κs a pre r₁ r₂ w₁ w₂ p q = (p ∙ sym q, refl)
+
+pub counted-determined : Determined counted.ended counted-reads.Pre counted-reads.Post
+counted-determined κs a pre r₁ r₂ w₁ w₂ p q = (p ∙ sym q, refl)
+
+pub footed-determined : Determined footed.ended footed-reads.Pre footed-reads.Post
+footed-determined κs a pre r₁ r₂ w₁ w₂ p q = (p ∙ sym q, refl)
+
+pub footer-framing-determined : Determined footer-framing.ended footer-framing-reads.Pre footer-framing-reads.Post
+footer-framing-determined κs a pre r₁ r₂ w₁ w₂ p q = (p ∙ sym q, refl)
 
 pub frame-of-determined : Determined frame-of.ended frame-of-reads.Pre frame-of-reads.Post
 frame-of-determined κs a pre r₁ r₂ w₁ w₂ p q = (p ∙ sym q, refl)

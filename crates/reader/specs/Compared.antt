@@ -7,6 +7,7 @@ use mathlib.Core.Bool.{Bool, true, false}
 use Rattle.refusal.specs.declared.Check.{Check}
 use Rattle.frame.specs.declared.Opened.{Opened}
 use Rattle.frame.specs.declared.Opening.{Opening}
+use Rattle.frame.specs.Kind as kind
 use Rattle.frame.specs.Open.{Known, knownOf, recordGood, openOf}
 use Rattle.index.specs.declared.keys.Found.{Found}
 use Rattle.index.specs.Find.{findIn, comparedOf}
@@ -32,7 +33,7 @@ module _ (full : Bool) (rooms : Rooms) where
   on-found k (Found.At i c) = outcome-compared _ _
   on-found k (Found.Absent c) = omega arith
 
-  pub in-compared : (k : Known) (key : ℕ) → k .keycount ≤ 16777216 → comparedIn (lookIn full rooms k key) ≤ 25
+  pub in-compared : (k : Known) (key : ℕ) → k .keycount ≤ kind.mostKeys → comparedIn (lookIn full rooms k key) ≤ 25
   unfolding lookIn
   in-compared k key h = omega (arith, on-found k (findIn (k .keys) (k .keycount) key), find-bound (k .keys) (k .keycount) key h)
 

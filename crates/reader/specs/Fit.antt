@@ -1,29 +1,30 @@
 -- What rules 1 to 12 give rules 13 to 15: sections that lie within the file, and lengths that fit the counts.
 use mathlib.Core.Path.{_≡_, refl, sym, ap, _∙_}
-use Prim.Native.Nat.{ℕ, _+_, _-_, _*_, _/_, _^_, _≤_}
+use Prim.Native.Nat.{ℕ, _+_, _-_, _*_, _/_, _≤_}
 use native.Mathlib.Omega.{arith}
 use mathlib.Core.List.{List}
-use mathlib.Core.Bool.{Bool, not, _&&_}
+use mathlib.Core.Bool.{Bool, true, false, not, _&&_}
 use lib.ListN.{length}
 use Rattle.refusal.specs.declared.Refusal.{Refusal}
 use Rattle.refusal.specs.declared.Check.{Check}
 use Rattle.frame.specs.declared.Framed.{Framed}
 use Rattle.refusal.specs.Check.{_⊳_, refuse}
+use Rattle.refusal.specs.Check.Laws.{then-assoc}
 use Rattle.frame.specs.declared.Framing.{Framing}
 use Rattle.frame.specs.declared.Opening.{Opening}
-use Rattle.frame.specs.Frame.{footLen, frameCheck}
+use Rattle.frame.specs.Frame.{frameCheck}
 use Rattle.frame.specs.Kind as kind
 use Rattle.frame.specs.Open.{recordFrom, recordOf, framedFrom, framedOf, framing, bytesAt, knownOf, keysFrom, offsetsFrom, fencesGood, contentCheck, fileCheck, opening, openOf}
-use Rattle.frame.specs.Open.Laws.{Frames, frames-parts, size-parts, tail-parts, Sized, frames-sized, frames-within, width-bytes}
+use Rattle.frame.specs.Open.Laws.{Frames, frames-parts, Sized, frames-sized, frames-width, frames-within, width-bytes, good-framing, refused-framing}
 
 pub record Fit (size : ℕ) (x : Framed) : Type 0 where
   pub keys : x .opened .keys .start + x .opened .keys .len ≤ size
   pub offsets : x .opened .offsets .start + x .opened .offsets .len ≤ size
   pub partners : x .opened .partners .start + x .opened .partners .len ≤ size
   pub fences : x .fences .start + x .fences .len ≤ size
-  pub few : x .opened .keycount ≤ 16777216
-  pub keylen : x .opened .keys .len ≡ 16 * x .opened .keycount
-  pub offsetlen : x .opened .offsets .len ≡ (x .opened .keycount + 1) * (x .opened .bits / 8)
+  pub few : x .opened .keycount ≤ kind.mostKeys
+  pub keylen : x .opened .keys .len ≡ kind.keysLen (x .opened .keycount)
+  pub offsetlen : x .opened .offsets .len ≡ kind.offsetsLen (x .opened .keycount) (x .opened .bits / 8)
   pub narrow : 3 ≤ x .opened .bits / 8
   pub wide : x .opened .bits / 8 ≤ 6
 
@@ -31,9 +32,9 @@ pub record Fit (size : ℕ) (x : Framed) : Type 0 where
 pub fit-of : (f : List ℕ) → Frames f → Fit (length f) (framedOf f)
 unfolding framedOf framedFrom recordFrom recordOf
 fit-of f s =
-    let z = frames-sized f s in
-    let w = width-bytes _ (z .width) in
-    let inside = frames-within f s in record {
+    let z = frames-sized s in
+    let w = width-bytes _ (frames-width s) in
+    let inside = frames-within s in record {
       keys = omega (arith, inside kind.keys);
       offsets = omega (arith, inside kind.offsets);
       partners = omega (arith, inside kind.partners);
@@ -44,17 +45,6 @@ fit-of f s =
       narrow = w .0;
       wide = w .1;
     }
-
--- the frame's answer, taken apart
-pub framing-good : (c : Check) (y x : Framed) → framing c y ≡ Framing.Good x → (c ≡ Check.Fine) × (y ≡ x)
-unfolding framing
-framing-good Check.Fine y x e = (refl, cc)
-framing-good (Check.Bad r) y x e = let z : _≡_ {A = ℕ} 0 1 = cc in absurd (omega arith)
-
-framing-refused : (c : Check) (y : Framed) (r : Refusal) → framing c y ≡ Framing.Refused r → c ≡ Check.Bad r
-unfolding framing
-framing-refused Check.Fine y r e = let z : _≡_ {A = ℕ} 0 1 = cc in absurd (omega arith)
-framing-refused (Check.Bad q) y r e = cc
 
 -- ---- opening, from the answers of its two halves
 
@@ -72,17 +62,17 @@ module _ (f : List ℕ) where
 
   pub open-unframed : (r : Refusal) → frame ≡ Framing.Refused r → openOf f ≡ Opening.Refused r
   unfolding openOf fileCheck opening
-  open-unframed r e = rw (framing-refused (frameCheck (length f) f f) (framedOf f) r e)
+  open-unframed r e = rw (refused-framing (frameCheck (length f) f f) (framedOf f) r e)
 
   module _ (x : Framed) (e : frame ≡ Framing.Good x) where
     fine : frameCheck (length f) f f ≡ Check.Fine
-    fine = framing-good (frameCheck (length f) f f) (framedOf f) x e .0
+    fine = good-framing (frameCheck (length f) f f) (framedOf f) x e .0
 
     same : framedOf f ≡ x
-    same = framing-good (frameCheck (length f) f f) (framedOf f) x e .1
+    same = good-framing (frameCheck (length f) f f) (framedOf f) x e .1
 
     pub open-fits : Fit (length f) x
-    open-fits = rw same at (fit-of f (frames-parts f fine))
+    open-fits = rw same at (fit-of f (frames-parts (length f) f f fine))
 
     check : (c : Check) → contents x ≡ c → fileCheck f ≡ c
     unfolding fileCheck
@@ -114,3 +104,16 @@ content-is f x k o g l e = e
     ∙ (λ i. keysFrom (x .opened .keycount - 1) (k i) 1
     ⊳ offsetsFrom (x .opened .keycount + 1) (o i) (x .opened .bits / 8) (x .opened .keycount) (l i) 0
     ⊳ refuse Refusal.Fences (x .fenced && not (fencesGood (g i) (k i) (x .opened .keycount))))
+
+-- ---- rules 13 to 15 with fences and without
+
+module _ (a b : Check) (r : Refusal) where
+  pub without-fences : {fenced : Bool} (good : Bool) → fenced ≡ false → (a ⊳ b) ≡ (a ⊳ b ⊳ refuse r (fenced && not good))
+  without-fences good e = rw e (ap (λ (c : Check). a ⊳ c) (sym (then-fine b)))
+    where
+      then-fine : (c : Check) → (c ⊳ Check.Fine) ≡ c
+      then-fine Check.Fine = refl
+      then-fine (Check.Bad q) = refl
+
+  pub with-fences : {fenced : Bool} (good : Bool) → fenced ≡ true → ((a ⊳ b) ⊳ refuse r (not good)) ≡ (a ⊳ b ⊳ refuse r (fenced && not good))
+  with-fences good e = rw e (then-assoc a b (refuse r (not good)))

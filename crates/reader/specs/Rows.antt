@@ -108,25 +108,25 @@ module _ (f : List ℕ) (i : ℕ) where
   row-small h = simp (lt-leb 84 (length f) h)
 
   module _ (low : 84 ≤ length f) where
-    pub row-large : 2 ^ 30 < length f → rowOf f i ≡ Section.Missing
+    pub row-large : kind.mostBytes < length f → rowOf f i ≡ Section.Missing
     unfolding rowOf
-    row-large h = simp (le-leb 84 (length f) low, lt-leb (length f) (2 ^ 30) h)
+    row-large h = simp (le-leb 84 (length f) low, lt-leb (length f) (kind.mostBytes) h)
 
-    module _ (high : length f ≤ 2 ^ 30) (foot : ℕ) (e : foot ≡ footLen f) where
+    module _ (high : length f ≤ kind.mostBytes) (foot : ℕ) (e : foot ≡ footLen f) where
       pub row-short : foot < 39 → rowOf f i ≡ Section.Missing
       unfolding rowOf
-      row-short h = simp (le-leb 84 (length f) low, le-leb (length f) (2 ^ 30) high, lt-leb 39 (footLen f) (omega arith))
+      row-short h = simp (le-leb 84 (length f) low, le-leb (length f) (kind.mostBytes) high, lt-leb 39 (footLen f) (omega arith))
 
       module _ (some : 39 ≤ foot) where
         pub row-over : length f - 64 < foot → rowOf f i ≡ Section.Missing
         unfolding rowOf
         row-over h =
-            simp (le-leb 84 (length f) low, le-leb (length f) (2 ^ 30) high, le-leb 39 (footLen f) (omega arith), lt-leb (footLen f) (length f - 64) (omega arith))
+            simp (le-leb 84 (length f) low, le-leb (length f) (kind.mostBytes) high, le-leb 39 (footLen f) (omega arith), lt-leb (footLen f) (length f - 64) (omega arith))
 
         pub row-footed : foot ≤ length f - 64 → rowOf f i ≡ rowIn (length f - foot) (part f (length f - foot) (length f - 20)) i
         unfolding rowOf bodyOf
         row-footed h =
-            simp (le-leb 84 (length f) low, le-leb (length f) (2 ^ 30) high, le-leb 39 (footLen f) (omega arith), le-leb (footLen f) (length f - 64) (omega arith))
+            simp (le-leb 84 (length f) low, le-leb (length f) (kind.mostBytes) high, le-leb 39 (footLen f) (omega arith), le-leb (footLen f) (length f - 64) (omega arith))
             (ap (λ (t : ℕ). rowIn (length f - t) (part f (length f - t) (length f - 20)) i) (sym e))
 
 -- where nothing is left to pass, the next entry is entry i

@@ -6,7 +6,7 @@ ghost use Prim.Native.Nat.{_+_};
 ghost use lib.Dec.{leb};
 ghost use lib.ListN.{length};
 ghost use Rattle.codes.specs.Ids.{idAt};
-ghost use Rattle.frame.specs.Open.{recordGood};
+ghost use Rattle.frame.specs.Open.{recordWithin};
 ghost use Rattle.lookup.specs.declared.Looked.{Looked};
 ghost use Rattle.lookup.specs.Lookup.{lookOf, lookWith};
 ghost use Rattle.lookup.specs.Calls.{alone, lent, Alone, Whole};
@@ -14,9 +14,11 @@ use super::open::open;
 use codes::ids::Id;
 use codes::ids::id_at;
 use counts::sizes_good;
+use counts::width_good;
 use frame::Opened;
 use frame::Opening;
 use frame::Range;
+use frame::bounds::Bounds;
 use lookup::Looked;
 use lookup::partners::partners_of;
 use lookup::whole::edges_of_key;
@@ -42,12 +44,11 @@ fn dead_inside(size: u64, o: Opened) -> bool
     inside(size, dead)
 }
 
-// Rule 21.
-fn record_good(file: &[u8], o: Opened) -> bool
-    ensures { λ ok. ⌜ ok ≡ recordGood (now (file .entry)) o ⌝ }
+// Rule 21, of a file of that size.
+fn record_good(size: u64, o: Opened) -> bool
+    ensures { λ ok. ⌜ ok ≡ recordWithin size o ⌝ }
 {
-    let size = file.len() as u64;
-    if 1073741824 < size {
+    if Bounds::BYTES < size {
         return false;
     }
     let keys = o.keys;
@@ -69,6 +70,9 @@ fn record_good(file: &[u8], o: Opened) -> bool
     if !dead_inside(size, o) {
         return false;
     }
+    if !width_good(o.bits) {
+        return false;
+    }
     sizes_good(o)
 }
 
@@ -82,7 +86,7 @@ fn refused(refusal: Refusal) -> Looked
 pub fn partners_with(file: &[u8], o: Opened, key: &[u8; 16], out: &mut [u8]) -> Looked
     ensures { λ r. ⌜ Alone (lookWith false (alone (length (now (out .entry)))) (idAt (now (key .entry)) 0) (now (file .entry)) o) r (now (out .entry)) (now (out .exit)) ⌝ }
 {
-    if !record_good(file, o) {
+    if !record_good(file.len() as u64, o) {
         return refused(Refusal::Record);
     }
     partners_of(file, o, id_at(key, 0), out)
@@ -109,7 +113,7 @@ pub fn lookup_with(
 ) -> Looked
     ensures { λ r. ⌜ Whole (lookWith true (lent (length (now (out .entry))) (length (now (logs .entry))) (length (now (marks .entry)))) (idAt (now (key .entry)) 0) (now (file .entry)) o) r (now (out .entry)) (now (out .exit)) (now (logs .entry)) (now (logs .exit)) (now (marks .entry)) (now (marks .exit)) ⌝ }
 {
-    if !record_good(file, o) {
+    if !record_good(file.len() as u64, o) {
         return refused(Refusal::Record);
     }
     edges_of_key(file, o, id_at(key, 0), out, logs, marks)

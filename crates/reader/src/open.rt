@@ -5,6 +5,7 @@ ghost use Prim.Native.Nat.{_+_, _-_, _*_, _≤_};
 ghost use lib.ListN.{length};
 ghost use Rattle.refusal.specs.declared.Refusal.{Refusal};
 ghost use Rattle.refusal.specs.Check.{_⊳_, refuse};
+ghost use Rattle.frame.specs.Kind as kind;
 ghost use Rattle.frame.specs.Open.{keysFrom, offsetsFrom, fencesGood, knownOf, bytesAt, contentCheck, openOf};
 ghost use Rattle.reader.specs.Fit.{Fit};
 use frame::Framed;
@@ -18,14 +19,22 @@ use opening::frames::frame_of;
 use refusal::Check;
 use refusal::Refusal;
 
-// Rule 15.
-fn fence_check(fenced: bool, fences: &[u8], keys: &[u8], n: usize) -> Check
-    requires { ⌜ (n ≤ 16777216) × (n * 16 ≤ length (now keys)) ⌝ }
-    ensures { λ r. ⌜ r ≡ refuse Refusal.Fences (fenced && not (fencesGood (now (fences .entry)) (now (keys .entry)) n)) ⌝ }
+// Rules 13 and 14: keys, and offsets of w bytes into a partner section of `len` bytes.
+fn index_check(keys: &[u8], offsets: &[u8], n: usize, w: usize, len: u64) -> Check
+    requires { ⌜ (n ≤ kind.mostKeys) × (n * kind.keySize ≤ length (now keys)) × (3 ≤ w) × (w ≤ 6) × (kind.offsetsLen n w ≤ length (now offsets)) ⌝ }
+    ensures { λ r. ⌜ r ≡ keysFrom (n - 1) (now (keys .entry)) 1 ⊳ offsetsFrom (n + 1) (now (offsets .entry)) w n len 0 ⌝ }
 {
-    if !fenced {
-        return Check::Fine;
+    match keys_check(keys, n) {
+        Check::Bad { refusal } => Check::Bad { refusal },
+        Check::Fine => offsets_check(offsets, w, n, len),
     }
+}
+
+// Rule 15.
+fn fence_check(fences: &[u8], keys: &[u8], n: usize) -> Check
+    requires { ⌜ (n ≤ kind.mostKeys) × (n * kind.keySize ≤ length (now keys)) ⌝ }
+    ensures { λ r. ⌜ r ≡ refuse Refusal.Fences (not (fencesGood (now (fences .entry)) (now (keys .entry)) n)) ⌝ }
+{
     if fences_good(fences, keys, n) {
         return Check::Fine;
     }
@@ -33,7 +42,7 @@ fn fence_check(fenced: bool, fences: &[u8], keys: &[u8], n: usize) -> Check
     Check::Bad { refusal }
 }
 
-// Rules 13 to 15: keys, offsets of w bytes into a partner section of `len` bytes, fences.
+// Rules 13 to 15. Two calls of `index_check` keep its loops in a function of their own.
 fn content_check(
     keys: &[u8],
     offsets: &[u8],
@@ -43,15 +52,15 @@ fn content_check(
     w: usize,
     len: u64,
 ) -> Check
-    requires { ⌜ (n ≤ 16777216) × (n * 16 ≤ length (now keys)) × (3 ≤ w) × (w ≤ 6) × ((n + 1) * w ≤ length (now offsets)) ⌝ }
+    requires { ⌜ (n ≤ kind.mostKeys) × (n * kind.keySize ≤ length (now keys)) × (3 ≤ w) × (w ≤ 6) × (kind.offsetsLen n w ≤ length (now offsets)) ⌝ }
     ensures { λ r. ⌜ r ≡ keysFrom (n - 1) (now (keys .entry)) 1 ⊳ offsetsFrom (n + 1) (now (offsets .entry)) w n len 0 ⊳ refuse Refusal.Fences (fenced && not (fencesGood (now (fences .entry)) (now (keys .entry)) n)) ⌝ }
 {
-    match keys_check(keys, n) {
+    if !fenced {
+        return index_check(keys, offsets, n, w, len);
+    }
+    match index_check(keys, offsets, n, w, len) {
         Check::Bad { refusal } => Check::Bad { refusal },
-        Check::Fine => match offsets_check(offsets, w, n, len) {
-            Check::Bad { refusal: later } => Check::Bad { refusal: later },
-            Check::Fine => fence_check(fenced, fences, keys, n),
-        },
+        Check::Fine => fence_check(fences, keys, n),
     }
 }
 

@@ -2,12 +2,19 @@
 ghost use mathlib.Core.Path.{_≡_};
 ghost use Prim.Native.Nat.{_+_, _≤_};
 ghost use lib.ListN.{length};
+ghost use Rattle.frame.specs.Kind as kind;
 ghost use Rattle.reader.specs.declared.rows.Section.{Section};
 ghost use Rattle.reader.specs.Rows.{moved, rowIn, rowOf};
 use codes::little::byte;
 use codes::little::le16;
-use codes::little::le32;
 use frame::Row;
+use frame::bounds::Bounds;
+use frame::ends::Footer;
+use frame::ends::Header;
+use frame::ends::Trailer;
+use frame::ends::body_of;
+use frame::ends::foot_at;
+use frame::ends::foot_len;
 use table::row_at;
 
 // An entry, or none of that number.
@@ -18,7 +25,7 @@ pub enum Section {
 
 // The entry with its name's place counted from the file's first byte; `at` is where the footer body begins.
 fn placed(at: u64, r: Row) -> Section
-    requires { ⌜ (at ≤ 1073741824) × (r .nameat ≤ 1073741824) ⌝ }
+    requires { ⌜ (at ≤ kind.mostBytes) × (r .nameat ≤ kind.mostBytes) ⌝ }
     ensures { λ s. ⌜ s ≡ Section.Entry (moved at r) ⌝ }
 {
     let row = Row {
@@ -35,7 +42,7 @@ fn placed(at: u64, r: Row) -> Section
 
 // Entry i of a footer body b that begins at `at`.
 fn row_in(at: u64, b: &[u8], i: usize) -> Section
-    requires { ⌜ (at ≤ 1073741824) × (2 ≤ length (now b)) × (length (now b) ≤ 1073741824) ⌝ }
+    requires { ⌜ (at ≤ kind.mostBytes) × (2 ≤ length (now b)) × (length (now b) ≤ kind.mostBytes) ⌝ }
     ensures { λ s. ⌜ s ≡ rowIn at (now (b .entry)) i ⌝ }
 {
     let count = le16(b, 0) as usize;
@@ -66,20 +73,18 @@ pub fn section_at(file: &[u8], i: usize) -> Section
     ensures { λ s. ⌜ s ≡ rowOf (now (file .entry)) i ⌝ }
 {
     let size = file.len();
-    if size < 84 {
+    if size < Header::SIZE + Trailer::SIZE {
         return Section::Missing;
     }
-    if 1073741824 < size {
+    if Bounds::BYTES < size as u64 {
         return Section::Missing;
     }
-    let foot = le32(file, size - 12) as usize;
-    if foot < 39 {
+    let foot = foot_len(file);
+    if foot < Footer::LEAST {
         return Section::Missing;
     }
-    if size - 64 < foot {
+    if size - Header::SIZE < foot {
         return Section::Missing;
     }
-    let a = size - foot;
-    let e = size - 20;
-    row_in(a as u64, &file[a..e], i)
+    row_in(foot_at(file) as u64, body_of(file), i)
 }

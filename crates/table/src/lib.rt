@@ -1,53 +1,48 @@
-// One pass over the section table notes all that rules 9 to 12 ask of it.
+// Rules 9 to 11: one pass over the section table notes where each kind that is read lies, and the first entries that are
+// not as they should be.
 ghost use mathlib.Core.Path.{_≡_};
+ghost use mathlib.Core.Bool.{not, _&&_, _||_};
 ghost use Prim.Native.Nat.{_+_, _≤_};
+ghost use lib.Dec.{eqb};
 ghost use lib.ListN.{length};
-ghost use Rattle.frame.specs.Frame.{rowAt, nameGood, codecGood, rangeGood};
+ghost use Rattle.refusal.specs.declared.Refusal.{Refusal};
+ghost use Rattle.frame.specs.declared.Framing.{Framing};
 ghost use Rattle.frame.specs.Kind as kind;
-ghost use mathlib.Core.Bool.{_&&_, _||_};
-ghost use Rattle.base.specs.Pick.{pick};
-ghost use Rattle.refusal.specs.declared.Check.{Check};
-ghost use Rattle.refusal.specs.Check.{_⊳_};
-ghost use Rattle.table.specs.Seen.{noted, unmet, seenWith, unseen, scanOf};
+ghost use Rattle.frame.specs.Frame.{rowAt, rowsOf, rangeGood, framedFrom, rowsCheck};
+ghost use Rattle.frame.specs.Open.{framing};
+ghost use Rattle.table.specs.Pass.{firstBad, unseen, coded, ranged, needed, framedSeen, passed};
 use codes::little::le16;
 use codes::little::le64;
+use frame::Framed;
+use frame::Framing;
+use frame::Opened;
 use frame::Range;
 use frame::Row;
-use refusal::Check;
+use frame::bounds::Bounds;
+use frame::ends::Footer;
+use frame::ends::Header;
+use frame::kind::Fences;
+use frame::kind::Keys;
+use frame::kind::Kinds;
+use frame::kind::Logs;
+use frame::kind::Offsets;
+use frame::kind::Partners;
+use frame::kind::Properties;
+use frame::kind::Tombstones;
 use refusal::Refusal;
 
-// What was seen of one kind: whether it stands there, whether more than once, and where its first section lies.
-pub struct Found {
-    pub there: bool,
-    pub again: bool,
-    pub range: Range,
-}
-
-// What was seen of the entries so far: whether the names are good, the first refusals 10 and 11, where the last section
-// ended, and each kind.
+// What was seen of the entries so far: the first that breaks rule 10 and the first that breaks 11 (64: none), where the
+// last section ended, and whether a property stream stands there. Where each kind lies stands in two arrays, by its slot.
 pub struct Seen {
-    pub names: bool,
-    pub codecs: Check,
-    pub ranges: Check,
+    pub codec: u64,
+    pub range: u64,
     pub floor: u64,
-    pub keys: Found,
-    pub offsets: Found,
-    pub partners: Found,
-    pub logs: Found,
-    pub dead: Found,
-    pub fences: Found,
     pub streams: bool,
-}
-
-// A table that does not fill its body or has a wrong count of entries is not walked to its end.
-pub enum Scan {
-    Broken,
-    Whole { seen: Seen },
 }
 
 // The entry at i of the footer body b.
 pub fn row_at(b: &[u8], i: usize) -> Row
-    requires { ⌜ (i + 28 ≤ length (now b)) × (length (now b) ≤ 1073741824) ⌝ }
+    requires { ⌜ (i + kind.entrySize ≤ length (now b)) × (length (now b) ≤ kind.mostBytes) ⌝ }
     ensures { λ r. ⌜ r ≡ rowAt (now (b .entry)) i ⌝ }
 {
     let kind = le16(b, i) as u16;
@@ -65,38 +60,6 @@ pub fn row_at(b: &[u8], i: usize) -> Row
     }
 }
 
-fn is_fixed(k: u16) -> bool
-    ensures { λ r. ⌜ r ≡ kind.fixed k ⌝ }
-{
-    if k < Row::KEYS {
-        return false;
-    }
-    k <= Row::FENCES
-}
-
-// The name rules of rule 9.
-fn name_good(r: Row) -> bool
-    ensures { λ ok. ⌜ ok ≡ nameGood r ⌝ }
-{
-    if 63 < r.namelen {
-        return false;
-    }
-    if is_fixed(r.kind) {
-        return r.namelen == 0;
-    }
-    true
-}
-
-// Rule 10 for one entry.
-fn codec_good(r: Row) -> bool
-    ensures { λ ok. ⌜ ok ≡ codecGood r ⌝ }
-{
-    if is_fixed(r.kind) {
-        return r.codec == Row::RAW;
-    }
-    true
-}
-
 // Rule 11 for one entry; the sum of start and length may pass 2^64.
 fn range_good(limit: u64, floor: u64, r: Row) -> bool
     ensures { λ ok. ⌜ ok ≡ rangeGood limit floor r ⌝ }
@@ -110,28 +73,17 @@ fn range_good(limit: u64, floor: u64, r: Row) -> bool
     r.len <= limit - r.start
 }
 
-// The first of a rule's refusals: the one that there is, or this one where the test is not good.
-fn first(c: Check, good: bool, refusal: Refusal) -> Check
-    ensures { λ r. ⌜ r ≡ c ⊳ pick good Check.Fine (Check.Bad refusal) ⌝ }
+// The first bad entry: the one that there is, or k where this one is not good.
+fn first_bad(bad: u64, good: bool, k: u64) -> u64
+    ensures { λ r. ⌜ r ≡ firstBad bad good k ⌝ }
 {
-    match c {
-        Check::Bad { refusal: earlier } => Check::Bad { refusal: earlier },
-        Check::Fine => {
-            if good {
-                return Check::Fine;
-            }
-            Check::Bad { refusal }
-        }
+    if bad < Bounds::SECTIONS {
+        return bad;
     }
-}
-
-fn both(a: bool, b: bool) -> bool
-    ensures { λ r. ⌜ r ≡ (a && b) ⌝ }
-{
-    if a {
-        return b;
+    if good {
+        return Bounds::SECTIONS;
     }
-    false
+    k
 }
 
 fn either(a: bool, b: bool) -> bool
@@ -143,132 +95,179 @@ fn either(a: bool, b: bool) -> bool
     b
 }
 
-// Where the next section may begin.
-fn floor_after(limit: u64, floor: u64, r: Row) -> u64
-    ensures { λ x. ⌜ x ≡ pick (rangeGood limit floor r) (r .start + r .len) floor ⌝ }
+// A kind that is read has no name, and stands there once.
+fn fresh(name: u8, met: bool) -> bool
+    ensures { λ r. ⌜ r ≡ (eqb name 0 && not met) ⌝ }
 {
-    if range_good(limit, floor, r) {
-        return r.start + r.len;
+    if name != 0 {
+        return false;
     }
-    floor
-}
-
-impl Found {
-    fn unmet() -> Found
-        ensures { λ f. ⌜ f ≡ unmet ⌝ }
-    {
-        Found {
-            there: false,
-            again: false,
-            range: Range { start: 0, len: 0 },
-        }
-    }
-
-    // With one entry more.
-    fn noted(self, k: u16, r: Row) -> Found
-        ensures { λ f. ⌜ f ≡ noted k self r ⌝ }
-    {
-        if r.kind != k {
-            return self;
-        }
-        let range = self.range;
-        if self.there {
-            return Found {
-                there: true,
-                again: true,
-                range,
-            };
-        }
-        Found {
-            there: true,
-            again: self.again,
-            range: Range {
-                start: r.start,
-                len: r.len,
-            },
-        }
-    }
+    !met
 }
 
 impl Seen {
-    fn unseen() -> Seen
+    fn nothing() -> Seen
         ensures { λ s. ⌜ s ≡ unseen ⌝ }
     {
         Seen {
-            names: true,
-            codecs: Check::Fine,
-            ranges: Check::Fine,
-            floor: 64,
-            keys: Found::unmet(),
-            offsets: Found::unmet(),
-            partners: Found::unmet(),
-            logs: Found::unmet(),
-            dead: Found::unmet(),
-            fences: Found::unmet(),
+            codec: Bounds::SECTIONS,
+            range: Bounds::SECTIONS,
+            floor: Header::SIZE as u64,
             streams: false,
         }
     }
 
-    // With entry k more, which is r.
-    fn noted(self, limit: u64, k: u64, r: Row) -> Seen
-        ensures { λ s. ⌜ s ≡ seenWith limit k self r ⌝ }
+    // With the codec of entry k, of a kind that is read.
+    fn coded(self, k: u64, codec: u8) -> Seen
+        ensures { λ s. ⌜ s ≡ coded k self codec ⌝ }
     {
-        let codecs = self.codecs;
-        let ranges = self.ranges;
-        let floor = self.floor;
-        let keys = self.keys;
-        let offsets = self.offsets;
-        let partners = self.partners;
-        let logs = self.logs;
-        let dead = self.dead;
-        let fences = self.fences;
         Seen {
-            names: both(self.names, name_good(r)),
-            codecs: first(codecs, codec_good(r), Refusal::Codec { entry: k }),
-            ranges: first(
-                ranges,
-                range_good(limit, floor, r),
-                Refusal::Range { entry: k },
-            ),
-            floor: floor_after(limit, floor, r),
-            keys: keys.noted(Row::KEYS, r),
-            offsets: offsets.noted(Row::OFFSETS, r),
-            partners: partners.noted(Row::PARTNERS, r),
-            logs: logs.noted(Row::LOGS, r),
-            dead: dead.noted(Row::TOMBSTONES, r),
-            fences: fences.noted(Row::FENCES, r),
-            streams: either(self.streams, r.kind == Row::PROPERTIES),
+            codec: first_bad(self.codec, codec == Row::RAW, k),
+            range: self.range,
+            floor: self.floor,
+            streams: self.streams,
+        }
+    }
+
+    // With the kind and the range of entry k, which is r.
+    fn ranged(self, limit: u64, k: u64, r: Row) -> Seen
+        ensures { λ s. ⌜ s ≡ ranged limit k self r ⌝ }
+    {
+        let streams = either(self.streams, r.kind == Properties::KIND);
+        if range_good(limit, self.floor, r) {
+            return Seen {
+                codec: self.codec,
+                range: first_bad(self.range, true, k),
+                floor: r.start + r.len,
+                streams,
+            };
+        }
+        Seen {
+            codec: self.codec,
+            range: first_bad(self.range, false, k),
+            floor: self.floor,
+            streams,
         }
     }
 }
 
-// The pass over a footer body b, whose sections have to end at the limit.
-pub fn scan_of(b: &[u8], limit: u64) -> Scan
-    requires { ⌜ (19 ≤ length (now b)) × (length (now b) ≤ 1073741824) ⌝ }
-    ensures { λ r. ⌜ r ≡ scanOf limit (now (b .entry)) ⌝ }
+fn refused(refusal: Refusal) -> Framing
+    ensures { λ r. ⌜ r ≡ Framing.Refused refusal ⌝ }
+{
+    Framing::Refused { refusal }
+}
+
+// Every kind that a file must have was met.
+fn needed_met(met: [bool; Kinds::READ]) -> bool
+    ensures { λ r. ⌜ r ≡ needed kind.kinds met ⌝ }
+{
+    if !met[Keys::SLOT] {
+        return false;
+    }
+    if !met[Offsets::SLOT] {
+        return false;
+    }
+    if !met[Partners::SLOT] {
+        return false;
+    }
+    met[Logs::SLOT]
+}
+
+// What the frame gives: the body b's counts, and each kind by its slot.
+fn framed_of(b: &[u8], met: [bool; Kinds::READ], places: [Range; Kinds::READ], streams: bool) -> Framed
+    requires { ⌜ 19 ≤ length (now b) ⌝ }
+    ensures { λ x. ⌜ x ≡ framedSeen (now (b .entry)) met places streams ⌝ }
+{
+    let keys = places[Keys::SLOT];
+    let offsets = places[Offsets::SLOT];
+    let partners = places[Partners::SLOT];
+    let logs = places[Logs::SLOT];
+    let dead = places[Tombstones::SLOT];
+    let fences = places[Fences::SLOT];
+    let keycount = le64(b, b.len() - Footer::COUNTS);
+    let edgecount = le64(b, b.len() - 9);
+    let opened = Opened {
+        keys,
+        offsets,
+        partners,
+        logs,
+        marked: met[Tombstones::SLOT],
+        dead,
+        keycount,
+        edgecount,
+        bits: b[b.len() - 1],
+    };
+    Framed {
+        opened,
+        fenced: met[Fences::SLOT],
+        fences,
+        streams,
+    }
+}
+
+// Rules 9 to 11 of a table that was passed to its end.
+fn judged(b: &[u8], met: [bool; Kinds::READ], places: [Range; Kinds::READ], s: Seen) -> Framing
+    requires { ⌜ 19 ≤ length (now b) ⌝ }
+    ensures { λ r. ⌜ r ≡ framing (passed met s) (framedSeen (now (b .entry)) met places (s .streams)) ⌝ }
+{
+    if !needed_met(met) {
+        return refused(Refusal::Table);
+    }
+    if s.codec < Bounds::SECTIONS {
+        return refused(Refusal::Codec { entry: s.codec });
+    }
+    if s.range < Bounds::SECTIONS {
+        return refused(Refusal::Range { entry: s.range });
+    }
+    Framing::Good {
+        framed: framed_of(b, met, places, s.streams),
+    }
+}
+
+// Rules 9 to 11 of a footer body b, whose sections have to end at the limit. All of rule 9 is one refusal, so what breaks
+// it ends the pass.
+pub fn rows_framing(b: &[u8], limit: u64) -> Framing
+    requires { ⌜ (19 ≤ length (now b)) × (length (now b) ≤ kind.mostBytes) ⌝ }
+    ensures { λ r. ⌜ r ≡ framing (rowsCheck limit (now (b .entry))) (framedFrom (now (b .entry)) (rowsOf (now (b .entry)))) ⌝ }
 {
     let count = le16(b, 0);
     if count < 1 {
-        return Scan::Broken;
+        return refused(Refusal::Table);
     }
-    if 64 < count {
-        return Scan::Broken;
+    if Bounds::SECTIONS < count {
+        return refused(Refusal::Table);
     }
-    let mut seen = Seen::unseen();
+    let mut met = [false; Kinds::READ];
+    let mut places = [Range { start: 0, len: 0 }; Kinds::READ];
+    let mut seen = Seen::nothing();
     let mut i: usize = 2;
     let mut k: u64 = 0;
     while k < count {
         if b.len() < i + Row::ENTRY {
-            return Scan::Broken;
+            return refused(Refusal::Table);
         }
         let r = row_at(b, i);
-        let next = seen.noted(limit, k, r);
-        seen = next;
+        if Bounds::NAME < r.namelen {
+            return refused(Refusal::Table);
+        }
+        let slot = Kinds::slot(r.kind);
+        if slot < Kinds::READ {
+            if !fresh(r.namelen, met[slot]) {
+                return refused(Refusal::Table);
+            }
+            met[slot] = true;
+            places[slot] = Range {
+                start: r.start,
+                len: r.len,
+            };
+            seen = seen.coded(k, r.codec);
+        }
+        seen = seen.ranged(limit, k, r);
         i = i + Row::ENTRY + r.namelen as usize;
         k = k + 1;
     }
-    if i + 17 != b.len() {
-        return Scan::Broken;
+    if i + Footer::COUNTS != b.len() {
+        return refused(Refusal::Table);
     }
-    Scan::Whole { seen }
+    judged(b, met, places, seen)
 }

@@ -8,7 +8,7 @@ use mathlib.Core.List.{List, [], _∷_}
 use mathlib.Core.Bool.{Bool, true, false, not, _&&_, _||_}
 use lib.ListN.{length, getD}
 use lib.Dec.{leb, eqb}
-use borrow.Author.Tests.{eqb-true, eqb-false, leb-true, eq-eqb, ne-eqb, le-leb}
+use borrow.Author.Tests.{eqb-true, eqb-false, leb-true, eq-eqb, ne-eqb, le-leb, lt-ltb, ltb-true}
 use Rattle.base.specs.Pick.{pick}
 use Rattle.codes.specs.Little.{leAt, leBytes}
 use Rattle.codes.specs.Little.Laws.{leAt-same}
@@ -18,7 +18,8 @@ use Rattle.refusal.specs.Check.Laws.{pick-fine, fine-pick, and-parts, and-both}
 use Rattle.frame.specs.declared.Row.{Row}
 use Rattle.frame.specs.declared.Range.{Range}
 use Rattle.frame.specs.Kind as kind
-use Rattle.frame.specs.Frame.{rowAt, nextAt, rowsFrom, endFrom, countOf, rowsOf, endOf, has, twice, once, sectionOf, rangeOf, nowhere, rangeGood, ranges, all, nameGood, kindsGood, fills, tableGood, codecGood, codecs, sizesGood, presenceGood, countsGood, flagsOf, headCheck}
+use Rattle.frame.specs.Kind.Laws.{numberAt, slot-found}
+use Rattle.frame.specs.Frame.{rowAt, nextAt, rowsFrom, endFrom, countOf, rowsOf, endOf, keyCount, edgeCount, bitsOf, has, twice, sectionOf, rangeOf, nowhere, rangeGood, ranges, all, nameGood, onceGood, kindsGood, fills, tableGood, codecGood, codecs, widthGood, sizesGood, presenceGood, countsGood, flagsOf, headCheck, recordFrom, framedFrom}
 
 -- the magic's number is that of its bytes
 pub magic-is : leBytes 8 kind.magic ≡ kind.magicBytes
@@ -60,6 +61,28 @@ unfolding tableGood
 table-made b t =
     and-both (le-leb 1 (countOf b) (t .some)) (and-both (le-leb (countOf b) 64 (t .most))
     (and-both (eq-eqb (endOf b + 17) (length b) (t .filled)) (and-both (t .names) (t .kinds))))
+
+-- tables that have the same kinds that are read, as often, are good alike
+all-once : (rs ts : List Row) (qs : List kind.Kind) → ((k : ℕ) → kind.slotIn k qs < length qs → (has k ts ≡ has k rs) × (twice k ts ≡ twice k rs)) → all (onceGood ts) qs ≡ all (onceGood rs) qs
+unfolding all
+all-once rs ts [] h = refl
+all-once rs ts (q ∷ qs) h =
+    let first : kind.slotIn (q .number) (q ∷ qs) ≡ 0 = rw (eq-eqb (q .number) (q .number) refl) in
+    let same = h (q .number) (omega arith) in
+    λ j. (not (same .1 j) && (not (q .needed) || same .0 j)) && all-once rs ts qs (λ k l. h k (later (eqb k (q .number)) (kind.slotIn k qs) l)) j
+  where
+    later : (b : Bool) (n : ℕ) → n < length qs → pick b 0 (suc n) < suc (length qs)
+    later true n l = omega arith
+    later false n l = omega arith
+
+pub kinds-alike : (rs ts : List Row) → ((k : ℕ) → kind.fixed k ≡ true → (has k ts ≡ has k rs) × (twice k ts ≡ twice k rs)) → kindsGood ts ≡ kindsGood rs
+unfolding kindsGood
+kinds-alike rs ts h = all-once rs ts kind.kinds (λ k l. h k (lt-ltb (kind.slotOf k) (length kind.kinds) l))
+
+-- a good table has its keys
+pub kinds-keys : (rs : List Row) → kindsGood rs ≡ true → has kind.keys rs ≡ true
+unfolding kindsGood all
+kinds-keys rs e = and-parts (not (twice kind.keys rs)) (has kind.keys rs) (and-parts (onceGood rs (kind.exactlyOnce kind.keys)) _ e .0) .1
 
 -- ---- walking the table: k entries are passed, the next is at i
 
@@ -121,20 +144,48 @@ ranges-made limit floor (r ∷ rs) k a =
 
 -- ---- "Every other kind is skipped"
 
--- which kinds those are: neither 1 to 6 nor 0x0100
+-- the kinds that are read are 1 to 6
+slot-kinds : (i : ℕ) → i < 6 → (1 ≤ numberAt i) × (numberAt i ≤ 6)
+slot-kinds zero h = (omega arith, omega arith)
+slot-kinds (suc zero) h = (omega arith, omega arith)
+slot-kinds (suc (suc zero)) h = (omega arith, omega arith)
+slot-kinds (suc (suc (suc zero))) h = (omega arith, omega arith)
+slot-kinds (suc (suc (suc (suc zero)))) h = (omega arith, omega arith)
+slot-kinds (suc (suc (suc (suc (suc zero))))) h = (omega arith, omega arith)
+slot-kinds (suc (suc (suc (suc (suc (suc i)))))) h = absurd (omega arith)
+
+fixed-low : (k : ℕ) → 1 ≤ k → k ≤ 6 → kind.fixed k ≡ true
+fixed-low zero a b = absurd (omega arith)
+fixed-low (suc zero) a b = refl
+fixed-low (suc (suc zero)) a b = refl
+fixed-low (suc (suc (suc zero))) a b = refl
+fixed-low (suc (suc (suc (suc zero)))) a b = refl
+fixed-low (suc (suc (suc (suc (suc zero))))) a b = refl
+fixed-low (suc (suc (suc (suc (suc (suc zero)))))) a b = refl
+fixed-low (suc (suc (suc (suc (suc (suc (suc k))))))) a b = absurd (omega arith)
+
+pub fixed-kinds : (k : ℕ) → (kind.fixed k ≡ true) ↔ ((1 ≤ k) × (k ≤ 6))
+fixed-kinds k = (
+  λ e.
+      let l = ltb-true (kind.slotOf k) (length kind.kinds) e in
+      let q = slot-found k kind.kinds l in
+      let w = slot-kinds (kind.slotOf k) l in
+      (omega arith, omega arith),
+  λ h. fixed-low k (h .0) (h .1),
+)
+
+-- which kinds are unknown: neither 1 to 6 nor 0x0100
 pub unknown-kinds : (k : ℕ) → (kind.unknown k ≡ true) ↔ ((1 ≤ k → k ≤ 6 → ⊥) × (k ≡ 0x0100 → ⊥))
-unknown-kinds k = (go (kind.fixed k) refl (eqb k 0x0100) refl, back (leb 1 k) refl (leb k 6) refl)
+unknown-kinds k = (go (kind.fixed k) refl (eqb k 0x0100) refl, back (kind.fixed k) refl)
   where
     go : (x : Bool) → kind.fixed k ≡ x → (y : Bool) → eqb k 0x0100 ≡ y → not (x || y) ≡ true → (1 ≤ k → k ≤ 6 → ⊥) × (k ≡ 0x0100 → ⊥)
     go true p y q e = let z : _≡_ {A = ℕ} 0 1 = cc in absurd (omega arith)
     go false p true q e = let z : _≡_ {A = ℕ} 0 1 = cc in absurd (omega arith)
-    go false p false q e =
-        (λ a b. let t : kind.fixed k ≡ true = and-both (le-leb 1 k a) (le-leb k 6 b) in let z : _≡_ {A = ℕ} 0 1 = cc in omega arith, eqb-false k 0x0100 q)
+    go false p false q e = (λ a b. let t : true ≡ false = sym (fixed-low k a b) ∙ p in let z : _≡_ {A = ℕ} 0 1 = cc in omega arith, eqb-false k 0x0100 q)
 
-    back : (x : Bool) → leb 1 k ≡ x → (y : Bool) → leb k 6 ≡ y → (1 ≤ k → k ≤ 6 → ⊥) × (k ≡ 0x0100 → ⊥) → not ((x && y) || eqb k 0x0100) ≡ true
-    back true p true q h = absurd (h .0 (leb-true 1 k p) (leb-true k 6 q))
-    back true p false q h = rw (ne-eqb k 0x0100 (h .1))
-    back false p y q h = rw (ne-eqb k 0x0100 (h .1))
+    back : (x : Bool) → kind.fixed k ≡ x → (1 ≤ k → k ≤ 6 → ⊥) × (k ≡ 0x0100 → ⊥) → not (x || eqb k 0x0100) ≡ true
+    back true p h = let w = fixed-kinds k .0 p in absurd (h .0 (w .0) (w .1))
+    back false p h = rw (ne-eqb k 0x0100 (h .1))
 
 -- what the rules ask a table of known kinds is the same of both: whether one is there, whether twice, and how long it is
 pub record SameKnown (rs ts : List Row) : Type 0 where
@@ -142,28 +193,25 @@ pub record SameKnown (rs ts : List Row) : Type 0 where
   pub doubled : (k : ℕ) → kind.unknown k ≡ false → twice k ts ≡ twice k rs
   pub len : (k : ℕ) → kind.unknown k ≡ false → sectionOf k ts .len ≡ sectionOf k rs .len
 
-module _ (rs ts : List Row) (s : SameKnown rs ts) where
-  once-known : (k : ℕ) → kind.unknown k ≡ false → once k ts ≡ once k rs
-  once-known k h = λ j. s .there k h j && not (s .doubled k h j)
+fixed-known : (k : ℕ) → kind.fixed k ≡ true → kind.unknown k ≡ false
+fixed-known k e = rw e
 
+module _ (rs ts : List Row) (s : SameKnown rs ts) where
   -- rule 9 asks for no unknown kind
   pub kinds-known : kindsGood ts ≡ kindsGood rs
-  unfolding kindsGood
-  kinds-known = λ j.
-      once-known kind.keys refl j && (once-known kind.offsets refl j && (once-known kind.partners refl j && (once-known kind.logs refl j
-      && (not (s .doubled kind.tombstones refl j) && not (s .doubled kind.fences refl j)))))
+  kinds-known = kinds-alike rs ts (λ k e. (s .there k (fixed-known k e), s .doubled k (fixed-known k e)))
 
   -- nor does rule 12
-  pub counts-known : (flags n e bits : ℕ) → countsGood flags n e bits ts ≡ countsGood flags n e bits rs
-  unfolding countsGood
-  counts-known flags n e bits = λ j.
-      sizesGood n e bits (s .len kind.keys refl j) (s .len kind.offsets refl j) (s .len kind.logs refl j) (s .there kind.tombstones refl j) (s .len kind.tombstones refl j)
-      && presenceGood flags n e (s .there kind.tombstones refl j) (s .there kind.fences refl j) (s .there kind.properties refl j)
+  pub counts-known : (flags : ℕ) (b c : List ℕ) → keyCount c ≡ keyCount b → edgeCount c ≡ edgeCount b → bitsOf c ≡ bitsOf b
+      → countsGood flags (framedFrom c ts) ≡ countsGood flags (framedFrom b rs)
+  unfolding countsGood sizesGood presenceGood framedFrom recordFrom
+  counts-known flags b c n e w =
+      rw (n, e, w, s .len kind.keys refl, s .len kind.offsets refl, s .len kind.logs refl, s .len kind.tombstones refl, s .there kind.tombstones refl, s .there kind.fences refl, s .there kind.properties refl)
 
 -- a table with the kinds of rule 9 has an entry
 pub kinds-some : (rs : List Row) → kindsGood rs ≡ true → 1 ≤ length rs
-unfolding kindsGood has
-kinds-some [] e = let z : _≡_ {A = ℕ} 0 1 = cc in absurd (omega arith)
+unfolding has
+kinds-some [] e = let h = kinds-keys [] e in let z : _≡_ {A = ℕ} 0 1 = cc in absurd (omega arith)
 kinds-some (r ∷ rs) e = omega arith
 
 -- names have at most 63 bytes

@@ -7,13 +7,13 @@ use mathlib.Core.List.{List}
 use mathlib.Core.Bool.{Bool, true, false, not, _&&_, _||_}
 use lib.ListN.{length}
 use lib.Dec.{ltb, leb, eqb}
-use borrow.Author.Tests.{ltb-false, leb-true, eqb-true, le-ltb, eq-eqb}
+use borrow.Author.Tests.{ltb-false, leb-true, eqb-true, le-leb, le-ltb, eq-eqb}
 use Rattle.codes.specs.Little.{leAt}
 use Rattle.xxh3_spec.specs.Xxh3.{xxh3}
 use Rattle.refusal.specs.declared.Refusal.{Refusal}
 use Rattle.refusal.specs.declared.Check.{Check}
 use Rattle.refusal.specs.Check.{_⊳_, refuse}
-use Rattle.refusal.specs.Check.Laws.{fine-parts, fine-both, good-parts, good-fine, either-parts, and-parts}
+use Rattle.refusal.specs.Check.Laws.{fine-parts, fine-both, then-assoc, good-parts, good-fine, either-parts, and-parts, and-both}
 use Rattle.frame.specs.declared.Row.{Row}
 use Rattle.frame.specs.declared.Range.{Range}
 use Rattle.frame.specs.declared.Opened.{Opened}
@@ -21,51 +21,68 @@ use Rattle.frame.specs.declared.Framed.{Framed}
 use Rattle.frame.specs.declared.Framing.{Framing}
 use Rattle.frame.specs.declared.Opening.{Opening}
 use Rattle.frame.specs.Kind as kind
-use Rattle.frame.specs.Frame.{rowsOf, codecs, ranges, keyCount, edgeCount, bitsOf, has, sectionOf, widthGood, sizesGood, presenceGood, countsGood, flagsOf, footLen, bodyOf, tableGood, sizeCheck, headCheck, tailCheck, sumCheck, tableCheck, frameCheck}
+use Rattle.frame.specs.Frame.{rowsOf, sectionOf, widthGood, sizesGood, countsGood, flagsOf, footLen, bodyOf, recordOf, framedFrom, framedOf, sizeCheck, headCheck, tailCheck, sumCheck, tableCheck, codecCheck, rangeCheck, countsCheck, endsCheck, rowsCheck, footerCheck, shapeCheck, frameCheck}
 use Rattle.frame.specs.Frame.Laws.{Table, table-parts, table-made, section-within}
-use Rattle.frame.specs.Open.{knownOf, recordFrom, recordOf, framedFrom, framedOf, bytesAt, keysFrom, offsetsFrom, fencesGood, contentCheck, fileCheck, framing, opening, openOf}
+use Rattle.frame.specs.Open.{knownOf, bytesAt, inside, recordWithin, keysFrom, offsetsFrom, fencesGood, contentCheck, fileCheck, framing, opening, openOf}
 
--- ---- rules 1 to 12
+-- ---- rules 1 to 12, of a size, first bytes h and last bytes t
 
-pub record Frames (f : List ℕ) : Type 0 where
-  pub size : sizeCheck (length f) ≡ Check.Fine
-  pub head : headCheck f ≡ Check.Fine
-  pub tail : tailCheck (length f) f ≡ Check.Fine
-  pub sum : sumCheck f ≡ Check.Fine
-  pub table : Table (bodyOf f)
-  pub raw : codecs (rowsOf (bodyOf f)) 0 ≡ Check.Fine
-  pub apart : ranges (length f - footLen f) (rowsOf (bodyOf f)) 64 0 ≡ Check.Fine
-  pub counts : countsGood (flagsOf f) (keyCount (bodyOf f)) (edgeCount (bodyOf f)) (bitsOf (bodyOf f)) (rowsOf (bodyOf f)) ≡ true
+pub record FramesBy (n : ℕ) (h t : List ℕ) : Type 0 where
+  pub size : sizeCheck n ≡ Check.Fine
+  pub head : headCheck h ≡ Check.Fine
+  pub tail : tailCheck n t ≡ Check.Fine
+  pub sum : sumCheck t ≡ Check.Fine
+  pub table : Table (bodyOf t)
+  pub raw : codecCheck (rowsOf (bodyOf t)) ≡ Check.Fine
+  pub apart : rangeCheck (n - footLen t) (rowsOf (bodyOf t)) ≡ Check.Fine
+  pub counts : countsGood (flagsOf h) (framedOf t) ≡ true
 
-pub frames-parts : (f : List ℕ) → frameCheck (length f) f f ≡ Check.Fine → Frames f
-unfolding frameCheck tableCheck
-frames-parts f e =
-    let b = fine-parts (sizeCheck (length f)) _ e in
-    let d = fine-parts (headCheck f) _ (b .1) in
-    let h = fine-parts (tailCheck (length f) f) _ (d .1) in
-    let i = fine-parts (sumCheck f) _ (h .1) in
-    let j = fine-parts (refuse Refusal.Table (not (tableGood (bodyOf f)))) _ (i .1) in
-    let k = fine-parts (codecs (rowsOf (bodyOf f)) 0) _ (j .1) in
-    let l = fine-parts (ranges (length f - footLen f) (rowsOf (bodyOf f)) 64 0) _ (k .1) in
-    record {
-      size = b .0;
-      head = d .0;
-      tail = h .0;
-      sum = i .0;
-      table = table-parts (bodyOf f) (good-parts Refusal.Table _ (j .0));
-      raw = k .0;
-      apart = l .0;
-      counts = good-parts Refusal.Counts _ (l .1);
-    }
+-- of a file
+abbrev pub Frames : List ℕ → Type 0
+Frames f = FramesBy (length f) f f
 
-pub frames-made : (f : List ℕ) → Frames f → frameCheck (length f) f f ≡ Check.Fine
-unfolding frameCheck tableCheck
-frames-made f s =
-    fine-both (s .size) (fine-both (s .head) (fine-both (s .tail) (fine-both (s .sum)
-    (fine-both (good-fine Refusal.Table (table-made (bodyOf f) (s .table))) (fine-both (s .raw) (fine-both (s .apart) (good-fine Refusal.Counts (s .counts))))))))
+module _ (size : ℕ) (h t : List ℕ) where
+  pub frames-parts : frameCheck size h t ≡ Check.Fine → FramesBy size h t
+  unfolding frameCheck shapeCheck endsCheck footerCheck rowsCheck
+  frames-parts e =
+      let a = fine-parts (shapeCheck size h t) _ e in
+      let b = fine-parts (sizeCheck size) _ (a .0) in
+      let c = fine-parts (endsCheck size h t) _ (b .1) in
+      let d = fine-parts (headCheck h) (tailCheck size t) (c .0) in
+      let i = fine-parts (sumCheck t) _ (c .1) in
+      let j = fine-parts (tableCheck (bodyOf t)) _ (i .1) in
+      let k = fine-parts (codecCheck (rowsOf (bodyOf t))) _ (j .1) in
+      record {
+        size = b .0;
+        head = d .0;
+        tail = d .1;
+        sum = i .0;
+        table = table-parts (bodyOf t) (good-parts Refusal.Table _ (j .0));
+        raw = k .0;
+        apart = k .1;
+        counts = good-parts Refusal.Counts _ (a .1);
+      }
+
+  -- the rules as a chain
+  pub frame-chain : frameCheck size h t ≡ sizeCheck size ⊳ endsCheck size h t ⊳ footerCheck size t ⊳ countsCheck (flagsOf h) (framedOf t)
+  unfolding frameCheck shapeCheck
+  frame-chain =
+      then-assoc (sizeCheck size) (endsCheck size h t ⊳ footerCheck size t) (countsCheck (flagsOf h) (framedOf t))
+      ∙ ap (λ (c : Check). sizeCheck size ⊳ c) (then-assoc (endsCheck size h t) (footerCheck size t) (countsCheck (flagsOf h) (framedOf t)))
+
+  -- what 2 to 7 say of the footer's length
+  pub ends-parts : endsCheck size h t ≡ Check.Fine → tailCheck size t ≡ Check.Fine
+  unfolding endsCheck
+  ends-parts e = fine-parts (headCheck h) (tailCheck size t) e .1
+
+  pub frames-made : FramesBy size h t → frameCheck size h t ≡ Check.Fine
+  unfolding frameCheck shapeCheck endsCheck footerCheck rowsCheck
+  frames-made s =
+      let rows : rowsCheck (size - footLen t) (bodyOf t) ≡ Check.Fine = fine-both (good-fine Refusal.Table (table-made (bodyOf t) (s .table))) (fine-both (s .raw) (s .apart)) in
+      fine-both (fine-both (s .size) (fine-both (fine-both (s .head) (s .tail)) (fine-both (s .sum) rows))) (good-fine Refusal.Counts (s .counts))
 
 -- the size and the footer's length, as numbers
-pub size-parts : (n : ℕ) → sizeCheck n ≡ Check.Fine → (84 ≤ n) × (n ≤ 2 ^ 30)
+pub size-parts : (n : ℕ) → sizeCheck n ≡ Check.Fine → (84 ≤ n) × (n ≤ kind.mostBytes)
 unfolding sizeCheck
 size-parts n e = let a = either-parts Refusal.Size (ltb n 84) (ltb (2 ^ 30) n) e in (ltb-false n 84 (a .0), ltb-false (2 ^ 30) n (a .1))
 
@@ -100,33 +117,48 @@ unfolding sumCheck
 sum-made t e = rw (eq-eqb (xxh3 (bodyOf t)) (leAt t (length t - 20) 8) e)
 
 -- the bounds and lengths of rule 12
-pub record Sized (n e bits k o l : ℕ) (marked : Bool) (d : ℕ) : Type 0 where
-  pub few : n ≤ 2 ^ 24
-  pub edges : e ≤ 2 ^ 26
-  pub width : widthGood bits ≡ true
-  pub keys : k ≡ 16 * n
-  pub offsets : o ≡ (n + 1) * (bits / 8)
-  pub logs : l ≡ 8 * e
-  pub dead : (not marked || eqb d ((e + 7) / 8)) ≡ true
+pub record Sized (o : Opened) : Type 0 where
+  pub few : o .keycount ≤ kind.mostKeys
+  pub edges : o .edgecount ≤ kind.mostEdges
+  pub keys : o .keys .len ≡ kind.keysLen (o .keycount)
+  pub offsets : o .offsets .len ≡ kind.offsetsLen (o .keycount) (o .bits / 8)
+  pub logs : o .logs .len ≡ kind.logsLen (o .edgecount)
+  pub dead : o .marked ≡ true → o .dead .len ≡ kind.tombstonesLen (o .edgecount)
 
-pub sized-parts : (n e bits k o l : ℕ) (marked : Bool) (d : ℕ) → sizesGood n e bits k o l marked d ≡ true → Sized n e bits k o l marked d
-unfolding sizesGood
-sized-parts n e bits k o l marked d q =
-    let a = and-parts (leb n (2 ^ 24)) _ q in
-    let b = and-parts (leb e (2 ^ 26)) _ (a .1) in
-    let c = and-parts (widthGood bits) _ (b .1) in
-    let g = and-parts (eqb k (16 * n)) _ (c .1) in
-    let h = and-parts (eqb o ((n + 1) * (bits / 8))) _ (g .1) in
-    let i = and-parts (eqb l (8 * e)) _ (h .1) in
-    record {
-      few = leb-true _ _ (a .0);
-      edges = leb-true _ _ (b .0);
-      width = c .0;
-      keys = eqb-true _ _ (g .0);
-      offsets = eqb-true _ _ (h .0);
-      logs = eqb-true _ _ (i .0);
-      dead = i .1;
-    }
+-- what is asked where there are tombstones
+marked-parts : (m b : Bool) → (not m || b) ≡ true → m ≡ true → b ≡ true
+marked-parts true b e h = e
+marked-parts false b e h = let z : _≡_ {A = ℕ} 0 1 = cc in absurd (omega arith)
+
+marked-made : (m b : Bool) → (m ≡ true → b ≡ true) → (not m || b) ≡ true
+marked-made true b e = e refl
+marked-made false b e = refl
+
+module _ (o : Opened) where
+  pub sized-parts : sizesGood o ≡ true → Sized o
+  unfolding sizesGood
+  sized-parts q =
+      let a = and-parts (leb (o .keycount) kind.mostKeys) _ q in
+      let b = and-parts (leb (o .edgecount) kind.mostEdges) _ (a .1) in
+      let c = and-parts (eqb (o .keys .len) (kind.keysLen (o .keycount))) _ (b .1) in
+      let d = and-parts (eqb (o .offsets .len) (kind.offsetsLen (o .keycount) (o .bits / 8))) _ (c .1) in
+      let e = and-parts (eqb (o .logs .len) (kind.logsLen (o .edgecount))) _ (d .1) in
+      record {
+        few = leb-true _ _ (a .0);
+        edges = leb-true _ _ (b .0);
+        keys = eqb-true _ _ (c .0);
+        offsets = eqb-true _ _ (d .0);
+        logs = eqb-true _ _ (e .0);
+        dead = λ m. eqb-true _ _ (marked-parts (o .marked) _ (e .1) m);
+      }
+
+  pub sized-made : Sized o → sizesGood o ≡ true
+  unfolding sizesGood
+  sized-made s =
+      and-both (le-leb (o .keycount) kind.mostKeys (s .few)) (and-both (le-leb (o .edgecount) kind.mostEdges (s .edges))
+      (and-both (eq-eqb (o .keys .len) (kind.keysLen (o .keycount)) (s .keys)) (and-both (eq-eqb (o .offsets .len) (kind.offsetsLen (o .keycount) (o .bits / 8)) (s .offsets))
+      (and-both (eq-eqb (o .logs .len) (kind.logsLen (o .edgecount)) (s .logs))
+      (marked-made (o .marked) _ (λ m. eq-eqb (o .dead .len) (kind.tombstonesLen (o .edgecount)) (s .dead m)))))))
 
 -- a width of 24, 32, 40 or 48 bits is 3 to 6 bytes
 pub width-bytes : (bits : ℕ) → widthGood bits ≡ true → (3 ≤ bits / 8) × (bits / 8 ≤ 6)
@@ -139,17 +171,65 @@ width-bytes bits e = go (eqb bits 24) refl (eqb bits 32) refl (eqb bits 40) refl
     go false p false q true r t = let z = eqb-true bits 40 r in omega arith
     go false p false q false r t = let z = eqb-true bits 48 t in omega arith
 
-module _ (f : List ℕ) (s : Frames f) where
-  abbrev pub o : Opened
-  o = recordOf f
+module _ {size : ℕ} {h t : List ℕ} (s : FramesBy size h t) where
+  counted : (sizesGood (recordOf t) ≡ true) × (widthGood (recordOf t .bits) ≡ true)
+  unfolding recordOf framedOf framedFrom countsGood
+  counted =
+      let a = and-parts (widthGood (framedOf t .opened .bits)) _ (s .counts) in
+      (and-parts (sizesGood (framedOf t .opened)) _ (a .1) .0, a .0)
 
-  pub frames-sized : Sized (o .keycount) (o .edgecount) (o .bits) (o .keys .len) (o .offsets .len) (o .logs .len) (o .marked) (o .dead .len)
-  unfolding recordOf recordFrom countsGood
-  frames-sized = sized-parts _ _ _ _ _ _ _ _ (and-parts (sizesGood _ _ _ _ _ _ _ _) _ (s .counts) .0)
+  pub frames-sized : Sized (recordOf t)
+  frames-sized = sized-parts (recordOf t) (counted .0)
+
+  pub frames-width : widthGood (recordOf t .bits) ≡ true
+  frames-width = counted .1
 
   -- each section lies between the file's first byte and the footer
-  pub frames-within : (q : ℕ) → sectionOf q (rowsOf (bodyOf f)) .start + sectionOf q (rowsOf (bodyOf f)) .len ≤ length f - footLen f
-  frames-within q = section-within (length f - footLen f) q (rowsOf (bodyOf f)) 64 0 (s .apart)
+  pub frames-within : (q : ℕ) → sectionOf q (rowsOf (bodyOf t)) .start + sectionOf q (rowsOf (bodyOf t)) .len ≤ size - footLen t
+  frames-within q = section-within (size - footLen t) q (rowsOf (bodyOf t)) kind.headerSize 0 (s .apart)
+
+-- ---- rule 21, taken apart and put together
+
+pub record Recorded (size : ℕ) (o : Opened) : Type 0 where
+  pub bytes : size ≤ kind.mostBytes
+  pub keys : o .keys .start + o .keys .len ≤ size
+  pub offsets : o .offsets .start + o .offsets .len ≤ size
+  pub partners : o .partners .start + o .partners .len ≤ size
+  pub logs : o .logs .start + o .logs .len ≤ size
+  pub dead : o .marked ≡ true → o .dead .start + o .dead .len ≤ size
+  pub width : widthGood (o .bits) ≡ true
+  pub sized : Sized o
+
+module _ (size : ℕ) (o : Opened) where
+  pub recorded-parts : recordWithin size o ≡ true → Recorded size o
+  unfolding recordWithin
+  recorded-parts q =
+      let a = and-parts (leb size kind.mostBytes) _ q in
+      let b = and-parts (inside size (o .keys)) _ (a .1) in
+      let c = and-parts (inside size (o .offsets)) _ (b .1) in
+      let d = and-parts (inside size (o .partners)) _ (c .1) in
+      let e = and-parts (inside size (o .logs)) _ (d .1) in
+      let g = and-parts (not (o .marked) || inside size (o .dead)) _ (e .1) in
+      let i = and-parts (widthGood (o .bits)) (sizesGood o) (g .1) in
+      record {
+        bytes = leb-true _ _ (a .0);
+        keys = leb-true _ _ (b .0);
+        offsets = leb-true _ _ (c .0);
+        partners = leb-true _ _ (d .0);
+        logs = leb-true _ _ (e .0);
+        dead = λ m. leb-true _ _ (marked-parts (o .marked) _ (g .0) m);
+        width = i .0;
+        sized = sized-parts o (i .1);
+      }
+
+  within : (r : Range) → r .start + r .len ≤ size → inside size r ≡ true
+  within r h = le-leb (r .start + r .len) size h
+
+  pub recorded-made : Recorded size o → recordWithin size o ≡ true
+  unfolding recordWithin
+  recorded-made s =
+      and-both (le-leb size kind.mostBytes (s .bytes)) (and-both (within (o .keys) (s .keys)) (and-both (within (o .offsets) (s .offsets)) (and-both (within (o .partners) (s .partners))
+      (and-both (within (o .logs) (s .logs)) (and-both (marked-made (o .marked) _ (λ m. within (o .dead) (s .dead m))) (and-both (s .width) (sized-made o (s .sized))))))))
 
 -- ---- rules 13 to 15
 
@@ -176,7 +256,7 @@ opens-parts f o e =
     let a = fine-parts (frameCheck (length f) f f) _ (opening-good (fileCheck f) o (recordOf f) e .0) in
     let b = fine-parts (keysFrom (recordOf f .keycount - 1) (bytesAt f (recordOf f .keys)) 1) _ (a .1) in
     let c = fine-parts (offsetsFrom (recordOf f .keycount + 1) (bytesAt f (recordOf f .offsets)) (recordOf f .bits / 8) (recordOf f .keycount) (length (bytesAt f (recordOf f .partners))) 0) _ (b .1) in
-    record { frames = frames-parts f (a .0); keys = b .0; offsets = c .0; fences = not-refused Refusal.Fences _ (c .1) }
+    record { frames = frames-parts (length f) f f (a .0); keys = b .0; offsets = c .0; fences = not-refused Refusal.Fences _ (c .1) }
 
 -- the record that opening gives is the file's
 pub opens-record : (f : List ℕ) (o : Opened) → openOf f ≡ Opening.Good o → recordOf f ≡ o
@@ -188,7 +268,7 @@ unfolding openOf fileCheck contentCheck knownOf opening
 opens-made f s =
     let fences : refuse Refusal.Fences (framedOf f .fenced && not (fencesGood (bytesAt f (framedOf f .fences)) (bytesAt f (recordOf f .keys)) (recordOf f .keycount))) ≡ Check.Fine =
     ap (refuse Refusal.Fences) (s .fences) in
-    let good : fileCheck f ≡ Check.Fine = fine-both (frames-made f (s .frames)) (fine-both (s .keys) (fine-both (s .offsets) fences)) in
+    let good : fileCheck f ≡ Check.Fine = fine-both (frames-made (length f) f f (s .frames)) (fine-both (s .keys) (fine-both (s .offsets) fences)) in
     ap (λ (t : Check). opening t (recordOf f)) good
 
 -- what opening answers, exactly: the record where no rule is broken, or the first refusal
@@ -221,6 +301,17 @@ module _ (b : Check) (x : Framed) where
 
   pub framing-good : (r : Refusal) {t : Bool} → t ≡ true → framing (refuse r (not t) ⊳ b) x ≡ framing b x
   framing-good r e = rw e
+
+-- and the answer taken apart
+pub good-framing : (c : Check) (y x : Framed) → framing c y ≡ Framing.Good x → (c ≡ Check.Fine) × (y ≡ x)
+unfolding framing
+good-framing Check.Fine y x e = (refl, cc)
+good-framing (Check.Bad r) y x e = let z : _≡_ {A = ℕ} 0 1 = cc in absurd (omega arith)
+
+pub refused-framing : (c : Check) (y : Framed) (r : Refusal) → framing c y ≡ Framing.Refused r → c ≡ Check.Bad r
+unfolding framing
+refused-framing Check.Fine y r e = let z : _≡_ {A = ℕ} 0 1 = cc in absurd (omega arith)
+refused-framing (Check.Bad q) y r e = cc
 
 pub framing-last : (r : Refusal) (x : Framed) {t : Bool} → t ≡ true → framing (refuse r (not t)) x ≡ Framing.Good x
 unfolding framing

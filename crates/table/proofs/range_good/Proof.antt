@@ -1,6 +1,6 @@
 -- `table::range_good` meets its contract.
 use mathlib.Core.Path.{sym}
-use Rattle.table.specs.Seen.Laws.{range-below, range-past, range-ends}
+use Rattle.table.specs.Pass.Laws.{range-below, range-past, range-ends}
 use native.Mathlib.Omega.{arith}
 use Rattle.table.proofs.range_good.Statement.{statement}
 use Rattle.table.proofs.range_good.Tie as tie

@@ -1,5 +1,5 @@
 -- `table::row_at` meets its contract.
-use Rattle.table.specs.Seen.Laws.{row-is}
+use Rattle.table.specs.Pass.Laws.{row-is}
 use borrow.Author.Needs.{needs}
 use Rattle.table.proofs.row_at.Statement.{statement}
 use Rattle.table.proofs.row_at.Tie as tie

@@ -1,12 +1,11 @@
 -- `lookup::whole::dead_of` meets its contract.
 use mathlib.Core.Path.{_≡_, refl, sym, ap, _∙_}
-use Rattle.lookup.specs.Record.{dead-inside}
 use borrow.Author.Needs.{needs}
 use Rattle.lookup.proofs.whole.dead_of.Statement.{statement}
 use Rattle.lookup.proofs.whole.dead_of.Tie as tie
 
 bytes-of-requires : tie.Need-bytes-of-requires
-bytes-of-requires c κs = let a = c .before .before .before .args in dead-inside (a .file .now) (a .o) (c .before .before .before .pre) (c .before .if1 .taken)
+bytes-of-requires c κs = c .before .before .before .pre .dead (c .before .if1 .taken)
 
 returns : tie.Need-returns
 returns c = rw (c .before .before .if1 .taken) (c .bytes-of .ensures)

@@ -1,15 +1,16 @@
 -- `opening::ends::head_check` meets its contract.
-use mathlib.Core.Path.{_≡_, sym, ap, _∙_}
+use mathlib.Core.Path.{_≡_, refl, sym, ap, _∙_}
+use borrow.Author.Tests.{lt-ltb, le-ltb, eq-eqb, ne-eqb}
 use lib.ListN.{getD}
-use borrow.Author.Tests.{eq-eqb, ne-eqb, lt-ltb, le-ltb}
 use Rattle.codes.specs.Little.{leAt}
-use Rattle.frame.specs.Frame.{headCheck}
-use Rattle.refusal.specs.declared.Check.{Check}
 use Rattle.refusal.specs.declared.Refusal.{Refusal}
-use native.Mathlib.Omega.{arith}
-use borrow.Author.Needs.{needs}
+use Rattle.refusal.specs.declared.Check.{Check}
+use Rattle.frame.specs.Kind as kind
+use Rattle.frame.specs.Frame.{flagsOf, headCheck}
 use Rattle.opening.proofs.ends.head_check.Statement.{statement}
 use Rattle.opening.proofs.ends.head_check.Tie as tie
+use borrow.Author.Needs.{needs}
+use native.Mathlib.Omega.{arith}
 
 le64-requires : tie.Need-le64-requires
 le64-requires c κs = search needs
@@ -19,7 +20,7 @@ bad-requires c κs = search needs
 
 returns : tie.Need-returns
 unfolding headCheck
-returns c = let h = c .before .before .before .before .args .h .now in let e : headCheck h ≡ Check.Bad Refusal.Magic = simp (ne-eqb (leAt h 0 8) 0x4547_4445_4754 (λ q. omega arith)) in c .bad .ensures ∙ sym e
+returns c = let h = c .before .before .before .before .args .h .now in let e : headCheck h ≡ Check.Bad Refusal.Magic = simp (ne-eqb (leAt h 0 8) kind.magic (λ q. omega arith)) in c .bad .ensures ∙ sym e
 
 byte-requires : tie.Need-byte-requires
 byte-requires c κs = search needs
@@ -29,7 +30,7 @@ bad-requires-2 c κs = search needs
 
 returns-2 : tie.Need-returns-2
 unfolding headCheck
-returns-2 c = let h = c .before .before .before .before .before .before .args .h .now in let e : headCheck h ≡ Check.Bad Refusal.Major = simp (eq-eqb (leAt h 0 8) 0x4547_4445_4754 (omega arith), ne-eqb (getD h 8 0) 1 (λ q. omega arith)) in c .bad2 .ensures ∙ sym e
+returns-2 c = let h = c .before .before .before .before .before .before .args .h .now in let e : headCheck h ≡ Check.Bad Refusal.Major = simp (eq-eqb (leAt h 0 8) kind.magic (omega arith), ne-eqb (getD h 8 0) 1 (λ q. omega arith)) in c .bad2 .ensures ∙ sym e
 
 le16-requires : tie.Need-le16-requires
 le16-requires c κs = search needs
@@ -39,21 +40,21 @@ bad-requires-3 c κs = search needs
 
 returns-3 : tie.Need-returns-3
 unfolding headCheck
-returns-3 c = let h = c .before .before .before .before .before .before .before .before .args .h .now in let e : headCheck h ≡ Check.Bad Refusal.HeaderSize = simp (eq-eqb (leAt h 0 8) 0x4547_4445_4754 (omega arith), eq-eqb (getD h 8 0) 1 (omega arith), ne-eqb (leAt h 10 2) 64 (λ q. omega arith)) in c .bad3 .ensures ∙ sym e
+returns-3 c = let h = c .before .before .before .before .before .before .before .before .args .h .now in let e : headCheck h ≡ Check.Bad Refusal.HeaderSize = simp (eq-eqb (leAt h 0 8) kind.magic (omega arith), eq-eqb (getD h 8 0) 1 (omega arith), ne-eqb (leAt h 10 2) kind.headerSize (λ q. omega arith)) in c .bad3 .ensures ∙ sym e
 
-le32-requires : tie.Need-le32-requires
-le32-requires c κs = search needs
+flags-of-requires : tie.Need-flags-of-requires
+flags-of-requires c κs = search needs
 
 bad-requires-4 : tie.Need-bad-requires-4
 bad-requires-4 c κs = search needs
 
 returns-4 : tie.Need-returns-4
 unfolding headCheck
-returns-4 c = let h = c .before .before .before .before .before .before .before .before .before .before .args .h .now in let e : headCheck h ≡ Check.Bad Refusal.Flags = simp (eq-eqb (leAt h 0 8) 0x4547_4445_4754 (omega arith), eq-eqb (getD h 8 0) 1 (omega arith), eq-eqb (leAt h 10 2) 64 (omega arith), lt-ltb 15 (leAt h 12 4) (omega arith)) in c .bad4 .ensures ∙ sym e
+returns-4 c = let h = c .before .before .before .before .before .before .before .before .before .before .args .h .now in let e : headCheck h ≡ Check.Bad Refusal.Flags = simp (eq-eqb (leAt h 0 8) kind.magic (omega arith), eq-eqb (getD h 8 0) 1 (omega arith), eq-eqb (leAt h 10 2) kind.headerSize (omega arith), lt-ltb 15 (flagsOf h) (omega arith)) in c .bad4 .ensures ∙ sym e
 
 returns-5 : tie.Need-returns-5
 unfolding headCheck
-returns-5 c = let h = c .before .before .before .before .before .before .before .before .before .args .h .now in simp (eq-eqb (leAt h 0 8) 0x4547_4445_4754 (omega arith), eq-eqb (getD h 8 0) 1 (omega arith), eq-eqb (leAt h 10 2) 64 (omega arith), le-ltb 15 (leAt h 12 4) (omega arith))
+returns-5 c = let h = c .before .before .before .before .before .before .before .before .before .args .h .now in simp (eq-eqb (leAt h 0 8) kind.magic (omega arith), eq-eqb (getD h 8 0) 1 (omega arith), eq-eqb (leAt h 10 2) kind.headerSize (omega arith), le-ltb 15 (flagsOf h) (omega arith))
 
 pub head-check-spec : {M : Type 1} → statement M
 head-check-spec =
@@ -68,7 +69,7 @@ head-check-spec =
     le16-requires
     bad-requires-3
     returns-3
-    le32-requires
+    flags-of-requires
     bad-requires-4
     returns-4
     returns-5)

@@ -1,40 +1,23 @@
 -- `opening::frames::counted` meets its contract.
-use mathlib.Core.Path.{_≡_, sym, ap, ap₂, _∙_}
+use mathlib.Core.Path.{_≡_, refl, sym, ap, _∙_}
 use borrow.Author.Tests.{not-true, not-false}
-use Rattle.opening.specs.Rules.Laws.{counts-sizes, counts-presence, counts-good}
-use borrow.Author.Needs.{needs}
+use Rattle.refusal.specs.declared.Refusal.{Refusal}
+use Rattle.frame.specs.Open.Laws.{framing-last, framing-lost}
 use Rattle.opening.proofs.frames.counted.Statement.{statement}
 use Rattle.opening.proofs.frames.counted.Tie as tie
+use borrow.Author.Needs.{needs}
 
-sizes-good-requires : tie.Need-sizes-good-requires
-sizes-good-requires c κs = search needs
+counts-good-requires : tie.Need-counts-good-requires
+counts-good-requires c κs = search needs
 
 refused-requires : tie.Need-refused-requires
 refused-requires c κs = search needs
 
 returns : tie.Need-returns
-returns c = let a = c .before .before .before .before .args in c .refused .ensures ∙ sym (counts-sizes (a .flags) (a .x) (a .streams) (sym (c .before .before .sizes-good .ensures) ∙ not-true _ (c .before .if1 .taken)))
-
-presence-good-requires : tie.Need-presence-good-requires
-presence-good-requires c κs = search needs
-
-refused-requires-2 : tie.Need-refused-requires-2
-refused-requires-2 c κs = search needs
+returns c = c .refused .ensures ∙ sym (framing-lost Refusal.Counts (c .before .before .before .args .x) (sym (c .before .before .counts-good .ensures) ∙ not-true _ (c .before .if1 .taken)))
 
 returns-2 : tie.Need-returns-2
-returns-2 c = let a = c .before .before .before .before .before .before .args in c .refused2 .ensures ∙ sym (counts-presence (a .flags) (a .x) (a .streams) (sym (c .before .before .before .before .sizes-good .ensures) ∙ not-false _ (c .before .before .before .if1 .left)) (sym (c .before .before .presence-good .ensures) ∙ not-true _ (c .before .if2 .taken)))
-
-returns-3 : tie.Need-returns-3
-returns-3 c = let a = c .before .before .before .before .before .args in sym (counts-good (a .flags) (a .x) (a .streams) (sym (c .before .before .before .sizes-good .ensures) ∙ not-false _ (c .before .before .if1 .left)) (sym (c .before .presence-good .ensures) ∙ not-false _ (c .if2 .left)))
+returns-2 c = sym (framing-last Refusal.Counts (c .before .before .args .x) (sym (c .before .counts-good .ensures) ∙ not-false _ (c .if1 .left)))
 
 pub counted-spec : {M : Type 1} → statement M
-counted-spec =
-    tie.close
-    (tie.spec
-    sizes-good-requires
-    refused-requires
-    returns
-    presence-good-requires
-    refused-requires-2
-    returns-2
-    returns-3)
+counted-spec = tie.close (tie.spec counts-good-requires refused-requires returns returns-2)

@@ -1,102 +1,72 @@
--- `reader::look::record_good` meets its contract.
-use mathlib.Core.Path.{_≡_, sym, _∙_}
-use Prim.Native.Nat.{_+_}
-use mathlib.Core.Bool.{true, false, not, _||_}
-use lib.ListN.{length}
-use lib.Dec.{leb}
-use borrow.Author.Tests.{le-leb, lt-leb, not-true, not-false}
-use Rattle.frame.specs.Open.{recordGood}
-use native.Mathlib.Omega.{arith}
 use borrow.Author.Needs.{needs}
 use Rattle.reader.proofs.look.record_good.Statement.{statement}
 use Rattle.reader.proofs.look.record_good.Tie as tie
+use Rattle.reader.proofs.look.record_good.Reads as reads
+use Rattle.reader.proofs.look.record_good.Lts as lts
+use Rattle.counts.proofs.sizes_good.Reads as sizes-good-reads
+use Rattle.counts.proofs.width_good.Reads as width-good-reads
+use Rattle.reader.proofs.look.dead_inside.Reads as dead-inside-reads
+use Rattle.reader.proofs.look.inside.Reads as inside-reads
 
+-- src/look.rt:52:9
 returns : tie.Need-returns
-unfolding recordGood
-returns c = let f = c .before .before .args .file .now in
-    let o = c .before .before .args .o in
-    let f0 : leb (length f) 1073741824 ≡ false = lt-leb (length f) 1073741824 (omega arith) in
-    rw (f0)
+returns c = ?
 
+-- src/look.rt:55:9
 inside-requires : tie.Need-inside-requires
 inside-requires c κs = search needs
 
+-- src/look.rt:56:9
 returns-2 : tie.Need-returns-2
-unfolding recordGood
-returns-2 c = let f = c .before .before .before .before .before .args .file .now in
-    let o = c .before .before .before .before .before .args .o in
-    let f0 : leb (length f) 1073741824 ≡ true = le-leb (length f) 1073741824 (omega arith) in
-    let f1 : leb (o .keys .start + o .keys .len) (length f) ≡ false = sym (c .before .inside .ensures) ∙ not-true _ (c .if2 .taken) in
-    rw (f0, f1)
+returns-2 c = ?
 
+-- src/look.rt:59:9
 inside-requires-2 : tie.Need-inside-requires-2
 inside-requires-2 c κs = search needs
 
+-- src/look.rt:60:9
 returns-3 : tie.Need-returns-3
-unfolding recordGood
-returns-3 c = let f = c .before .before .before .before .before .before .before .before .args .file .now in
-    let o = c .before .before .before .before .before .before .before .before .args .o in
-    let f0 : leb (length f) 1073741824 ≡ true = le-leb (length f) 1073741824 (omega arith) in
-    let f1 : leb (o .keys .start + o .keys .len) (length f) ≡ true = sym (c .before .before .before .before .inside .ensures) ∙ not-false _ (c .before .before .before .if2 .left) in
-    let f2 : leb (o .offsets .start + o .offsets .len) (length f) ≡ false = sym (c .before .inside2 .ensures) ∙ not-true _ (c .if3 .taken) in
-    rw (f0, f1, f2)
+returns-3 c = ?
 
+-- src/look.rt:63:9
 inside-requires-3 : tie.Need-inside-requires-3
 inside-requires-3 c κs = search needs
 
+-- src/look.rt:64:9
 returns-4 : tie.Need-returns-4
-unfolding recordGood
-returns-4 c = let f = c .before .before .before .before .before .before .before .before .before .before .before .args .file .now in
-    let o = c .before .before .before .before .before .before .before .before .before .before .before .args .o in
-    let f0 : leb (length f) 1073741824 ≡ true = le-leb (length f) 1073741824 (omega arith) in
-    let f1 : leb (o .keys .start + o .keys .len) (length f) ≡ true = sym (c .before .before .before .before .before .before .before .inside .ensures) ∙ not-false _ (c .before .before .before .before .before .before .if2 .left) in
-    let f2 : leb (o .offsets .start + o .offsets .len) (length f) ≡ true = sym (c .before .before .before .before .inside2 .ensures) ∙ not-false _ (c .before .before .before .if3 .left) in
-    let f3 : leb (o .partners .start + o .partners .len) (length f) ≡ false = sym (c .before .inside3 .ensures) ∙ not-true _ (c .if4 .taken) in
-    rw (f0, f1, f2, f3)
+returns-4 c = ?
 
+-- src/look.rt:67:9
 inside-requires-4 : tie.Need-inside-requires-4
 inside-requires-4 c κs = search needs
 
+-- src/look.rt:68:9
 returns-5 : tie.Need-returns-5
-unfolding recordGood
-returns-5 c = let f = c .before .before .before .before .before .before .before .before .before .before .before .before .before .before .args .file .now in
-    let o = c .before .before .before .before .before .before .before .before .before .before .before .before .before .before .args .o in
-    let f0 : leb (length f) 1073741824 ≡ true = le-leb (length f) 1073741824 (omega arith) in
-    let f1 : leb (o .keys .start + o .keys .len) (length f) ≡ true = sym (c .before .before .before .before .before .before .before .before .before .before .inside .ensures) ∙ not-false _ (c .before .before .before .before .before .before .before .before .before .if2 .left) in
-    let f2 : leb (o .offsets .start + o .offsets .len) (length f) ≡ true = sym (c .before .before .before .before .before .before .before .inside2 .ensures) ∙ not-false _ (c .before .before .before .before .before .before .if3 .left) in
-    let f3 : leb (o .partners .start + o .partners .len) (length f) ≡ true = sym (c .before .before .before .before .inside3 .ensures) ∙ not-false _ (c .before .before .before .if4 .left) in
-    let f4 : leb (o .logs .start + o .logs .len) (length f) ≡ false = sym (c .before .inside4 .ensures) ∙ not-true _ (c .if5 .taken) in
-    rw (f0, f1, f2, f3, f4)
+returns-5 c = ?
 
+-- src/look.rt:70:9
 dead-inside-requires : tie.Need-dead-inside-requires
 dead-inside-requires c κs = search needs
 
+-- src/look.rt:71:9
 returns-6 : tie.Need-returns-6
-unfolding recordGood
-returns-6 c = let f = c .before .before .before .before .before .before .before .before .before .before .before .before .before .before .before .before .args .file .now in
-    let o = c .before .before .before .before .before .before .before .before .before .before .before .before .before .before .before .before .args .o in
-    let f0 : leb (length f) 1073741824 ≡ true = le-leb (length f) 1073741824 (omega arith) in
-    let f1 : leb (o .keys .start + o .keys .len) (length f) ≡ true = sym (c .before .before .before .before .before .before .before .before .before .before .before .before .inside .ensures) ∙ not-false _ (c .before .before .before .before .before .before .before .before .before .before .before .if2 .left) in
-    let f2 : leb (o .offsets .start + o .offsets .len) (length f) ≡ true = sym (c .before .before .before .before .before .before .before .before .before .inside2 .ensures) ∙ not-false _ (c .before .before .before .before .before .before .before .before .if3 .left) in
-    let f3 : leb (o .partners .start + o .partners .len) (length f) ≡ true = sym (c .before .before .before .before .before .before .inside3 .ensures) ∙ not-false _ (c .before .before .before .before .before .if4 .left) in
-    let f4 : leb (o .logs .start + o .logs .len) (length f) ≡ true = sym (c .before .before .before .inside4 .ensures) ∙ not-false _ (c .before .before .if5 .left) in
-    let f5 : (not (o .marked) || leb (o .dead .start + o .dead .len) (length f)) ≡ false = sym (c .before .dead-inside .ensures) ∙ not-true _ (c .if6 .taken) in
-    rw (f0, f1, f2, f3, f4, f5)
+returns-6 c = ?
 
+-- src/look.rt:73:9
+width-good-requires : tie.Need-width-good-requires
+width-good-requires c κs = search needs
+
+-- src/look.rt:74:9
+returns-7 : tie.Need-returns-7
+returns-7 c = ?
+
+-- src/look.rt:76:5
 sizes-good-requires : tie.Need-sizes-good-requires
 sizes-good-requires c κs = search needs
 
-returns-7 : tie.Need-returns-7
-unfolding recordGood
-returns-7 c = let f = c .before .before .before .before .before .before .before .before .before .before .before .before .before .before .before .before .before .args .file .now in
-    let o = c .before .before .before .before .before .before .before .before .before .before .before .before .before .before .before .before .before .args .o in
-    let f0 : leb (length f) 1073741824 ≡ true = le-leb (length f) 1073741824 (omega arith) in
-    let f1 : leb (o .keys .start + o .keys .len) (length f) ≡ true = sym (c .before .before .before .before .before .before .before .before .before .before .before .before .before .inside .ensures) ∙ not-false _ (c .before .before .before .before .before .before .before .before .before .before .before .before .if2 .left) in
-    let f2 : leb (o .offsets .start + o .offsets .len) (length f) ≡ true = sym (c .before .before .before .before .before .before .before .before .before .before .inside2 .ensures) ∙ not-false _ (c .before .before .before .before .before .before .before .before .before .if3 .left) in
-    let f3 : leb (o .partners .start + o .partners .len) (length f) ≡ true = sym (c .before .before .before .before .before .before .before .inside3 .ensures) ∙ not-false _ (c .before .before .before .before .before .before .if4 .left) in
-    let f4 : leb (o .logs .start + o .logs .len) (length f) ≡ true = sym (c .before .before .before .before .inside4 .ensures) ∙ not-false _ (c .before .before .before .if5 .left) in
-    let f5 : (not (o .marked) || leb (o .dead .start + o .dead .len) (length f)) ≡ true = sym (c .before .before .dead-inside .ensures) ∙ not-false _ (c .before .if6 .left) in
-    rw (f0, f1, f2, f3, f4, f5) (c .sizes-good .ensures)
+-- src/look.rt:48:1
+returns-8 : tie.Need-returns-8
+returns-8 c = ?
 
 pub record-good-spec : {M : Type 1} → statement M
 record-good-spec =
@@ -113,5 +83,7 @@ record-good-spec =
     returns-5
     dead-inside-requires
     returns-6
+    width-good-requires
+    returns-7
     sizes-good-requires
-    returns-7)
+    returns-8)

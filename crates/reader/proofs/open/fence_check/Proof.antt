@@ -1,21 +1,21 @@
--- `reader::open::fence_check` meets its contract.
-use mathlib.Core.Path.{_≡_, sym, ap, _∙_}
-use borrow.Author.Tests.{not-true, not-false}
 use borrow.Author.Needs.{needs}
 use Rattle.reader.proofs.open.fence_check.Statement.{statement}
 use Rattle.reader.proofs.open.fence_check.Tie as tie
+use Rattle.reader.proofs.open.fence_check.Reads as reads
+use Rattle.reader.proofs.open.fence_check.Lts as lts
+use Rattle.index.proofs.fences.fences_good.Reads as fences-good-reads
 
-returns : tie.Need-returns
-returns c = rw (not-true (c .before .before .before .args .fenced) (c .if1 .taken))
-
+-- src/open.rt:38:8
 fences-good-requires : tie.Need-fences-good-requires
 fences-good-requires c κs = search needs
 
-returns-2 : tie.Need-returns-2
-returns-2 c = rw (not-false (c .before .before .before .before .before .args .fenced) (c .before .before .if1 .left), sym (c .before .fences-good .ensures) ∙ c .if2 .taken)
+-- src/open.rt:39:9
+returns : tie.Need-returns
+returns c = ?
 
-returns-3 : tie.Need-returns-3
-returns-3 c = rw (not-false (c .before .before .before .before .before .args .fenced) (c .before .before .if1 .left), sym (c .before .fences-good .ensures) ∙ c .if2 .left)
+-- src/open.rt:34:1
+returns-2 : tie.Need-returns-2
+returns-2 c = ?
 
 pub fence-check-spec : {M : Type 1} → statement M
-fence-check-spec = tie.close (tie.spec returns fences-good-requires returns-2 returns-3)
+fence-check-spec = tie.close (tie.spec fences-good-requires returns returns-2)

@@ -1,78 +1,69 @@
--- `reader::rows::section_at` meets its contract.
-use mathlib.Core.Path.{sym, _∙_}
-use Rattle.reader.specs.Rows.{row-small, row-large, row-short, row-over, row-footed}
-use native.Mathlib.Omega.{arith}
 use borrow.Author.Needs.{needs}
 use Rattle.reader.proofs.rows.section_at.Statement.{statement}
 use Rattle.reader.proofs.rows.section_at.Tie as tie
+use Rattle.reader.proofs.rows.section_at.Reads as reads
+use Rattle.reader.proofs.rows.section_at.Lts as lts
+use Rattle.frame.proofs.ends.body_of.Reads as body-of-reads
+use Rattle.frame.proofs.ends.foot_at.Reads as foot-at-reads
+use Rattle.frame.proofs.ends.foot_len.Reads as foot-len-reads
+use Rattle.reader.proofs.rows.row_in.Reads as row-in-reads
 
+-- src/rows.rt:76:15
+add-if1 : tie.Need-add-if1
+add-if1 c = search needs
+
+-- src/rows.rt:77:9
 returns : tie.Need-returns
-returns c = let f = c .before .before .args .file .now in
-    let i = c .before .before .args .i in
-    sym (row-small f i (omega arith))
+returns c = ?
 
+-- src/rows.rt:80:9
 returns-2 : tie.Need-returns-2
-returns-2 c = let f = c .before .before .before .args .file .now in
-    let i = c .before .before .before .args .i in
-    sym (row-large f i (omega arith) (omega arith))
+returns-2 c = ?
 
-sub-le32 : tie.Need-sub-le32
-sub-le32 c = search needs
+-- src/rows.rt:82:9
+foot-len-requires : tie.Need-foot-len-requires
+foot-len-requires c κs = search needs
 
-le32-requires : tie.Need-le32-requires
-le32-requires c κs = search needs
-
+-- src/rows.rt:84:9
 returns-3 : tie.Need-returns-3
-returns-3 c = let f = c .before .before .before .before .before .args .file .now in
-    let i = c .before .before .before .before .before .args .i in
-    sym (row-short f i (omega arith) (omega arith) _ (c .before .le32 .ensures .0) (omega arith))
+returns-3 c = ?
 
+-- src/rows.rt:86:8
 sub-if4 : tie.Need-sub-if4
 sub-if4 c = search needs
 
+-- src/rows.rt:87:9
 returns-4 : tie.Need-returns-4
-returns-4 c = let f = c .before .before .before .before .before .before .args .file .now in
-    let i = c .before .before .before .before .before .before .args .i in
-    sym (row-over f i (omega arith) (omega arith) _ (c .before .before .le32 .ensures .0) (omega arith) (omega arith))
+returns-4 c = ?
 
-sub-a : tie.Need-sub-a
-sub-a c = search needs
+-- src/rows.rt:89:12
+foot-at-requires : tie.Need-foot-at-requires
+foot-at-requires c κs = search needs
 
-sub-e : tie.Need-sub-e
-sub-e c = search needs
+-- src/rows.rt:89:34
+body-of-requires : tie.Need-body-of-requires
+body-of-requires c κs = search needs
 
-sub-row-in : tie.Need-sub-row-in
-sub-row-in c = search needs
-
-part-row-in-start : tie.Need-part-row-in-start
-part-row-in-start c = search needs
-
-part-row-in-end : tie.Need-part-row-in-end
-part-row-in-end c = search needs
-
+-- src/rows.rt:89:5
 row-in-requires : tie.Need-row-in-requires
-row-in-requires c κs = search needs
+row-in-requires c κs = ?
 
+-- src/rows.rt:72:1
 returns-5 : tie.Need-returns-5
-returns-5 c = let f = c .before .before .before .before .before .before .before .before .args .file .now in
-    let i = c .before .before .before .before .before .before .before .before .args .i in
-    c .row-in .ensures ∙ sym (row-footed f i (omega arith) (omega arith) _ (c .before .before .before .before .le32 .ensures .0) (omega arith) (omega arith))
+returns-5 c = ?
 
 pub section-at-spec : {M : Type 1} → statement M
 section-at-spec =
     tie.close
     (tie.spec
+    add-if1
     returns
     returns-2
-    sub-le32
-    le32-requires
+    foot-len-requires
     returns-3
     sub-if4
     returns-4
-    sub-a
-    sub-e
-    sub-row-in
-    part-row-in-start
-    part-row-in-end
+    foot-at-requires
+    body-of-requires
     row-in-requires
     returns-5)

@@ -1,0 +1,184 @@
+// Section kinds: each with its number, the bytes of its row, its slot among the kinds that are read, the length of a
+// section of so many rows, and the table entry of such a section.
+ghost use mathlib.Core.Path.{_≡_};
+ghost use Prim.Native.Nat.{_≤_};
+ghost use Rattle.frame.specs.Kind as kind;
+ghost use Rattle.frame.specs.Frame.{rawRow};
+use super::Row;
+
+pub struct Keys {}
+
+impl Keys {
+    pub const KIND: u16 = 1;
+
+    pub const ROW: u64 = 16;
+
+    pub const SLOT: usize = 0;
+
+    pub fn bytes(keys: u64) -> u64
+        requires { ⌜ keys ≤ kind.mostBytes ⌝ }
+        ensures { λ r. ⌜ r ≡ kind.keysLen keys ⌝ }
+    {
+        Keys::ROW * keys
+    }
+
+    pub fn entry(start: u64, keys: u64, sum: u64) -> Row
+        requires { ⌜ keys ≤ kind.mostBytes ⌝ }
+        ensures { λ r. ⌜ r ≡ rawRow kind.keys start (kind.keysLen keys) sum ⌝ }
+    {
+        Row::raw(Keys::KIND, start, Keys::bytes(keys), sum)
+    }
+}
+
+pub struct Offsets {}
+
+impl Offsets {
+    pub const KIND: u16 = 2;
+
+    pub const SLOT: usize = 1;
+
+    // One more than there are keys, of `width` bytes each.
+    pub fn bytes(keys: u64, width: u64) -> u64
+        requires { ⌜ (keys ≤ kind.mostBytes) × (width ≤ 255) ⌝ }
+        ensures { λ r. ⌜ r ≡ kind.offsetsLen keys width ⌝ }
+    {
+        (keys + 1) * width
+    }
+
+    pub fn entry(start: u64, keys: u64, width: u64, sum: u64) -> Row
+        requires { ⌜ (keys ≤ kind.mostBytes) × (width ≤ 255) ⌝ }
+        ensures { λ r. ⌜ r ≡ rawRow kind.offsets start (kind.offsetsLen keys width) sum ⌝ }
+    {
+        Row::raw(Offsets::KIND, start, Offsets::bytes(keys, width), sum)
+    }
+}
+
+pub struct Partners {}
+
+impl Partners {
+    pub const KIND: u16 = 3;
+
+    pub const SLOT: usize = 2;
+
+    pub fn entry(start: u64, bytes: u64, sum: u64) -> Row
+        ensures { λ r. ⌜ r ≡ rawRow kind.partners start bytes sum ⌝ }
+    {
+        Row::raw(Partners::KIND, start, bytes, sum)
+    }
+}
+
+pub struct Logs {}
+
+impl Logs {
+    pub const KIND: u16 = 4;
+
+    pub const ROW: u64 = 8;
+
+    pub const SLOT: usize = 3;
+
+    pub fn bytes(edges: u64) -> u64
+        requires { ⌜ edges ≤ kind.mostBytes ⌝ }
+        ensures { λ r. ⌜ r ≡ kind.logsLen edges ⌝ }
+    {
+        Logs::ROW * edges
+    }
+
+    pub fn entry(start: u64, edges: u64, sum: u64) -> Row
+        requires { ⌜ edges ≤ kind.mostBytes ⌝ }
+        ensures { λ r. ⌜ r ≡ rawRow kind.logs start (kind.logsLen edges) sum ⌝ }
+    {
+        Row::raw(Logs::KIND, start, Logs::bytes(edges), sum)
+    }
+}
+
+pub struct Tombstones {}
+
+impl Tombstones {
+    pub const KIND: u16 = 5;
+
+    pub const SLOT: usize = 4;
+
+    // A bit for each edge.
+    pub fn bytes(edges: u64) -> u64
+        requires { ⌜ edges ≤ kind.mostBytes ⌝ }
+        ensures { λ r. ⌜ r ≡ kind.tombstonesLen edges ⌝ }
+    {
+        (edges + 7) / 8
+    }
+
+    pub fn entry(start: u64, edges: u64, sum: u64) -> Row
+        requires { ⌜ edges ≤ kind.mostBytes ⌝ }
+        ensures { λ r. ⌜ r ≡ rawRow kind.tombstones start (kind.tombstonesLen edges) sum ⌝ }
+    {
+        Row::raw(Tombstones::KIND, start, Tombstones::bytes(edges), sum)
+    }
+}
+
+pub struct Fences {}
+
+impl Fences {
+    pub const KIND: u16 = 6;
+
+    // Stride and entry count, before the entries.
+    pub const HEAD: u64 = 8;
+
+    pub const ROW: u64 = 24;
+
+    pub const SLOT: usize = 5;
+
+    // The writer's stride.
+    pub const STRIDE: u64 = 256;
+
+    pub fn bytes(entries: u64) -> u64
+        requires { ⌜ entries ≤ kind.mostBytes ⌝ }
+        ensures { λ r. ⌜ r ≡ kind.fencesLen entries ⌝ }
+    {
+        Fences::HEAD + Fences::ROW * entries
+    }
+
+    pub fn entry(start: u64, entries: u64, sum: u64) -> Row
+        requires { ⌜ entries ≤ kind.mostBytes ⌝ }
+        ensures { λ r. ⌜ r ≡ rawRow kind.fences start (kind.fencesLen entries) sum ⌝ }
+    {
+        Row::raw(Fences::KIND, start, Fences::bytes(entries), sum)
+    }
+}
+
+// Property streams: any number of them, not read.
+pub struct Properties {}
+
+impl Properties {
+    pub const KIND: u16 = 256;
+}
+
+// The kinds that are read.
+pub struct Kinds {}
+
+impl Kinds {
+    pub const READ: usize = 6;
+
+    // The slot of a kind; READ where it is not read.
+    pub fn slot(k: u16) -> usize
+        ensures { λ r. ⌜ r ≡ kind.slotOf k ⌝ }
+    {
+        if k == Keys::KIND {
+            return Keys::SLOT;
+        }
+        if k == Offsets::KIND {
+            return Offsets::SLOT;
+        }
+        if k == Partners::KIND {
+            return Partners::SLOT;
+        }
+        if k == Logs::KIND {
+            return Logs::SLOT;
+        }
+        if k == Tombstones::KIND {
+            return Tombstones::SLOT;
+        }
+        if k == Fences::KIND {
+            return Fences::SLOT;
+        }
+        Kinds::READ
+    }
+}
