@@ -38,16 +38,26 @@ pub struct EdgeSstOpened {
 }
 
 impl EdgeSstOpened {
-    // Its places as a run of numbers: where the start of each section stands, with its length after it, and the rest.
-    pub const KEYS: usize = 3;
+    // The places of its fields where it is lent as a run of numbers.
+    pub const KEYSTART: usize = 3;
 
-    pub const OFFSETS: usize = 5;
+    pub const KEYLEN: usize = 4;
 
-    pub const PARTNERS: usize = 7;
+    pub const OFFSETSTART: usize = 5;
 
-    pub const LOGS: usize = 9;
+    pub const OFFSETLEN: usize = 6;
 
-    pub const DEAD: usize = 11;
+    pub const PARTNERSTART: usize = 7;
+
+    pub const PARTNERLEN: usize = 8;
+
+    pub const LOGSTART: usize = 9;
+
+    pub const LOGLEN: usize = 10;
+
+    pub const DEADSTART: usize = 11;
+
+    pub const DEADLEN: usize = 12;
 
     pub const MARKED: usize = 13;
 

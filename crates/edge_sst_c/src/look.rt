@@ -94,25 +94,25 @@ fn record_from(c: &[u64; 17]) -> Opened
 {
     Opened {
         keys: Range {
-            start: c[EdgeSstOpened::KEYS],
-            len: c[EdgeSstOpened::KEYS + 1],
+            start: c[EdgeSstOpened::KEYSTART],
+            len: c[EdgeSstOpened::KEYLEN],
         },
         offsets: Range {
-            start: c[EdgeSstOpened::OFFSETS],
-            len: c[EdgeSstOpened::OFFSETS + 1],
+            start: c[EdgeSstOpened::OFFSETSTART],
+            len: c[EdgeSstOpened::OFFSETLEN],
         },
         partners: Range {
-            start: c[EdgeSstOpened::PARTNERS],
-            len: c[EdgeSstOpened::PARTNERS + 1],
+            start: c[EdgeSstOpened::PARTNERSTART],
+            len: c[EdgeSstOpened::PARTNERLEN],
         },
         logs: Range {
-            start: c[EdgeSstOpened::LOGS],
-            len: c[EdgeSstOpened::LOGS + 1],
+            start: c[EdgeSstOpened::LOGSTART],
+            len: c[EdgeSstOpened::LOGLEN],
         },
         marked: 0 < c[EdgeSstOpened::MARKED],
         dead: Range {
-            start: c[EdgeSstOpened::DEAD],
-            len: c[EdgeSstOpened::DEAD + 1],
+            start: c[EdgeSstOpened::DEADSTART],
+            len: c[EdgeSstOpened::DEADLEN],
         },
         keycount: c[EdgeSstOpened::KEYCOUNT],
         edgecount: c[EdgeSstOpened::EDGECOUNT],
