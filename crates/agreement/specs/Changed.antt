@@ -22,8 +22,8 @@ use Rattle.refusal.specs.declared.Check.{Check}
 use Rattle.refusal.specs.Check.{_⊳_}
 use Rattle.refusal.specs.Check.Laws.{fine-parts, pick-fine, and-parts, bad-then, fine-then}
 use Rattle.frame.specs.declared.Row.{Row}
-use Rattle.frame.specs.Frame.{rangeOf, rowsOf, rangeGood, ranges, footLen, bodyOf}
-use Rattle.frame.specs.Open.{bytesAt, recordOf, fileCheck}
+use Rattle.frame.specs.Frame.{rangeOf, rowsOf, rangeGood, ranges, footLen, bodyOf, recordOf}
+use Rattle.frame.specs.Open.{bytesAt, fileCheck}
 use Rattle.frame.specs.Open.Laws.{Frames, opens-parts, size-parts, tail-parts}
 use Rattle.full_check.specs.Full.{sumGood, sumsFrom, fullCheck}
 use Rattle.full_check.specs.Full.Laws.{Within}

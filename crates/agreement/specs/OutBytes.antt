@@ -21,7 +21,8 @@ use Rattle.refusal.specs.declared.Refusal.{Refusal}
 use Rattle.refusal.specs.declared.Check.{Check}
 use Rattle.refusal.specs.Check.Laws.{fine-pick, and-parts, and-both}
 use Rattle.index.specs.Order.{Rising}
-use Rattle.frame.specs.Open.{knownOf, recordOf, bytesAt, keyAt, offsetAt}
+use Rattle.frame.specs.Frame.{recordOf}
+use Rattle.frame.specs.Open.{knownOf, bytesAt, keyAt, offsetAt}
 use Rattle.frame.specs.Cases.{oneEdge}
 use Rattle.degrees.specs.Degrees.{groupAt}
 use Rattle.group.specs.Group.{Partners, good, bad, groupOf, partnersOf}

@@ -23,7 +23,8 @@ use Rattle.refusal.specs.Check.{refuse}
 use Rattle.refusal.specs.Check.Laws.{fine-parts, either-parts}
 use Rattle.frame.specs.declared.Opened.{Opened}
 use Rattle.frame.specs.declared.Opening.{Opening}
-use Rattle.frame.specs.Open.{knownOf, recordOf, bytesAt, keyAt, offsetAt, openOf}
+use Rattle.frame.specs.Frame.{recordOf}
+use Rattle.frame.specs.Open.{knownOf, bytesAt, keyAt, offsetAt, openOf}
 use Rattle.index.specs.declared.keys.Found.{Found}
 use Rattle.index.specs.Find.{findIn}
 use Rattle.index.specs.Find.Laws.{find-sound, find-absent}

@@ -15,7 +15,8 @@ use Rattle.refusal.specs.declared.Refusal.{Refusal}
 use Rattle.refusal.specs.declared.Check.{Check}
 use Rattle.refusal.specs.Check.Laws.{and-parts, pick-fine}
 use Rattle.frame.specs.declared.Opening.{Opening}
-use Rattle.frame.specs.Open.{knownOf, recordOf, openOf}
+use Rattle.frame.specs.Frame.{recordOf}
+use Rattle.frame.specs.Open.{knownOf, openOf}
 use Rattle.lookup.specs.Lookup.{Rooms, lookOf, lookWith}
 use Rattle.lookup.specs.Calls.{alone}
 use Rattle.batch.specs.declared.Edge.{Edge}

@@ -21,9 +21,9 @@ use Rattle.frame.specs.declared.Row.{Row}
 use Rattle.frame.specs.declared.Opened.{Opened}
 use Rattle.frame.specs.declared.Opening.{Opening}
 use Rattle.frame.specs.Kind as kind
-use Rattle.frame.specs.Frame.{rowsOf, countOf, keyCount, edgeCount, bitsOf, has, twice, sectionOf, kindsGood, flag, flagsOf, widthGood, sizesGood, presenceGood, countsGood, bodyOf, headCheck, footLen}
+use Rattle.frame.specs.Frame.{rowsOf, countOf, keyCount, edgeCount, bitsOf, has, twice, sectionOf, kindsGood, flag, flagsOf, widthGood, sizesGood, presenceGood, countsGood, bodyOf, headCheck, footLen, recordFrom, recordOf, framedFrom, framedOf}
 use Rattle.frame.specs.Frame.Laws.{Table}
-use Rattle.frame.specs.Open.{Known, knownOf, bytesAt, recordFrom, recordOf, framedFrom, framedOf, contentCheck, offsetsFrom, fencesGood, fileCheck, opening, openOf}
+use Rattle.frame.specs.Open.{Known, knownOf, bytesAt, contentCheck, offsetsFrom, fencesGood, fileCheck, opening, openOf}
 use Rattle.frame.specs.Open.Laws.{Frames, frames-made}
 use Rattle.frame.specs.Layout.{Section, Layout, rawSection, headBytes, payload, bodyBytes, trailer, layOut}
 use Rattle.laid_out.specs.Rows.{rowsIn, Small, small-is, leAt-at, count-back, body-end, keys-back, edges-back, bits-back, length-body}
@@ -271,14 +271,21 @@ module _ (h : Heading) (es : List Edge) (q : Written h es) where
   tomb-len true = eq-eqb _ _ (length-tombs es)
   tomb-len false = refl
 
-  sizes : sizesGood n (length es) (8 * w) (length (keyBytes gs)) (length os) (length (logBytes es)) dead (length (pick dead (tombBytes es) [])) ≡ true
-  unfolding sizesGood
+  -- bounds and lengths (12) of a record by its numbers
+  abbrev sizesBy : ℕ → ℕ → ℕ → ℕ → ℕ → ℕ → Bool → ℕ → Bool
+  sizesBy k e bits keys offsets logs marked tombs =
+      leb k kind.mostKeys
+      && (leb e kind.mostEdges
+      && (eqb keys (kind.keysLen k)
+      && (eqb offsets (kind.offsetsLen k (bits / 8)) && (eqb logs (kind.logsLen e) && (not marked || eqb tombs (kind.tombstonesLen e))))))
+
+  sizes : sizesBy n (length es) (8 * w) (length (keyBytes gs)) (length os) (length (logBytes es)) dead (length (pick dead (tombBytes es) [])) ≡ true
   sizes =
       let eight : 8 * w / 8 ≡ w = omega arith in
       let ll = length-logs es in
-      and-both (le-leb n kind.mostKeys (q .keys)) (and-both (le-leb (length es) kind.mostEdges (q .edges)) (and-both width-good
+      and-both (le-leb n kind.mostKeys (q .keys)) (and-both (le-leb (length es) kind.mostEdges (q .edges))
       (and-both (eq-eqb _ _ (length-keys gs)) (and-both (eq-eqb _ _ (length-offsets w n 0 gs ∙ ap (λ (z : ℕ). (n + 1) * z) (sym eight)))
-      (and-both (eq-eqb (length (logBytes es)) (8 * length es) (omega arith)) (tomb-len dead))))))
+      (and-both (eq-eqb (length (logBytes es)) (8 * length es) (omega arith)) (tomb-len dead)))))
 
   -- no keys, no edges
   none-none : (not (eqb n 0) || eqb (length es) 0) ≡ true
@@ -299,19 +306,26 @@ module _ (h : Heading) (es : List Edge) (q : Written h es) where
   implied true = refl
   implied false = refl
 
-  presence : presenceGood flags n (length es) dead fence false ≡ true
-  unfolding presenceGood
+  -- presence (12) by its numbers
+  abbrev presenceBy : ℕ → ℕ → ℕ → Bool → Bool → Bool → Bool
+  presenceBy bits k e marked fenced streams =
+      leb k e
+      && ((not (eqb k 0) || eqb e 0)
+      && ((leb k kind.mostUnfenced || fenced) && (Bool·beq (flag 0 bits) streams && (not (flag 1 bits) || marked))))
+
+  presence : presenceBy flags n (length es) dead fence false ≡ true
   presence =
       and-both (le-leb n (length es) (groups-count es)) (and-both none-none (and-both (fences-there n)
       (and-both (ap (λ (b : Bool). Bool·beq b false) (fl .properties)) (ap (λ (b : Bool). not b || dead) (fl .marked) ∙ implied dead))))
 
-  counts : countsGood (flagsOf f) (keyCount (bodyOf f)) (edgeCount (bodyOf f)) (bitsOf (bodyOf f)) (rowsOf (bodyOf f)) ≡ true
-  unfolding countsGood
+  counts : countsGood (flagsOf f) (framedOf f) ≡ true
+  unfolding countsGood sizesGood presenceGood framedOf framedFrom recordFrom
   counts =
-      (λ j. sizesGood (keycount-is j) (edgecount-is j) (bits-is j) ((len kind.keys ∙ ap length (t .keys-are)) j) ((len kind.offsets ∙ ap length (t .offsets-are)) j)
+      (λ j. widthGood (bits-is j)
+      && (sizesBy (keycount-is j) (edgecount-is j) (bits-is j) ((len kind.keys ∙ ap length (t .keys-are)) j) ((len kind.offsets ∙ ap length (t .offsets-are)) j)
       ((len kind.logs ∙ ap length (t .logs-are)) j) ((there kind.tombstones ∙ t .marked) j) ((len kind.tombstones ∙ ap length (t .tombs-are)) j)
-      && presenceGood (flags-is j) (keycount-is j) (edgecount-is j) ((there kind.tombstones ∙ t .marked) j) ((there kind.fences ∙ t .fences) j) ((there kind.properties ∙ t .streams) j))
-      ∙ and-both sizes presence
+      && presenceBy (flags-is j) (keycount-is j) (edgecount-is j) ((there kind.tombstones ∙ t .marked) j) ((there kind.fences ∙ t .fences) j) ((there kind.properties ∙ t .streams) j)))
+      ∙ and-both width-good (and-both sizes presence)
 
   frames : Frames f
   unfolding fileOf layoutOf layoutBy
@@ -384,7 +398,7 @@ module _ (h : Heading) (es : List Edge) (q : Written h es) where
 
   pub file-opens : openOf f ≡ Opening.Good (recordOf f)
   unfolding openOf opening fileCheck
-  file-opens = rw (fine-both (frames-made f frames) content-fine)
+  file-opens = rw (fine-both (frames-made (length f) f f frames) content-fine)
 
   -- ---- the full check
 
@@ -416,7 +430,7 @@ module _ (h : Heading) (es : List Edge) (q : Written h es) where
   pub passes : fullCheck f ≡ Check.Fine
   unfolding fullCheck fileCheck
   passes =
-      fine-both (fine-both (frames-made f frames) content-fine)
+      fine-both (fine-both (frames-made (length f) f f frames) content-fine)
       (fine-both (ap (λ (r : List Row). sumsFrom f r 0) rows ∙ sums-fine ss f head (body ++ trailer body) 64 2 0 raw parts h64) edges-fine)
 
   -- ---- the read-out

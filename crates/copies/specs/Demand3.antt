@@ -10,8 +10,8 @@ use mathlib.Core.Bool.{Bool, true, not}
 use Rattle.frame.specs.declared.Opened.{Opened}
 use Rattle.frame.specs.declared.Opening.{Opening}
 use Rattle.frame.specs.Kind as kind
-use Rattle.frame.specs.Frame.{all, rowsOf, bodyOf}
-use Rattle.frame.specs.Open.{openOf, recordOf}
+use Rattle.frame.specs.Frame.{all, rowsOf, bodyOf, recordOf}
+use Rattle.frame.specs.Open.{openOf}
 use Rattle.lookup.specs.Lookup.{Rooms, lookOf, lookWith}
 use Rattle.reader.specs.Look.{with-record}
 use Rattle.laid_out.specs.Laid.{file-rows}

@@ -21,9 +21,9 @@ use Rattle.frame.specs.declared.Range.{Range}
 use Rattle.frame.specs.declared.Opened.{Opened}
 use Rattle.frame.specs.declared.Opening.{Opening}
 use Rattle.frame.specs.Kind as kind
-use Rattle.frame.specs.Frame.{has, twice, rangeOf, sectionOf, all, nameGood, kindsGood, codecGood, codecs, ranges, countOf, rowsOf, endOf, countsGood, keyCount, edgeCount, bitsOf, bodyOf, footLen, flagsOf, sizeCheck, tailCheck, sumCheck, frameCheck}
+use Rattle.frame.specs.Frame.{recordFrom, recordOf, framedFrom, framedOf, has, twice, rangeOf, sectionOf, all, nameGood, kindsGood, codecGood, codecs, ranges, countOf, rowsOf, endOf, countsGood, keyCount, edgeCount, bitsOf, bodyOf, footLen, flagsOf, sizeCheck, tailCheck, sumCheck, frameCheck}
 use Rattle.frame.specs.Frame.Laws.{length-rows, Table, Apart, Short, names-short, ranges-parts, ranges-made, SameKnown, skipped, section-skipped, kinds-known, kinds-some, counts-known, codec-skipped, name-skipped, ButMinor, flags-minor, head-minor}
-use Rattle.frame.specs.Open.{Known, knownOf, bytesAt, recordFrom, recordOf, framedFrom, framedOf, contentCheck, fileCheck, openOf}
+use Rattle.frame.specs.Open.{Known, knownOf, bytesAt, contentCheck, fileCheck, openOf}
 use Rattle.frame.specs.Open.Laws.{frames-made, opens-parts, opens-record, opens-fine, size-parts, size-made, tail-parts, tail-magic, tail-made, sum-parts, sum-made}
 use Rattle.lookup.specs.Lookup.{Rooms, lookOf}
 use Rattle.reader.specs.Look.{look-known}
@@ -217,10 +217,11 @@ module _ (f g : List ℕ) (s : Stripped f g) where
   table-known : SameKnown (rowsOf b) (rowsOf c)
   table-known = known-copied f b g c (s .table)
 
-  counts-same : countsGood (flagsOf g) (keyCount c) (edgeCount c) (bitsOf c) (rowsOf c) ≡ countsGood (flagsOf f) (keyCount b) (edgeCount b) (bitsOf b) (rowsOf b)
+  counts-same : countsGood (flagsOf g) (framedOf g) ≡ countsGood (flagsOf f) (framedOf f)
+  unfolding framedOf
   counts-same =
-      (λ j. countsGood (flags-minor g f (s .header) j) (s .keys j) (s .edges j) (s .bits j) (rowsOf c))
-      ∙ counts-known (rowsOf b) (rowsOf c) table-known (flagsOf f) (keyCount b) (edgeCount b) (bitsOf b)
+      (λ j. countsGood (flags-minor g f (s .header) j) (framedFrom c (rowsOf c)))
+      ∙ counts-known (rowsOf b) (rowsOf c) table-known (flagsOf f) b c (s .keys) (s .edges) (s .bits)
 
   kinds-same : kindsGood (rowsOf c) ≡ kindsGood (rowsOf b)
   kinds-same = kinds-known (rowsOf b) (rowsOf c) table-known
@@ -259,7 +260,7 @@ module _ (f g : List ℕ) (s : Stripped f g) where
     copy-opens =
         let file = opens-parts f o e .frames in
         let (size, tail, sum, apart) = outer-checks g (s .outer) in
-        let frame : frameCheck (length g) g g ≡ Check.Fine = frames-made g (record {
+        let frame : frameCheck (length g) g g ≡ Check.Fine = frames-made (length g) g g (record {
           size = size;
           head = head-minor g f (s .header) ∙ file .head;
           tail = tail;
@@ -282,7 +283,7 @@ module _ (f g : List ℕ) (s : Stripped f g) where
   added-opens l e =
       let copy = opens-parts g (recordOf g) e .frames in
       let (size, tail, sum, apart) = outer-checks f (l .outer) in
-      let frame : frameCheck (length f) f f ≡ Check.Fine = frames-made f (record {
+      let frame : frameCheck (length f) f f ≡ Check.Fine = frames-made (length f) f f (record {
         size = size;
         head = sym (head-minor g f (s .header)) ∙ copy .head;
         tail = tail;

@@ -15,8 +15,8 @@ use Rattle.refusal.specs.Check.{_⊳_, refuse}
 use Rattle.refusal.specs.Check.Laws.{and-parts, or-cases, fine-parts, bad-then, fine-then}
 use Rattle.frame.specs.declared.Opened.{Opened}
 use Rattle.frame.specs.declared.Opening.{Opening}
-use Rattle.frame.specs.Frame.{rowsOf, flag, flagsOf, bodyOf}
-use Rattle.frame.specs.Open.{knownOf, recordOf, bytesAt, inside, recordGood, fileCheck, opening, openOf}
+use Rattle.frame.specs.Frame.{rowsOf, flag, flagsOf, bodyOf, recordOf}
+use Rattle.frame.specs.Open.{knownOf, bytesAt, inside, recordGood, fileCheck, opening, openOf}
 use Rattle.frame.specs.Open.Laws.{sized-parts, opens-record}
 use Rattle.lookup.specs.Lookup.{markAt}
 use Rattle.lookup.specs.Lookup.Laws.{mark-none}

@@ -10,9 +10,9 @@ use Rattle.refusal.specs.declared.Refusal.{Refusal}
 use Rattle.refusal.specs.declared.Check.{Check}
 use Rattle.refusal.specs.Check.{_⊳_, refuse}
 use Rattle.frame.specs.declared.Row.{Row}
-use Rattle.frame.specs.Frame.{rangeOf, rowsOf, flag, flagsOf, bodyOf}
+use Rattle.frame.specs.Frame.{rangeOf, rowsOf, flag, flagsOf, bodyOf, recordOf}
 use Rattle.frame.specs.declared.Opening.{Opening}
-use Rattle.frame.specs.Open.{Known, knownOf, recordOf, bytesAt, fileCheck, opening}
+use Rattle.frame.specs.Open.{Known, knownOf, bytesAt, fileCheck, opening}
 use Rattle.degrees.specs.Degrees.{groupAt}
 use Rattle.group.specs.Group.{Partners, good, bad, groupOf, partnersOf}
 use Rattle.lookup.specs.Lookup.{groupCheck, markAt}

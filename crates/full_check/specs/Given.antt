@@ -12,9 +12,9 @@ use Rattle.refusal.specs.Refusal.{numberOf}
 use Rattle.refusal.specs.Check.{_⊳_, refuse}
 use Rattle.refusal.specs.Check.Laws.{bad-then, fine-then, by-first, by-second, refuse-own, Numbers, numbers-fine, numbers-bad, numbers-refuse, numbers-then, numbers-pick, below, above}
 use Rattle.frame.specs.declared.Row.{Row}
-use Rattle.frame.specs.Frame.{rowsOf, flagsOf, bodyOf}
+use Rattle.frame.specs.Frame.{rowsOf, flagsOf, bodyOf, recordOf}
 use Rattle.frame.specs.Header.{opening-numbers}
-use Rattle.frame.specs.Open.{Known, knownOf, recordOf, bytesAt, fileCheck}
+use Rattle.frame.specs.Open.{Known, knownOf, bytesAt, fileCheck}
 use Rattle.degrees.specs.Degrees.{groupAt}
 use Rattle.group.specs.Group.{Partners, good, bad, isGood, groupOf}
 use Rattle.group.specs.declared.fault.Fault.{Fault}

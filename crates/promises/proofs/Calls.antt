@@ -14,7 +14,8 @@ use Rattle.codes.specs.Ids.{idAt}
 use Rattle.refusal.specs.declared.Check.{Check}
 use Rattle.frame.specs.declared.Opened.{Opened}
 use Rattle.frame.specs.declared.Opening.{Opening}
-use Rattle.frame.specs.Open.{recordOf, openOf}
+use Rattle.frame.specs.Frame.{recordOf}
+use Rattle.frame.specs.Open.{openOf}
 use Rattle.frame.specs.Open.Laws.{opens-record}
 use Rattle.lookup.specs.Lookup.{Rooms, lookOf, lookWith}
 use Rattle.lookup.specs.Calls.{alone, lent}

@@ -19,7 +19,8 @@ use Rattle.codes.specs.Little.{leAt}
 use Rattle.codes.specs.Ids.{beAt, beBytes, idAt, idBytes, halvesAt, order}
 use Rattle.frame.specs.Kind as kind
 use Rattle.frame.specs.declared.Opening.{Opening}
-use Rattle.frame.specs.Open.{knownOf, recordOf}
+use Rattle.frame.specs.Frame.{recordOf}
+use Rattle.frame.specs.Open.{knownOf}
 use Rattle.group.specs.Group.{bytesOf}
 use Rattle.lookup.specs.declared.Looked.{Looked}
 use Rattle.lookup.specs.Lookup as look

@@ -12,7 +12,7 @@ use Rattle.codes.specs.Little.{leAt}
 use Rattle.codes.specs.Ids.{beAt, halvesAt, numberOf}
 use Rattle.refusal.specs.declared.Refusal.{Refusal}
 use Rattle.refusal.specs.declared.Check.{Check}
-use Rattle.frame.specs.Open.{recordOf}
+use Rattle.frame.specs.Frame.{recordOf}
 use Rattle.frame.specs.Cases.{headingOnly}
 use Rattle.lookup.specs.Lookup.{Outcome, found, absent, refused, Rooms, lookOf, lookWith}
 use Rattle.batch.specs.declared.Edge.{Edge}

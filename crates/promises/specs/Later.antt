@@ -12,8 +12,8 @@ use Rattle.refusal.specs.declared.Check.{Check}
 use Rattle.refusal.specs.Check.Laws.{above}
 use Rattle.frame.specs.declared.Opened.{Opened}
 use Rattle.frame.specs.declared.Opening.{Opening}
-use Rattle.frame.specs.Frame.{rowsOf, bodyOf}
-use Rattle.frame.specs.Open.{knownOf, recordOf, bytesAt, recordGood, fileCheck, openOf}
+use Rattle.frame.specs.Frame.{rowsOf, bodyOf, recordOf}
+use Rattle.frame.specs.Open.{knownOf, bytesAt, recordGood, fileCheck, openOf}
 use Rattle.frame.specs.Open.Laws.{opens-fine, opens-refused}
 use Rattle.frame.specs.Header.{OtherMajor, UnassignedFlag, major-exactly, flags-exactly, opening-numbers}
 use Rattle.index.specs.declared.keys.Found.{Found}

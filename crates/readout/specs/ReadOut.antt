@@ -7,8 +7,8 @@ use Rattle.base.specs.Over.{part, over}
 use Rattle.refusal.specs.declared.Refusal.{Refusal}
 use Rattle.refusal.specs.declared.Check.{Check}
 use Rattle.refusal.specs.Check.{_⊳_, refuse}
-use Rattle.frame.specs.Frame.{flagsOf}
-use Rattle.frame.specs.Open.{knownOf, recordOf}
+use Rattle.frame.specs.Frame.{flagsOf, recordOf}
+use Rattle.frame.specs.Open.{knownOf}
 use Rattle.batch.specs.Batch.{Heading, batchBytes, place}
 use Rattle.full_check.specs.Full.{fullCheck}
 use Rattle.readout.specs.declared.ReadOut.{ReadOut}

@@ -17,8 +17,8 @@ use Rattle.refusal.specs.Check.Laws.{bad-then, fine-then, by-first, refuse-own}
 use Rattle.frame.specs.declared.Row.{Row}
 use Rattle.frame.specs.declared.Opened.{Opened}
 use Rattle.frame.specs.declared.Opening.{Opening}
-use Rattle.frame.specs.Frame.{footLen, bodyOf}
-use Rattle.frame.specs.Open.{recordOf, fileCheck, opening, openOf}
+use Rattle.frame.specs.Frame.{footLen, bodyOf, recordOf}
+use Rattle.frame.specs.Open.{fileCheck, opening, openOf}
 use Rattle.frame.specs.Open.Laws.{Frames, size-parts, tail-parts}
 use Rattle.reader.specs.declared.rows.Section.{Section}
 use Rattle.listing.specs.declared.Listed.{Listed}

@@ -20,8 +20,8 @@ use Rattle.refusal.specs.Check.{_⊳_, refuse}
 use Rattle.refusal.specs.Check.Laws.{fine-parts, good-parts, and-parts, bad-then, fine-then, by-first, refuse-own}
 use Rattle.frame.specs.declared.Opened.{Opened}
 use Rattle.frame.specs.declared.Opening.{Opening}
-use Rattle.frame.specs.Frame.{rowsOf, flagsOf, bodyOf}
-use Rattle.frame.specs.Open.{Known, knownOf, recordOf, bytesAt, openOf, opening, fileCheck}
+use Rattle.frame.specs.Frame.{rowsOf, flagsOf, bodyOf, recordOf}
+use Rattle.frame.specs.Open.{Known, knownOf, bytesAt, openOf, opening, fileCheck}
 use Rattle.frame.specs.Open.Laws.{opens-parts, size-parts, opens-record}
 use Rattle.lookup.specs.Record.{Holds}
 use Rattle.reader.specs.Opened.{opened-offsets}
