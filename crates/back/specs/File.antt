@@ -21,7 +21,7 @@ use Rattle.frame.specs.declared.Row.{Row}
 use Rattle.frame.specs.declared.Opened.{Opened}
 use Rattle.frame.specs.declared.Opening.{Opening}
 use Rattle.frame.specs.Kind as kind
-use Rattle.frame.specs.Frame.{rowsOf, countOf, keyCount, edgeCount, bitsOf, has, twice, sectionOf, kindsGood, flag, flagsOf, widthGood, sizesGood, presenceGood, countsGood, bodyOf, headCheck, footLen, recordFrom, recordOf, framedFrom, framedOf}
+use Rattle.frame.specs.Frame.{all, rowsOf, countOf, keyCount, edgeCount, bitsOf, has, twice, sectionOf, kindsGood, flag, flagsOf, widthGood, sizesGood, presenceGood, countsGood, bodyOf, headCheck, footLen, recordFrom, recordOf, framedFrom, framedOf}
 use Rattle.frame.specs.Frame.Laws.{Table}
 use Rattle.frame.specs.Open.{Known, knownOf, bytesAt, contentCheck, offsetsFrom, fencesGood, fileCheck, opening, openOf}
 use Rattle.frame.specs.Open.Laws.{Frames, frames-made}
@@ -41,7 +41,7 @@ use Rattle.back.specs.Rows.{width-fits, bit-is}
 use Rattle.back.specs.Contents.{keys-fine, tombs, Read, read-back}
 use Rattle.back.specs.Rules.{offsets-fine, dead-back, unused-back}
 use Rattle.back.specs.Fences.{fences-fine}
-use Rattle.back.specs.Sections.{AllRaw, raw-is, contentOf, hasKind, twiceKind, has-is, twice-is, names-fine, codecs-fine, raw-numbers, content-is, len-is, sums-fine, length-content}
+use Rattle.back.specs.Sections.{AllRaw, raw-is, contentOf, hasKind, twiceKind, onceIn, has-is, kinds-is, names-fine, codecs-fine, raw-numbers, content-is, len-is, sums-fine, length-content}
 
 -- ---- the sections, whichever are there
 
@@ -64,7 +64,7 @@ module _ (keys w : ℕ) (es : List Edge) (gs : List Group) where
   pub record Table4 (dead fence : Bool) (ss : List Section) : Type 0 where
     pub few : length ss ≤ 6
     pub some : 4 ≤ length ss
-    pub kinds : ((hasKind kind.keys ss && not (twiceKind kind.keys ss)) && ((hasKind kind.offsets ss && not (twiceKind kind.offsets ss)) && ((hasKind kind.partners ss && not (twiceKind kind.partners ss)) && ((hasKind kind.logs ss && not (twiceKind kind.logs ss)) && (not (twiceKind kind.tombstones ss) && not (twiceKind kind.fences ss)))))) ≡ true
+    pub kinds : all (onceIn ss) kind.kinds ≡ true
     pub marked : hasKind kind.tombstones ss ≡ dead
     pub fences : hasKind kind.fences ss ≡ fence
     pub streams : hasKind kind.properties ss ≡ false
@@ -76,7 +76,7 @@ module _ (keys w : ℕ) (es : List Edge) (gs : List Group) where
     pub fences-are : contentOf kind.fences ss ≡ pick fence (fencesOf (keysIn gs)) []
 
   sections-table : (dead fence : Bool) → Table4 dead fence (raw1 ∷ rawSection kind.offsets (offsetBytes w keys 0 gs) ∷ rawSection kind.partners (partnerBytes keys gs) ∷ rawSection kind.logs (logBytes es) ∷ lastSections dead fence es gs)
-  unfolding lastSections contentOf hasKind twiceKind
+  unfolding lastSections contentOf hasKind twiceKind all
   sections-table true true = record { few = omega arith; some = omega arith; kinds = refl; marked = refl; fences = refl; streams = refl; keys-are = refl; offsets-are = refl; partners-are = refl; logs-are = refl; tombs-are = refl; fences-are = refl }
   sections-table true false = record { few = omega arith; some = omega arith; kinds = refl; marked = refl; fences = refl; streams = refl; keys-are = refl; offsets-are = refl; partners-are = refl; logs-are = refl; tombs-are = refl; fences-are = refl }
   sections-table false true = record { few = omega arith; some = omega arith; kinds = refl; marked = refl; fences = refl; streams = refl; keys-are = refl; offsets-are = refl; partners-are = refl; logs-are = refl; tombs-are = refl; fences-are = refl }
@@ -239,12 +239,7 @@ module _ (h : Heading) (es : List Edge) (q : Written h es) where
         most = omega arith;
         filled = rw body-is (body-end ss n (length es) (8 * w) small);
         names = rw rows (names-fine ss 64 2 raw);
-        kinds = rw rows ((λ j.
-            (has-is kind.keys ss 64 2 j && not (twice-is kind.keys ss 64 2 j))
-            && ((has-is kind.offsets ss 64 2 j && not (twice-is kind.offsets ss 64 2 j))
-            && ((has-is kind.partners ss 64 2 j && not (twice-is kind.partners ss 64 2 j))
-            && ((has-is kind.logs ss 64 2 j && not (twice-is kind.logs ss 64 2 j))
-            && (not (twice-is kind.tombstones ss 64 2 j) && not (twice-is kind.fences ss 64 2 j)))))) ∙ t .kinds);
+        kinds = rw rows (kinds-is ss 64 2 kind.kinds ∙ t .kinds);
       }
 
   -- a section's bytes and length, and whether it is there

@@ -14,7 +14,7 @@ use Rattle.refusal.specs.declared.Check.{Check}
 use Rattle.refusal.specs.Check.Laws.{fine-pick, and-both}
 use Rattle.frame.specs.declared.Row.{Row}
 use Rattle.frame.specs.Kind as kind
-use Rattle.frame.specs.Frame.{rangeOf, has, twice, sectionOf, all, nameGood, codecGood, codecs}
+use Rattle.frame.specs.Frame.{rangeOf, has, twice, sectionOf, all, nameGood, onceGood, codecGood, codecs}
 use Rattle.frame.specs.Open.{bytesAt}
 use Rattle.frame.specs.Layout.{Section, rawSection, payload}
 use Rattle.laid_out.specs.Sum.{xxh3-lt}
@@ -61,6 +61,15 @@ pub twice-is : (k : ℕ) (ss : List Section) (at i : ℕ) → twice k (rowsIn at
 unfolding twice rowsIn twiceKind
 twice-is k [] at i = refl
 twice-is k (s ∷ ss) at i = ap₂ (λ (t u : Bool). pick (eqb (s .kind) k) t u) (has-is k ss _ _) (twice-is k ss _ _)
+
+-- a kind stands among the sections as often as it may
+abbrev pub onceIn : List Section → kind.Kind → Bool
+onceIn ss q = not (twiceKind (q .number) ss) && (not (q .needed) || hasKind (q .number) ss)
+
+pub kinds-is : (ss : List Section) (at i : ℕ) (qs : List kind.Kind) → all (onceGood (rowsIn at i ss)) qs ≡ all (onceIn ss) qs
+unfolding all
+kinds-is ss at i [] = refl
+kinds-is ss at i (q ∷ qs) = λ j. (not (twice-is (q .number) ss at i j) && (not (q .needed) || has-is (q .number) ss at i j)) && kinds-is ss at i qs j
 
 pub names-fine : (ss : List Section) (at i : ℕ) → AllRaw ss → all nameGood (rowsIn at i ss) ≡ true
 unfolding all rowsIn AllRaw

@@ -12,6 +12,7 @@ ghost use Rattle.ends.specs.Standing.{entryIn};
 ghost use Rattle.ends.specs.Runs.{rowBytes, countBytes};
 use codes::little::put_le;
 use frame::Row;
+use frame::ends::Header;
 use xxh3::xxh3;
 
 // Copies s to `at`.
@@ -31,7 +32,7 @@ pub fn put_header(out: &mut [u8], flags: u64, ids: &[u8])
     requires { ⌜ 16 + length (now ids) ≤ length (now out) ⌝ }
     ensures { λ _. ⌜ now (out .exit) ≡ sets (now (out .entry)) 0 (headBytes 0 flags (now (ids .entry))) ⌝ }
 {
-    put_le(out, 0, 8, 0x0000_4547_4445_4754);
+    put_le(out, 0, 8, Header::MAGIC);
     put_le(out, 8, 1, 1);
     put_le(out, 9, 1, 0);
     put_le(out, 10, 2, 64);
@@ -100,6 +101,6 @@ pub fn put_trailer(out: &mut [u8], body: usize, at: usize) -> usize
     let len = at - body + 20;
     put_le(out, at, 8, sum);
     put_le(out, at + 8, 4, len as u64);
-    put_le(out, at + 12, 8, 0x0000_4547_4445_4754);
+    put_le(out, at + 12, 8, Header::MAGIC);
     at + 20
 }

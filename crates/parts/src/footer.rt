@@ -11,7 +11,13 @@ use codes::little::put_le;
 use ends::put_counts;
 use ends::put_entry;
 use ends::put_entry_if;
-use frame::Row;
+use frame::ends::Header;
+use frame::kind::Fences;
+use frame::kind::Keys;
+use frame::kind::Logs;
+use frame::kind::Offsets;
+use frame::kind::Partners;
+use frame::kind::Tombstones;
 use plan::fences_size;
 use plan::section_count;
 use plan::tomb_size;
@@ -25,10 +31,10 @@ fn put_four(out: &mut [u8], at: usize, keys: usize, w: usize, partners: usize, n
     let offsets = 64 + 16 * keys;
     let parts = offsets + size;
     let logs = parts + partners;
-    let p = put_entry(out, at, Row::KEYS, 64, 16 * keys);
-    let q = put_entry(out, p, Row::OFFSETS, offsets, size);
-    let r = put_entry(out, q, Row::PARTNERS, parts, partners);
-    put_entry(out, r, Row::LOGS, logs, 8 * n)
+    let p = put_entry(out, at, Keys::KIND, Header::SIZE, 16 * keys);
+    let q = put_entry(out, p, Offsets::KIND, offsets, size);
+    let r = put_entry(out, q, Partners::KIND, parts, partners);
+    put_entry(out, r, Logs::KIND, logs, 8 * n)
 }
 
 // The entries of tombstones and fences, each there or not, that stand from `start` on.
@@ -38,8 +44,8 @@ fn put_last(out: &mut [u8], at: usize, start: usize, n: usize, dead: bool, keys:
 {
     let tombs = tomb_size(n, dead);
     let fences = fences_size(keys);
-    let p = put_entry_if(dead, out, at, Row::TOMBSTONES, start, tombs);
-    put_entry_if(65536 < keys, out, p, Row::FENCES, start + tombs, fences)
+    let p = put_entry_if(dead, out, at, Tombstones::KIND, start, tombs);
+    put_entry_if(65536 < keys, out, p, Fences::KIND, start + tombs, fences)
 }
 
 // The body: section count, entries, counts.

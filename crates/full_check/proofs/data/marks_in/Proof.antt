@@ -4,7 +4,6 @@ use Prim.Native.Nat.{ℕ}
 use mathlib.Core.List.{List}
 use lib.ListN.{length}
 use Rattle.frame.specs.Open.{bytesAt}
-use Rattle.lookup.specs.Record.{dead-inside}
 use Rattle.reader.specs.Opened.{opened-good}
 use Rattle.reader.specs.Look.{opened-holds}
 use Rattle.full_check.specs.Full.{marksOf}
@@ -19,7 +18,7 @@ use Rattle.frame.proofs.bytes_of.Reads as bytes-of-reads
 use Rattle.full_check.proofs.marks.marks_of.Reads as marks-of-reads
 
 bytes-of-requires : tie.Need-bytes-of-requires
-bytes-of-requires c κs = let a = c .before .before .before .args in dead-inside (a .file .now) (a .o) (opened-holds (a .file .now) (a .o) (c .before .before .before .pre)) (c .before .if1 .taken)
+bytes-of-requires c κs = let a = c .before .before .before .args in opened-holds (a .file .now) (a .o) (c .before .before .before .pre) .dead (c .before .if1 .taken)
 
 marks-of-requires : tie.Need-marks-of-requires
 marks-of-requires c κs = let a = c .before .before .before .before .args in
