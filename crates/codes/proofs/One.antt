@@ -27,6 +27,8 @@ use Rattle.codes.proofs.ids.compare as compare
 use Rattle.codes.proofs.ids.compare.Reads as compare-reads
 use Rattle.codes.proofs.ids.put_be as put-be
 use Rattle.codes.proofs.ids.put_be.Reads as put-be-reads
+use Rattle.codes.proofs.ids.put_be64 as put-be64
+use Rattle.codes.proofs.ids.put_be64.Reads as put-be64-reads
 use Rattle.codes.proofs.ids.put_id as put-id
 use Rattle.codes.proofs.ids.put_id.Reads as put-id-reads
 use Rattle.codes.proofs.varint.varint_at as varint-at
@@ -71,6 +73,9 @@ compare-determined κs a pre r₁ r₂ w₁ w₂ p q = (p ∙ sym q, refl)
 
 pub put-be-determined : Determined put-be.ended put-be-reads.Pre put-be-reads.Post
 put-be-determined κs a pre r₁ r₂ w₁ w₂ p q = (refl, ap (λ (l : List ℕ). (l, (tt {0}, (tt {0}, (tt {0}, tt {0}))))) (p ∙ sym q))
+
+pub put-be64-determined : Determined put-be64.ended put-be64-reads.Pre put-be64-reads.Post
+put-be64-determined κs a pre r₁ r₂ w₁ w₂ p q = (refl, ap (λ (l : List ℕ). (l, (tt {0}, (tt {0}, tt {0})))) (p ∙ sym q))
 
 pub put-id-determined : Determined put-id.ended put-id-reads.Pre put-id-reads.Post
 put-id-determined κs a pre r₁ r₂ w₁ w₂ p q = (refl, ap (λ (l : List ℕ). (l, (tt {0}, (tt {0}, tt {0})))) (p ∙ sym q))

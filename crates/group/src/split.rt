@@ -13,7 +13,7 @@ use super::Group;
 use super::above;
 use super::fault::Fault;
 use codes::ids::Id;
-use codes::ids::put_be;
+use codes::ids::put_be64;
 use codes::little::le64;
 use codes::varint::Unread;
 use codes::varint::Varint;
@@ -115,8 +115,7 @@ pub fn check_split(g: &[u8], at: usize, degree: u64) -> Group
     }
 }
 
-// Writes the partners from `at` on, which were checked. The upper half is written before the lower half is read: so
-// the compiler makes one store of each, where 16 stores of a byte in a row would stay 16.
+// Writes the partners from `at` on, which were checked.
 pub fn fill_split(g: &[u8], at: usize, degree: u64, out: &mut [u8])
     requires { ⌜ (isGood (walkFrom false degree (now g) at 0 0) ≡ true) × (16 * degree ≤ length (now out)) ⌝ }
     ensures { λ _. ⌜ now (out .exit) ≡ over (bytesOf (partnersOf (walkFrom false degree (now (g .entry)) at 0 0))) (now (out .entry)) ⌝ }
@@ -129,9 +128,9 @@ pub fn fill_split(g: &[u8], at: usize, degree: u64, out: &mut [u8])
         match difference(g, i) {
             Varint::Value { value, next } => {
                 hi = hi + value;
-                put_be(out, to, 8, hi);
+                put_be64(out, to, hi);
                 let lower = le64(g, next);
-                put_be(out, to + 8, 8, lower);
+                put_be64(out, to + 8, lower);
                 i = next + 8;
                 to = to + 16;
                 k = k + 1;
