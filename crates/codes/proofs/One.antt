@@ -33,6 +33,8 @@ use Rattle.codes.proofs.ids.put_id as put-id
 use Rattle.codes.proofs.ids.put_id.Reads as put-id-reads
 use Rattle.codes.proofs.varint.varint_at as varint-at
 use Rattle.codes.proofs.varint.varint_at.Reads as varint-at-reads
+use Rattle.codes.proofs.varint.short_at as short-at
+use Rattle.codes.proofs.varint.short_at.Reads as short-at-reads
 use Rattle.codes.proofs.varint.varint_len as varint-len
 use Rattle.codes.proofs.varint.varint_len.Reads as varint-len-reads
 use Rattle.codes.proofs.varint.put_varint as put-varint
@@ -82,6 +84,9 @@ put-id-determined κs a pre r₁ r₂ w₁ w₂ p q = (refl, ap (λ (l : List �
 
 pub varint-at-determined : Determined varint-at.ended varint-at-reads.Pre varint-at-reads.Post
 varint-at-determined κs a pre r₁ r₂ w₁ w₂ p q = (p ∙ sym q, refl)
+
+pub short-at-determined : Determined short-at.ended short-at-reads.Pre short-at-reads.Post
+short-at-determined κs a pre r₁ r₂ w₁ w₂ p q = (p ∙ sym q, refl)
 
 pub varint-len-determined : Determined varint-len.ended varint-len-reads.Pre varint-len-reads.Post
 varint-len-determined κs a pre r₁ r₂ w₁ w₂ p q = (p ∙ sym q, refl)

@@ -41,15 +41,15 @@ turn p =
     let l = p .before .before .before .before .before .loop in
     let e : a .degree - l .k ≡ suc (a .degree - (l .k + 1)) = omega arith in
     fill-turn (a .g .now) (l .i) (l .hi) (l .inv .2 .0) (a .degree - (l .k + 1)) (rw e at (l .inv .2 .1)) _ _
-    (sym (p .before .before .before .difference .ensures) ∙ p .before .value .given .1)
+    (sym (p .before .before .before .short-at .ensures) ∙ p .before .value .given .1)
 
 loop-holds : tie.Need-loop-holds Inv-loop μ-loop
 loop-holds c =
     let a = c .before .before .args in
     (omega arith, omega arith, (0, rw sub-zero (c .before .before .pre .0), rw sub-zero (start (a .out .now) 0 (bytesOf (partnersOf (walkFrom false (a .degree) (a .g .now) (a .at) 0 0))))))
 
-difference-requires : tie.Need-difference-requires Inv-loop μ-loop
-difference-requires c κs = search needs
+short-at-requires : tie.Need-short-at-requires Inv-loop μ-loop
+short-at-requires c κs = search needs
 
 enum-known-value : tie.Need-enum-known-value Inv-loop μ-loop
 enum-known-value c = search needs
@@ -105,7 +105,7 @@ returns c =
     let a = c .before .before .before .before .before .before .before .args in
     let l = c .before .before .before .before .loop in
     let e : a .degree - l .k ≡ suc (a .degree - (l .k + 1)) = omega arith in
-    absurd (fill-read (a .g .now) (l .i) (l .hi) (l .inv .2 .0) (a .degree - (l .k + 1)) (rw e at (l .inv .2 .1)) _ (sym (c .before .before .difference .ensures) ∙ c .enum-told .given .1))
+    absurd (fill-read (a .g .now) (l .i) (l .hi) (l .inv .2 .0) (a .degree - (l .k + 1)) (rw e at (l .inv .2 .1)) _ (sym (c .before .before .short-at .ensures) ∙ c .enum-told .given .1))
 
 same-length-2 : tie.Need-same-length-2 Inv-loop μ-loop
 same-length-2 c = c .before .loop .inv .2 .2 .same
@@ -127,7 +127,7 @@ fill-split-spec =
     Inv-loop
     μ-loop
     loop-holds
-    difference-requires
+    short-at-requires
     enum-known-value
     add-hi
     put-be64-requires
