@@ -27,10 +27,14 @@ use Rattle.codes.proofs.ids.compare as compare
 use Rattle.codes.proofs.ids.compare.Reads as compare-reads
 use Rattle.codes.proofs.ids.put_be as put-be
 use Rattle.codes.proofs.ids.put_be.Reads as put-be-reads
+use Rattle.codes.proofs.ids.put_be64 as put-be64
+use Rattle.codes.proofs.ids.put_be64.Reads as put-be64-reads
 use Rattle.codes.proofs.ids.put_id as put-id
 use Rattle.codes.proofs.ids.put_id.Reads as put-id-reads
 use Rattle.codes.proofs.varint.varint_at as varint-at
 use Rattle.codes.proofs.varint.varint_at.Reads as varint-at-reads
+use Rattle.codes.proofs.varint.short_at as short-at
+use Rattle.codes.proofs.varint.short_at.Reads as short-at-reads
 use Rattle.codes.proofs.varint.varint_len as varint-len
 use Rattle.codes.proofs.varint.varint_len.Reads as varint-len-reads
 use Rattle.codes.proofs.varint.put_varint as put-varint
@@ -72,11 +76,17 @@ compare-determined κs a pre r₁ r₂ w₁ w₂ p q = (p ∙ sym q, refl)
 pub put-be-determined : Determined put-be.ended put-be-reads.Pre put-be-reads.Post
 put-be-determined κs a pre r₁ r₂ w₁ w₂ p q = (refl, ap (λ (l : List ℕ). (l, (tt {0}, (tt {0}, (tt {0}, tt {0}))))) (p ∙ sym q))
 
+pub put-be64-determined : Determined put-be64.ended put-be64-reads.Pre put-be64-reads.Post
+put-be64-determined κs a pre r₁ r₂ w₁ w₂ p q = (refl, ap (λ (l : List ℕ). (l, (tt {0}, (tt {0}, tt {0})))) (p ∙ sym q))
+
 pub put-id-determined : Determined put-id.ended put-id-reads.Pre put-id-reads.Post
 put-id-determined κs a pre r₁ r₂ w₁ w₂ p q = (refl, ap (λ (l : List ℕ). (l, (tt {0}, (tt {0}, tt {0})))) (p ∙ sym q))
 
 pub varint-at-determined : Determined varint-at.ended varint-at-reads.Pre varint-at-reads.Post
 varint-at-determined κs a pre r₁ r₂ w₁ w₂ p q = (p ∙ sym q, refl)
+
+pub short-at-determined : Determined short-at.ended short-at-reads.Pre short-at-reads.Post
+short-at-determined κs a pre r₁ r₂ w₁ w₂ p q = (p ∙ sym q, refl)
 
 pub varint-len-determined : Determined varint-len.ended varint-len-reads.Pre varint-len-reads.Post
 varint-len-determined κs a pre r₁ r₂ w₁ w₂ p q = (p ∙ sym q, refl)

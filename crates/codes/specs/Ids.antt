@@ -18,6 +18,11 @@ unfoldable pub beBytes : ℕ → ℕ → List ℕ
 beBytes zero x = []
 beBytes (suc n) x = beBytes n (x / 256) ++ (x % 256 ∷ [])
 
+-- y, and below it the n low bytes of x, the lowest first
+unfoldable pub turned : ℕ → ℕ → ℕ → ℕ
+turned zero x y = y
+turned (suc n) x y = turned n (x / 256) (y * 256 + x % 256)
+
 -- the id at i, as its number
 unfoldable pub idAt : List ℕ → ℕ → ℕ
 idAt s i = beAt s i 16

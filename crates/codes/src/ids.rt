@@ -3,8 +3,9 @@ ghost use mathlib.Core.Path.{_≡_};
 ghost use Prim.Native.Nat.{_+_, _≤_, _<_};
 ghost use lib.ListN.{length};
 ghost use lib.Seq.{sets};
-ghost use Rattle.codes.specs.Ids.{beAt, beBytes, idAt, numberOf, idBytes, halvesAt, order};
-use super::little::byte;
+ghost use Rattle.codes.specs.Ids.{beAt, beBytes, turned, idAt, numberOf, idBytes, halvesAt, order};
+use super::little::le64;
+use super::little::put_le;
 
 pub enum Order {
     Less,
@@ -18,24 +19,21 @@ pub struct Id {
     pub lo: u64,
 }
 
-// x is the number of the n bytes at `at`: here it is with one byte more below.
-fn below(s: &[u8], at: usize, n: usize, x: u64) -> u64
-    requires { ⌜ (n < 8) × (at + n < length (now s)) × (x ≡ beAt (now s) at n) ⌝ }
-    ensures { λ r. ⌜ r ≡ beAt (now (s .entry)) at (n + 1) ⌝ }
+// The number with its eight bytes in the other order: one instruction.
+fn swap(x: u64) -> u64
+    ensures { λ r. ⌜ r ≡ turned 8 x 0 ⌝ }
 {
-    x * 256 + byte(s, at + n)
-}
-
-fn be32(s: &[u8], at: usize) -> u64
-    requires { ⌜ at + 4 ≤ length (now s) ⌝ }
-    ensures { λ r. ⌜ r ≡ beAt (now (s .entry)) at 4 ⌝ }
-{
-    below(
-        s,
-        at,
-        3,
-        below(s, at, 2, below(s, at, 1, below(s, at, 0, 0))),
-    )
+    let b = x / 256;
+    let c = b / 256;
+    let d = c / 256;
+    let e = d / 256;
+    let f = e / 256;
+    let g = f / 256;
+    let h = g / 256;
+    let p = x % 256 * 256 + b % 256;
+    let q = (p * 256 + c % 256) * 256 + d % 256;
+    let r = (q * 256 + e % 256) * 256 + f % 256;
+    (r * 256 + g % 256) * 256 + h % 256
 }
 
 // The big-endian number of the eight bytes at `at`: one load and a swap.
@@ -43,8 +41,7 @@ pub fn be64(s: &[u8], at: usize) -> u64
     requires { ⌜ at + 8 ≤ length (now s) ⌝ }
     ensures { λ r. ⌜ r ≡ beAt (now (s .entry)) at 8 ⌝ }
 {
-    let x = below(s, at, 5, below(s, at, 4, be32(s, at)));
-    below(s, at, 7, below(s, at, 6, x))
+    swap(le64(s, at))
 }
 
 // The id at `at`.
@@ -90,11 +87,19 @@ pub fn put_be(out: &mut [u8], at: usize, n: usize, x: u64)
     }
 }
 
+// Writes the eight bytes of x at `at`, the highest first: a swap and one store.
+pub fn put_be64(out: &mut [u8], at: usize, x: u64)
+    requires { ⌜ at + 8 ≤ length (now out) ⌝ }
+    ensures { λ _. ⌜ now (out .exit) ≡ sets (now (out .entry)) at (beBytes 8 x) ⌝ }
+{
+    put_le(out, at, 8, swap(x));
+}
+
 // Writes the id at `at`.
 pub fn put_id(out: &mut [u8], at: usize, id: Id)
     requires { ⌜ at + 16 ≤ length (now out) ⌝ }
     ensures { λ _. ⌜ now (out .exit) ≡ sets (now (out .entry)) at (idBytes id) ⌝ }
 {
-    put_be(out, at, 8, id.hi);
-    put_be(out, at + 8, 8, id.lo);
+    put_be64(out, at, id.hi);
+    put_be64(out, at + 8, id.lo);
 }

@@ -70,17 +70,42 @@ pub fn varint_at(s: &[u8], at: usize) -> Varint
     Varint::Bad { why: Unread::Large }
 }
 
-// How many bytes the number takes.
+// The same, but a number of one byte or two is read without a call. All else, every fault too, is left to `varint_at`.
+pub fn short_at(s: &[u8], at: usize) -> Varint
+    ensures { λ r. ⌜ r ≡ varintAt (now (s .entry)) at ⌝ }
+{
+    if at < s.len() {
+        let b = s[at] as u64;
+        if b < 128 {
+            return Varint::Value {
+                value: b,
+                next: at + 1,
+            };
+        }
+        if at + 1 < s.len() {
+            let c = s[at + 1] as u64;
+            if 1 <= c {
+                if c < 128 {
+                    return Varint::Value {
+                        value: b % 128 + 128 * c,
+                        next: at + 2,
+                    };
+                }
+            }
+        }
+    }
+    varint_at(s, at)
+}
+
+// How many bytes the number takes: seven bits to a byte, from its highest bit that is set. No loop, as no processor foresees
+// how many turns one would take.
 pub fn varint_len(x: u64) -> usize
     ensures { λ r. ⌜ r ≡ length (varBytes x) ⌝ }
 {
-    let mut y = x;
-    let mut n: usize = 1;
-    while 128 <= y {
-        y = y / 128;
-        n = n + 1;
+    if x == 0 {
+        return 1;
     }
-    n
+    (70 - u64::leading_zeros(x) as usize) / 7
 }
 
 // Writes the number at `at`, and answers the place after it.

@@ -3,7 +3,7 @@ ghost use mathlib.Core.Path.{_≡_};
 ghost use Rattle.group.specs.Group.{headOf};
 use super::fault::Fault;
 use codes::varint::Varint;
-use codes::varint::varint_at;
+use codes::varint::short_at;
 
 // The degree and where the payload begins, by the tag.
 pub enum Head {
@@ -16,7 +16,7 @@ pub enum Head {
 pub fn head_of(g: &[u8]) -> Head
     ensures { λ r. ⌜ r ≡ headOf (now (g .entry)) ⌝ }
 {
-    match varint_at(g, 0) {
+    match short_at(g, 0) {
         Varint::Value { value, next } => {
             if value == 0 {
                 return Head::Bad {

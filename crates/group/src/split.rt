@@ -7,17 +7,15 @@ ghost use lib.ListN.{length};
 ghost use lib.Dec.{leb};
 ghost use Rattle.base.specs.Over.{over};
 ghost use Rattle.codes.specs.Ids.{numberOf};
-ghost use Rattle.codes.specs.Varint.{varintAt};
 ghost use Rattle.group.specs.Group.{splitStep, floorOf, walkFrom, answerOf, isGood, partnersOf, bytesOf};
 use super::Group;
 use super::above;
 use super::fault::Fault;
 use codes::ids::Id;
-use codes::ids::put_be;
+use codes::ids::put_be64;
 use codes::little::le64;
-use codes::varint::Unread;
 use codes::varint::Varint;
-use codes::varint::varint_at;
+use codes::varint::short_at;
 
 // A partner and the place after it, or what is wrong there.
 pub enum Step {
@@ -25,28 +23,11 @@ pub enum Step {
     Bad { fault: Fault },
 }
 
-// The varint at i. Most differences are of one byte: these are read here, without a call.
-fn difference(g: &[u8], i: usize) -> Varint
-    ensures { λ r. ⌜ r ≡ varintAt (now (g .entry)) i ⌝ }
-{
-    if g.len() <= i {
-        return Varint::Bad { why: Unread::Cut };
-    }
-    let b = g[i] as u64;
-    if b < 128 {
-        return Varint::Value {
-            value: b,
-            next: i + 1,
-        };
-    }
-    varint_at(g, i)
-}
-
 // The partner at i, after one with the upper half hi; the first comes after 0.
 pub fn split_step(g: &[u8], i: usize, hi: u64) -> Step
     ensures { λ r. ⌜ r ≡ splitStep (now (g .entry)) i hi ⌝ }
 {
-    match difference(g, i) {
+    match short_at(g, i) {
         Varint::Value { value, next } => {
             if 18446744073709551615 - hi < value {
                 return Step::Bad {
@@ -115,8 +96,7 @@ pub fn check_split(g: &[u8], at: usize, degree: u64) -> Group
     }
 }
 
-// Writes the partners from `at` on, which were checked. The upper half is written before the lower half is read: so
-// the compiler makes one store of each, where 16 stores of a byte in a row would stay 16.
+// Writes the partners from `at` on, which were checked.
 pub fn fill_split(g: &[u8], at: usize, degree: u64, out: &mut [u8])
     requires { ⌜ (isGood (walkFrom false degree (now g) at 0 0) ≡ true) × (16 * degree ≤ length (now out)) ⌝ }
     ensures { λ _. ⌜ now (out .exit) ≡ over (bytesOf (partnersOf (walkFrom false degree (now (g .entry)) at 0 0))) (now (out .entry)) ⌝ }
@@ -126,12 +106,12 @@ pub fn fill_split(g: &[u8], at: usize, degree: u64, out: &mut [u8])
     let mut to: usize = 0;
     let mut hi: u64 = 0;
     while k < degree {
-        match difference(g, i) {
+        match short_at(g, i) {
             Varint::Value { value, next } => {
                 hi = hi + value;
-                put_be(out, to, 8, hi);
+                put_be64(out, to, hi);
                 let lower = le64(g, next);
-                put_be(out, to + 8, 8, lower);
+                put_be64(out, to + 8, lower);
                 i = next + 8;
                 to = to + 16;
                 k = k + 1;

@@ -4,7 +4,7 @@ use Prim.Native.Nat.{ℕ, zero, suc, _+_, _-_, _*_, _/_, _%_, _^_, _≤_, _<_}
 use native.Mathlib.Nat.{lt-of-lt-of-le, pow-le-pow-right, pow-suc, zero-lt-suc, add-zero, add-suc, add-assoc, add-mul, mul-assoc, div-add-mod', div-lt-iff-lt-mul}
 use native.Mathlib.Numerals.{add-one}
 use native.Mathlib.Omega.{arith}
-use mathlib.Core.List.{List, [], _∷_, _++_, append-assoc}
+use mathlib.Core.List.{List, [], _∷_, _++_, append-assoc, append-nil}
 use lib.ListN.{length, getD, set, length-append}
 use lib.Seq.{sets, getD-append-add, getD-at, append-snoc}
 use Rattle.base.specs.Over.{sets-snoc, sets-append}
@@ -14,7 +14,9 @@ use lib.Dec.{lit<, ltb}
 use borrow.Author.Tests.{lt-ltb, le-ltb}
 use Rattle.codes.specs.declared.ids.Order.{Order}
 use Rattle.codes.specs.declared.ids.Id.{Id}
-use Rattle.codes.specs.Ids.{beAt, idAt, order, halvesAt, numberOf, beBytes, idBytes}
+use Rattle.codes.specs.Ids.{beAt, idAt, order, halvesAt, numberOf, beBytes, idBytes, turned}
+use Rattle.codes.specs.Little.{leAt, leBytes}
+use Rattle.codes.specs.Little.Laws.{leAt-low, leBytes-zero}
 
 pub beAt-zero : (s : List ℕ) (i : ℕ) → beAt s i 0 ≡ 0
 unfolding beAt
@@ -58,11 +60,6 @@ greater {m} {n} h = simp (le-ltb m n (omega arith), lt-ltb n m h)
 pub equal : {m n : ℕ} → m ≡ n → order m n ≡ Order.Equal
 unfolding order
 equal {m} {n} h = simp (le-ltb m n (omega arith), le-ltb n m (omega arith))
-
--- one byte more below
-pub beAt-below : (s : List ℕ) (i n x b : ℕ) → x ≡ beAt s i n → b ≡ getD s (i + n) 0 → x * 256 + b ≡ beAt s i (n + 1)
-unfolding beAt
-beAt-below s i n x b p q = rw (add-one, p, q)
 
 -- the upper halves decide
 pub upper : {p q : ℕ} (v w : ℕ) → p < q → v < 2 ^ 64 → p * 2 ^ 64 + v < q * 2 ^ 64 + w
@@ -134,3 +131,33 @@ halves-back q r d a b =
     let hi : beAt (q ++ ((u ++ v) ++ r)) (length q) 8 ≡ d .hi = rw one (beAt-back 8 q (v ++ r) (d .hi) a) in
     let lo : beAt (q ++ ((u ++ v) ++ r)) (length q + 8) 8 ≡ d .lo = rw (two, ← len) (beAt-back 8 (q ++ u) r (d .lo) b) in
     (λ j. record { hi = hi j; lo = lo j })
+
+-- ---- the other order
+
+-- the bytes after the first m, moved over
+pub turned-at : (s : List ℕ) → ((j : ℕ) → getD s j 0 < 256) → (i n m : ℕ) → turned n (leAt s (i + m) n) (beAt s i m) ≡ beAt s i (m + n)
+unfolding turned beAt
+turned-at s b i zero m = rw add-zero
+turned-at s b i (suc n) m =
+    let lowest : leAt s (i + m) (suc n) ≡ leAt s (i + m + 1) n * 256 + getD s (i + m) 0 = leAt-low s (i + m) n in
+    let over : leAt s (i + m) (suc n) / 256 ≡ leAt s (i + suc m) n = omega (arith, lowest, b (i + m), ap (λ (t : ℕ). leAt s t n) (let e : i + m + 1 ≡ i + suc m = omega arith in e)) in
+    let digit : leAt s (i + m) (suc n) % 256 ≡ getD s (i + m) 0 = omega (arith, lowest, b (i + m)) in
+    let k : suc m + n ≡ m + suc n = omega arith in
+    rw (over, digit) (rw k at (turned-at s b i n (suc m)))
+
+pub turned-le : (s : List ℕ) → ((j : ℕ) → getD s j 0 < 256) → (i : ℕ) → turned 8 (leAt s i 8) 0 ≡ beAt s i 8
+turned-le s b i = rw (add-zero, beAt-zero) at (turned-at s b i 8 0)
+
+-- and the bytes of the number so made, the lowest first
+pub turned-bytes : (n m x y : ℕ) → leBytes (m + n) (turned n x y) ≡ beBytes n x ++ leBytes m y
+unfolding turned beBytes leBytes
+turned-bytes zero m x y = rw add-zero
+turned-bytes (suc n) m x y =
+    let k : m + suc n ≡ suc m + n = omega arith in
+    let d : (y * 256 + x % 256) % 256 ≡ x % 256 = omega arith in
+    let q : (y * 256 + x % 256) / 256 ≡ y = omega arith in
+    let ih = turned-bytes n (suc m) (x / 256) (y * 256 + x % 256) in
+    rw k ((rw (d, q) at ih) ∙ sym (append-snoc (beBytes n (x / 256)) (x % 256) (leBytes m y)))
+
+pub turned-put : (x : ℕ) → leBytes 8 (turned 8 x 0) ≡ beBytes 8 x
+turned-put x = turned-bytes 8 0 x 0 ∙ ap (λ (t : List ℕ). beBytes 8 x ++ t) (leBytes-zero 0) ∙ append-nil (beBytes 8 x)

@@ -2,7 +2,7 @@
 use mathlib.Core.Path.{_≡_, refl, sym, ap, ap₂, _∙_}
 use Prim.Native.Nat.{ℕ, zero, suc, _+_, _-_, _*_, _/_, _%_, _^_, _≤_, _<_}
 use native.Mathlib.Nat.{le-trans, lt-of-lt-of-le, pow-le-pow-right, pow-suc, div-add-mod', div-lt-iff-lt-mul, zero-lt-suc, mul-assoc, mul-comm, add-assoc, one-mul, not-le-of-lt, add-mul, zero-mul}
-use native.Mathlib.Decide.{decLe, decLt}
+use native.Mathlib.Decide.{decLe, decLt, ℕ-discrete}
 use native.Mathlib.Numerals.{add-one}
 use native.Mathlib.Omega.{arith}
 use mathlib.Core.List.{List, [], _∷_, _++_}
@@ -57,6 +57,27 @@ module _ (s : List ℕ) (i x m : ℕ) where
       pub from-large : 2 ^ 64 ≤ x + getD s i 0 * m → varFrom (suc f) s i x m ≡ Bad Large
       unfolding lastByte
       from-large b = from-last g ∙ simp (ne-eqb (getD s i 0) 0 ne, le-ltb (x + getD s i 0 * m) (2 ^ 64) b)
+
+-- ---- a number of one byte, and of two
+
+module _ (s : List ℕ) (i : ℕ) where
+  pub varint-one : i < length s → getD s i 0 < 128 → varintAt s i ≡ Value (getD s i 0) (i + 1)
+  varint-one h g =
+      let x : ℕ = getD s i 0 in
+      let same : 0 + x * 1 ≡ x = omega arith in
+      elim (ℕ-discrete x 0) [
+        | yes z ↦ varint-from s i ∙ from-zero s i 0 1 9 h z (omega arith) ∙ ap (λ (t : ℕ). Value t (i + 1)) (sym z)
+        | no z ↦ varint-from s i ∙ from-value s i 0 1 9 h g z (omega arith) ∙ ap (λ (t : ℕ). Value t (i + 1)) same
+      ]
+
+  pub varint-two : i + 1 < length s → 128 ≤ getD s i 0 → 1 ≤ getD s (i + 1) 0 → getD s (i + 1) 0 < 128
+      → varintAt s i ≡ Value (getD s i 0 % 128 + 128 * getD s (i + 1) 0) (i + 2)
+  varint-two h g some b =
+      let x : ℕ = 0 + getD s i 0 % 128 * 1 in
+      let e : x + getD s (i + 1) 0 * (1 * 128) ≡ getD s i 0 % 128 + 128 * getD s (i + 1) 0 = omega arith in
+      let k : i + 1 + 1 ≡ i + 2 = omega arith in
+      varint-from s i ∙ from-more s i 0 1 9 (omega arith) g
+      ∙ from-value s (i + 1) x (1 * 128) 8 h b (λ z. omega arith) (omega arith) ∙ ap₂ (λ (v n : ℕ). Value v n) e k
 
 -- ---- the definition of writing, case by case
 

@@ -18,27 +18,12 @@ use Rattle.codes.specs.Little.{leAt}
 use Rattle.codes.specs.Ids.{halvesAt, numberOf, idBytes}
 use Rattle.codes.specs.Ids.Laws.{length-idBytes, upper}
 use Rattle.codes.specs.Varint.{varintAt}
-use Rattle.codes.specs.Varint.Laws.{varint-next, varint-from, from-cut, from-zero, from-value}
+use Rattle.codes.specs.Varint.Laws.{varint-next}
 use Rattle.group.specs.declared.fault.Fault.{Fault}
 use Rattle.group.specs.declared.head.Head.{Head}
 use Rattle.group.specs.declared.split.Step.{Step}
 use Rattle.group.specs.declared.Group.{Group}
 use Rattle.group.specs.Group.{Partners, good, bad, onVarint, splitStep, denseStep, stepAt, onStep, cons, walkFrom, floorOf, degreeOf, headOf, onHead, groupOf, isGood, partnersOf, bytesOf, answerOf}
-
--- ---- a varint of at most one byte
-
-module _ (g : List ℕ) (i : ℕ) where
-  pub varint-none : length g ≤ i → varintAt g i ≡ Varint.Bad Unread.Cut
-  varint-none h = varint-from g i ∙ from-cut g i 0 1 9 h
-
-  pub varint-short : i < length g → getD g i 0 < 128 → varintAt g i ≡ Value (getD g i 0) (i + 1)
-  varint-short h s =
-      let x : ℕ = getD g i 0 in
-      let same : 0 + x * 1 ≡ x = omega arith in
-      elim (ℕ-discrete x 0) [
-        | yes z ↦ varint-from g i ∙ from-zero g i 0 1 9 h z (omega arith) ∙ ap (λ (t : ℕ). Value t (i + 1)) (sym z)
-        | no z ↦ varint-from g i ∙ from-value g i 0 1 9 h s z (omega arith) ∙ ap (λ (t : ℕ). Value t (i + 1)) same
-      ]
 
 -- ---- a partner of a split group
 

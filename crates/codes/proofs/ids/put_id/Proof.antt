@@ -4,14 +4,14 @@ use Rattle.codes.specs.Ids.Laws.{put-halves}
 use Rattle.codes.proofs.ids.put_id.Statement.{statement}
 use Rattle.codes.proofs.ids.put_id.Tie as tie
 
-put-be-requires : tie.Need-put-be-requires
-put-be-requires c κs = search needs
+put-be64-requires : tie.Need-put-be64-requires
+put-be64-requires c κs = search needs
 
-add-put-be : tie.Need-add-put-be
-add-put-be c = search needs
+add-put-be64 : tie.Need-add-put-be64
+add-put-be64 c = search needs
 
-put-be-requires-2 : tie.Need-put-be-requires-2
-put-be-requires-2 c κs = search needs
+put-be64-requires-2 : tie.Need-put-be64-requires-2
+put-be64-requires-2 c κs = search needs
 
 same-length : tie.Need-same-length
 same-length c = search needs
@@ -22,4 +22,4 @@ returns c =
     cc (put-halves (a .out .now) (a .at) (a .id))
 
 pub put-id-spec : {M : Type 1} → statement M
-put-id-spec = tie.close (tie.spec put-be-requires add-put-be put-be-requires-2 same-length returns)
+put-id-spec = tie.close (tie.spec put-be64-requires add-put-be64 put-be64-requires-2 same-length returns)

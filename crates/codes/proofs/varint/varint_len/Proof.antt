@@ -1,47 +1,59 @@
--- `codes::varint::varint_len` meets its contract. Invariant: n, with the bytes of y, is one more than the bytes of x.
+-- `codes::varint::varint_len` meets its contract: j / 7 + 1 bytes, where 2 ^ j is the highest power of two in x.
 use mathlib.Core.Path.{_≡_, _∙_, ap, sym, refl}
-use Prim.Native.Nat.{ℕ, suc, _+_, _-_, _*_, _/_, _%_, _^_, _≤_, _<_}
-use native.Mathlib.Nat.{sub-self}
+use native.Mathlib.Decide.{decLe}
+use Prim.Native.Nat.{ℕ, zero, suc, _+_, _-_, _*_, _/_, _%_, _^_, _≤_, _<_}
 use native.Mathlib.Omega.{arith}
-use mathlib.Core.List.{List}
-use lib.ListN.{length, length-set, set}
-use lib.Seq.{sets}
+use lib.ListN.{length}
+use lib.Pow.{pow-mono, pow-add}
+use lib.Count.{leadingZeros, leading-le, leading-top}
 use Rattle.codes.specs.Varint.{bytesFrom, varBytes}
-use Rattle.codes.specs.Varint.Laws.{bytes-from, bytes-last, bytes-more, bytes-left, length-more, length-last}
+use Rattle.codes.specs.Varint.Laws.{bytes-from, length-more, length-last}
 use Rattle.codes.proofs.varint.varint_len.Statement.{statement}
 use Rattle.codes.proofs.varint.varint_len.Tie as tie
 
-abbrev Inv-loop : tie.InvT-loop
-Inv-loop x y₀ n₀ y n = (1 ≤ n) × (n ≤ 10) × (y < 128 ^ (11 - n)) × (n + length (bytesFrom (10 - n) y) ≡ length (varBytes x) + 1)
+bits : (f x j : ℕ) → 2 ^ j ≤ x → x < 2 ^ suc j → j < 7 * suc f → length (bytesFrom f x) ≡ j / 7 + 1
+bits zero x j lo hi b =
+    let m : 2 ^ suc j ≤ 2 ^ 7 = pow-mono {i = suc j} {j = 7} (omega arith) in
+    omega (arith, length-last 0 x (omega arith))
+bits (suc f) x j lo hi b =
+    elim (decLe 128 x) [
+      | yes q ↦
+          elim (decLe 7 j) [
+            | yes r ↦
+                let k : ℕ = j - 7 in
+                let e : 2 ^ j ≡ 2 ^ k * 2 ^ 7 = ap (λ (t : ℕ). 2 ^ t) (omega arith) ∙ pow-add 2 k 7 in
+                let g : 2 ^ suc j ≡ 2 ^ suc k * 2 ^ 7 = ap (λ (t : ℕ). 2 ^ t) (omega arith) ∙ pow-add 2 (suc k) 7 in
+                let ih = bits f (x / 128) k (omega arith) (omega arith) (omega arith) in
+                omega (arith, length-more f x q, ih)
+            | no r ↦
+                let m : 2 ^ suc j ≤ 2 ^ 7 = pow-mono {i = suc j} {j = 7} (omega arith) in
+                omega arith
+          ]
+      | no q ↦
+          elim (decLe 7 j) [
+            | yes r ↦
+                let m : 2 ^ 7 ≤ 2 ^ j = pow-mono {i = 7} {j = j} r in
+                omega arith
+            | no r ↦ omega (arith, length-last (suc f) x (omega arith))
+          ]
+    ]
 
-abbrev μ-loop : tie.MeasureT-loop
-μ-loop x y₀ n₀ y n = y
+counted : (x : ℕ) → zero < x → x < 2 ^ 64 → (70 - leadingZeros 64 x) / 7 ≡ length (varBytes x)
+counted x p h =
+    let (j, e, lo, hi) = leading-top 64 x p h in
+    omega (arith, ap length (bytes-from x), bits 9 x j lo hi (omega arith))
 
-loop-holds : tie.Need-loop-holds Inv-loop μ-loop
-loop-holds c = (omega arith, omega arith, omega (arith, c .fits .x), rw (bytes-from (c .args .x)) (omega arith))
+returns : tie.Need-returns
+returns c = let z : c .before .args .x ≡ 0 = omega arith in rw (z, bytes-from 0) (sym (length-last 9 0 (omega arith)))
 
-add-n : tie.Need-add-n Inv-loop μ-loop
-add-n c = omega arith
+cast-result : tie.Need-cast-result
+cast-result c = omega (arith, leading-le 64 (c .before .args .x))
 
-loop-less : tie.Need-loop-less Inv-loop μ-loop
-loop-less c = omega arith
+sub-result : tie.Need-sub-result
+sub-result c = omega (arith, leading-le 64 (c .before .args .x))
 
-loop-again : tie.Need-loop-again Inv-loop μ-loop
-loop-again c =
-    let l = c .before .loop in
-    let e : 11 - l .n ≡ suc (10 - l .n) = omega arith in
-    let (g, f, b) = bytes-left (10 - l .n) (l .y) (omega arith) (rw e at (l .inv .2)) in
-    let k : 10 - (l .n + 1) ≡ g = omega arith in
-    let k2 : 11 - (l .n + 1) ≡ suc g = omega arith in
-    let m : l .n + suc (length (bytesFrom g (l .y / 128))) ≡ length (varBytes (c .before .before .args .x)) + 1 =
-    (rw (f, length-more g (l .y) (omega arith)) at (l .inv .3)) in
-    (omega arith, omega arith, rw k2 b, rw k (omega arith))
-
-returns : tie.Need-returns Inv-loop μ-loop
-returns c =
-    let l = c .before .loop in
-    omega (arith, length-last (10 - l .n) (l .y) (omega arith))
+returns-2 : tie.Need-returns-2
+returns-2 c = counted (c .before .args .x) (omega arith) (c .before .fits .x .fits)
 
 pub varint-len-spec : {M : Type 1} → statement M
-varint-len-spec =
-    tie.close (tie.spec Inv-loop μ-loop loop-holds add-n loop-less loop-again returns)
+varint-len-spec = tie.close (tie.spec returns cast-result sub-result returns-2)

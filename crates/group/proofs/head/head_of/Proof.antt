@@ -9,10 +9,10 @@ use Rattle.group.proofs.head.head_of.Tie as tie
 
 -- the degree that was read
 got : (p : tie.After-known-told) → varintAt (p .before .before .before .before .before .args .g .now) 0 ≡ Value (p .before .value .given .0 .0) (p .before .value .given .0 .1 .0)
-got p = sym (p .before .before .before .varint-at .ensures) ∙ p .before .value .given .1
+got p = sym (p .before .before .before .short-at .ensures) ∙ p .before .value .given .1
 
-varint-at-requires : tie.Need-varint-at-requires
-varint-at-requires c κs = search needs
+short-at-requires : tie.Need-short-at-requires
+short-at-requires c κs = search needs
 
 enum-known-value : tie.Need-enum-known-value
 enum-known-value c = search needs
@@ -70,13 +70,13 @@ returns-5 c =
     sym (head-tag (a .g .now) d n (got p) (c .before .before .before .before .if1 .left) (c .before .before .before .if2 .left) (c .before .if3 .left) (c .if4 .left))
 
 returns-6 : tie.Need-returns-6
-returns-6 c = sym (head-unread (c .before .before .before .before .before .args .g .now) _ (sym (c .before .before .before .varint-at .ensures) ∙ c .before .why .given .1))
+returns-6 c = sym (head-unread (c .before .before .before .before .before .args .g .now) _ (sym (c .before .before .before .short-at .ensures) ∙ c .before .why .given .1))
 
 pub head-of-spec : {M : Type 1} → statement M
 head-of-spec =
     tie.close
     (tie.spec
-    varint-at-requires
+    short-at-requires
     enum-known-value
     returns
     returns-2

@@ -41,15 +41,15 @@ turn p =
     let l = p .before .before .before .before .before .loop in
     let e : a .degree - l .k ≡ suc (a .degree - (l .k + 1)) = omega arith in
     fill-turn (a .g .now) (l .i) (l .hi) (l .inv .2 .0) (a .degree - (l .k + 1)) (rw e at (l .inv .2 .1)) _ _
-    (sym (p .before .before .before .difference .ensures) ∙ p .before .value .given .1)
+    (sym (p .before .before .before .short-at .ensures) ∙ p .before .value .given .1)
 
 loop-holds : tie.Need-loop-holds Inv-loop μ-loop
 loop-holds c =
     let a = c .before .before .args in
     (omega arith, omega arith, (0, rw sub-zero (c .before .before .pre .0), rw sub-zero (start (a .out .now) 0 (bytesOf (partnersOf (walkFrom false (a .degree) (a .g .now) (a .at) 0 0))))))
 
-difference-requires : tie.Need-difference-requires Inv-loop μ-loop
-difference-requires c κs = search needs
+short-at-requires : tie.Need-short-at-requires Inv-loop μ-loop
+short-at-requires c κs = search needs
 
 enum-known-value : tie.Need-enum-known-value Inv-loop μ-loop
 enum-known-value c = search needs
@@ -57,19 +57,19 @@ enum-known-value c = search needs
 add-hi : tie.Need-add-hi Inv-loop μ-loop
 add-hi c = let t = turn c in omega (arith, t .fits)
 
-put-be-requires : tie.Need-put-be-requires Inv-loop μ-loop
-put-be-requires c κs =
+put-be64-requires : tie.Need-put-be64-requires Inv-loop μ-loop
+put-be64-requires c κs =
     let l = c .before .before .before .before .before .before .loop in
     omega (arith, l .inv .2 .2 .same)
 
 le64-requires : tie.Need-le64-requires Inv-loop μ-loop
 le64-requires c κs = turn (c .before .before .before .before) .room
 
-add-put-be : tie.Need-add-put-be Inv-loop μ-loop
-add-put-be c = omega (arith, c .before .before .before .before .before .before .before .before .before .before .before .loop .inv .2 .2 .same)
+add-put-be64 : tie.Need-add-put-be64 Inv-loop μ-loop
+add-put-be64 c = omega (arith, c .before .before .before .before .before .before .before .before .before .before .before .loop .inv .2 .2 .same)
 
-put-be-requires-2 : tie.Need-put-be-requires-2 Inv-loop μ-loop
-put-be-requires-2 c κs = omega (arith, c .before .before .before .before .before .before .before .before .before .before .before .loop .inv .2 .2 .same)
+put-be64-requires-2 : tie.Need-put-be64-requires-2 Inv-loop μ-loop
+put-be64-requires-2 c κs = omega (arith, c .before .before .before .before .before .before .before .before .before .before .before .loop .inv .2 .2 .same)
 
 add-i : tie.Need-add-i Inv-loop μ-loop
 add-i c = let t = turn (c .before .before .before .before .before .before .before .before .before) in omega (arith, t .room)
@@ -89,7 +89,7 @@ loop-again c =
     let a = p .before .before .before .before .before .before .before .before .args in
     let l = p .before .before .before .before .before .loop in
     let t = turn p in
-    let w = put-partner (l .out) (l .to) (t .partner) (c .before .before .before .before .before .before .before .put-be .ensures) (c .before .before .put-be2 .ensures) (t .upper) (t .lower ∙ sym (c .before .before .before .before .le64 .ensures)) in
+    let w = put-partner (l .out) (l .to) (t .partner) (c .before .before .before .before .before .before .before .put-be64 .ensures) (c .before .before .put-be642 .ensures) (t .upper) (t .lower ∙ sym (c .before .before .before .before .le64 .ensures)) in
     let e : a .degree - l .k ≡ suc (a .degree - (l .k + 1)) = omega arith in
     let left = rw e at (l .inv .2 .2) in
     (omega arith, omega arith, (suc (numberOf (t .partner)), t .rest, put (is (t .bytes) left) w))
@@ -105,7 +105,7 @@ returns c =
     let a = c .before .before .before .before .before .before .before .args in
     let l = c .before .before .before .before .loop in
     let e : a .degree - l .k ≡ suc (a .degree - (l .k + 1)) = omega arith in
-    absurd (fill-read (a .g .now) (l .i) (l .hi) (l .inv .2 .0) (a .degree - (l .k + 1)) (rw e at (l .inv .2 .1)) _ (sym (c .before .before .difference .ensures) ∙ c .enum-told .given .1))
+    absurd (fill-read (a .g .now) (l .i) (l .hi) (l .inv .2 .0) (a .degree - (l .k + 1)) (rw e at (l .inv .2 .1)) _ (sym (c .before .before .short-at .ensures) ∙ c .enum-told .given .1))
 
 same-length-2 : tie.Need-same-length-2 Inv-loop μ-loop
 same-length-2 c = c .before .loop .inv .2 .2 .same
@@ -127,13 +127,13 @@ fill-split-spec =
     Inv-loop
     μ-loop
     loop-holds
-    difference-requires
+    short-at-requires
     enum-known-value
     add-hi
-    put-be-requires
+    put-be64-requires
     le64-requires
-    add-put-be
-    put-be-requires-2
+    add-put-be64
+    put-be64-requires-2
     add-i
     add-to
     add-k

@@ -26,10 +26,10 @@ long len n b h = omega arith
 
 -- the difference that was read
 got : (p : tie.After-known-told) → varintAt (p .before .before .before .before .before .args .g .now) (p .before .before .before .before .before .args .i) ≡ Value (p .before .value .given .0 .0) (p .before .value .given .0 .1 .0)
-got p = sym (p .before .before .before .difference .ensures) ∙ p .before .value .given .1
+got p = sym (p .before .before .before .short-at .ensures) ∙ p .before .value .given .1
 
-difference-requires : tie.Need-difference-requires
-difference-requires c κs = search needs
+short-at-requires : tie.Need-short-at-requires
+short-at-requires c κs = search needs
 
 enum-known-value : tie.Need-enum-known-value
 enum-known-value c = search needs
@@ -85,13 +85,13 @@ returns-3 c =
     ∙ sym (split-good (a .g .now) (a .i) (a .hi) v n (got p) (keeps (a .hi) v (p .before .before .before .before .before .fits .hi .fits) (c .before .before .if1 .left)) (long _ n next (c .before .if2 .left)))
 
 returns-4 : tie.Need-returns-4
-returns-4 c = let a = c .before .before .before .before .before .args in sym (split-unread (a .g .now) (a .i) (a .hi) _ (sym (c .before .before .before .difference .ensures) ∙ c .before .why .given .1))
+returns-4 c = let a = c .before .before .before .before .before .args in sym (split-unread (a .g .now) (a .i) (a .hi) _ (sym (c .before .before .before .short-at .ensures) ∙ c .before .why .given .1))
 
 pub split-step-spec : {M : Type 1} → statement M
 split-step-spec =
     tie.close
     (tie.spec
-    difference-requires
+    short-at-requires
     enum-known-value
     sub-if1
     returns
