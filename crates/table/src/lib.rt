@@ -174,7 +174,12 @@ fn needed_met(met: [bool; Kinds::READ]) -> bool
 }
 
 // What the frame gives: the body b's counts, and each kind by its slot.
-fn framed_of(b: &[u8], met: [bool; Kinds::READ], places: [Range; Kinds::READ], streams: bool) -> Framed
+fn framed_of(
+    b: &[u8],
+    met: [bool; Kinds::READ],
+    places: [Range; Kinds::READ],
+    streams: bool,
+) -> Framed
     requires { ⌜ 19 ≤ length (now b) ⌝ }
     ensures { λ x. ⌜ x ≡ framedSeen (now (b .entry)) met places streams ⌝ }
 {
