@@ -21,10 +21,10 @@ use Rattle.frame.specs.declared.Row.{Row}
 use Rattle.frame.specs.declared.Opened.{Opened}
 use Rattle.frame.specs.declared.Opening.{Opening}
 use Rattle.frame.specs.Kind as kind
-use Rattle.frame.specs.Frame.{rowsOf, countOf, keyCount, edgeCount, bitsOf, has, twice, sectionOf, kindsGood, flag, flagsOf, widthGood, sizesGood, presenceGood, countsGood, bodyOf, headCheck, footLen}
+use Rattle.frame.specs.Frame.{rowsOf, countOf, keyCount, edgeCount, bitsOf, has, twice, sectionOf, all, kindsGood, flag, flagsOf, widthGood, presenceGood, countsGood, bodyOf, headCheck, footLen}
 use Rattle.frame.specs.Frame.Laws.{Table}
 use Rattle.frame.specs.Open.{Known, knownOf, bytesAt, recordFrom, recordOf, framedFrom, framedOf, contentCheck, offsetsFrom, fencesGood, fileCheck, opening, openOf}
-use Rattle.frame.specs.Open.Laws.{Frames, frames-made}
+use Rattle.frame.specs.Open.Laws.{Frames, frames-made, Sized, sized-made}
 use Rattle.frame.specs.Layout.{Section, Layout, rawSection, headBytes, payload, bodyBytes, trailer, layOut}
 use Rattle.laid_out.specs.Rows.{rowsIn, Small, leAt-at, count-back, body-end, keys-back, edges-back, bits-back, length-body}
 use Rattle.laid_out.specs.Laid.{length-laid, body-back, size-fine, tail-fine, sum-fine, file-rows, ranges-fine}
@@ -64,7 +64,7 @@ module _ (keys w : ℕ) (es : List Edge) (gs : List Group) where
   pub record Table4 (dead fence : Bool) (ss : List Section) : Type 0 where
     pub few : length ss ≤ 6
     pub some : 4 ≤ length ss
-    pub kinds : ((hasKind kind.keys ss && not (twiceKind kind.keys ss)) && ((hasKind kind.offsets ss && not (twiceKind kind.offsets ss)) && ((hasKind kind.partners ss && not (twiceKind kind.partners ss)) && ((hasKind kind.logs ss && not (twiceKind kind.logs ss)) && (not (twiceKind kind.tombstones ss) && not (twiceKind kind.fences ss)))))) ≡ true
+    pub kinds : all (λ (q : kind.Kind). not (twiceKind (q .number) ss) && (not (q .needed) || hasKind (q .number) ss)) kind.kinds ≡ true
     pub marked : hasKind kind.tombstones ss ≡ dead
     pub fences : hasKind kind.fences ss ≡ fence
     pub streams : hasKind kind.properties ss ≡ false
@@ -76,7 +76,7 @@ module _ (keys w : ℕ) (es : List Edge) (gs : List Group) where
     pub fences-are : contentOf kind.fences ss ≡ pick fence (fencesOf (keysIn gs)) []
 
   sections-table : (dead fence : Bool) → Table4 dead fence (raw1 ∷ rawSection kind.offsets (offsetBytes w keys 0 gs) ∷ rawSection kind.partners (partnerBytes keys gs) ∷ rawSection kind.logs (logBytes es) ∷ lastSections dead fence es gs)
-  unfolding lastSections contentOf hasKind twiceKind
+  unfolding all lastSections contentOf hasKind twiceKind
   sections-table true true = record { few = omega arith; some = omega arith; kinds = refl; marked = refl; fences = refl; streams = refl; keys-are = refl; offsets-are = refl; partners-are = refl; logs-are = refl; tombs-are = refl; fences-are = refl }
   sections-table true false = record { few = omega arith; some = omega arith; kinds = refl; marked = refl; fences = refl; streams = refl; keys-are = refl; offsets-are = refl; partners-are = refl; logs-are = refl; tombs-are = refl; fences-are = refl }
   sections-table false true = record { few = omega arith; some = omega arith; kinds = refl; marked = refl; fences = refl; streams = refl; keys-are = refl; offsets-are = refl; partners-are = refl; logs-are = refl; tombs-are = refl; fences-are = refl }
@@ -117,9 +117,9 @@ pub record Written (h : Heading) (es : List Edge) : Type 0 where
   pub way : h .direction ≤ 1
   pub ids : length (h .ids) ≡ 48
   pub order : Grouped 0 (groupsOf es)
-  pub keys : length (groupsOf es) ≤ 16777216
-  pub edges : length es ≤ 67108864
-  pub size : length (fileOf h es) ≤ 2 ^ 30
+  pub keys : length (groupsOf es) ≤ kind.mostKeys
+  pub edges : length es ≤ kind.mostEdges
+  pub size : length (fileOf h es) ≤ kind.mostBytes
 
 module _ (h : Heading) (es : List Edge) (q : Written h es) where
   abbrev gs : List Group
@@ -239,12 +239,7 @@ module _ (h : Heading) (es : List Edge) (q : Written h es) where
         most = omega arith;
         filled = rw body-is (body-end ss n (length es) (8 * w) small);
         names = rw rows (names-fine ss 64 2 raw);
-        kinds = rw rows ((λ j.
-            (has-is kind.keys ss 64 2 j && not (twice-is kind.keys ss 64 2 j))
-            && ((has-is kind.offsets ss 64 2 j && not (twice-is kind.offsets ss 64 2 j))
-            && ((has-is kind.partners ss 64 2 j && not (twice-is kind.partners ss 64 2 j))
-            && ((has-is kind.logs ss 64 2 j && not (twice-is kind.logs ss 64 2 j))
-            && (not (twice-is kind.tombstones ss 64 2 j) && not (twice-is kind.fences ss 64 2 j)))))) ∙ t .kinds);
+        kinds = rw rows ((λ j. all (λ (q : kind.Kind). not (twice-is (q .number) ss 64 2 j) && (not (q .needed) || has-is (q .number) ss 64 2 j)) kind.kinds) ∙ t .kinds);
       }
 
   -- a section's bytes and length, and whether it is there
@@ -267,18 +262,25 @@ module _ (h : Heading) (es : List Edge) (q : Written h es) where
       go true = refl
       go false = refl
 
-  tomb-len : (b : Bool) → (not b || eqb (length (pick b (tombBytes es) [])) ((length es + 7) / 8)) ≡ true
-  tomb-len true = eq-eqb _ _ (length-tombs es)
-  tomb-len false = refl
-
-  sizes : sizesGood n (length es) (8 * w) (length (keyBytes gs)) (length os) (length (logBytes es)) dead (length (pick dead (tombBytes es) [])) ≡ true
-  unfolding sizesGood
-  sizes =
+  sized : Sized (recordOf f)
+  unfolding recordOf recordFrom
+  sized =
       let eight : 8 * w / 8 ≡ w = omega arith in
       let ll = length-logs es in
-      and-both (le-leb n kind.mostKeys (q .keys)) (and-both (le-leb (length es) kind.mostEdges (q .edges)) (and-both width-good
-      (and-both (eq-eqb _ _ (length-keys gs)) (and-both (eq-eqb _ _ (length-offsets w n 0 gs ∙ ap (λ (z : ℕ). (n + 1) * z) (sym eight)))
-      (and-both (eq-eqb (length (logBytes es)) (8 * length es) (omega arith)) (tomb-len dead))))))
+      let few = q .keys in
+      let edges = q .edges in
+      let kc = keycount-is in
+      let ec = edgecount-is in
+      record {
+        few = omega arith;
+        edges = omega arith;
+        keys = len kind.keys ∙ ap length (t .keys-are) ∙ length-keys gs ∙ ap kind.keysLen (sym keycount-is);
+        offsets = len kind.offsets ∙ ap length (t .offsets-are) ∙ length-offsets w n 0 gs
+            ∙ ap₂ kind.offsetsLen (sym keycount-is) (sym (ap (λ (x : ℕ). x / 8) bits-is ∙ eight));
+        logs = len kind.logs ∙ ap length (t .logs-are) ∙ omega arith;
+        dead = λ m. len kind.tombstones ∙ ap length (t .tombs-are ∙ ap (λ (b : Bool). pick b (tombBytes es) []) (sym (t .marked) ∙ sym (there kind.tombstones) ∙ m)) ∙ length-tombs es
+            ∙ ap kind.tombstonesLen (sym edgecount-is);
+      }
 
   -- no keys, no edges
   none-none : (not (eqb n 0) || eqb (length es) 0) ≡ true
@@ -299,19 +301,16 @@ module _ (h : Heading) (es : List Edge) (q : Written h es) where
   implied true = refl
   implied false = refl
 
-  presence : presenceGood flags n (length es) dead fence false ≡ true
-  unfolding presenceGood
+  presence : presenceGood (flagsOf f) (framedOf f) ≡ true
+  unfolding presenceGood framedOf framedFrom recordFrom
   presence =
-      and-both (le-leb n (length es) (groups-count es)) (and-both none-none (and-both (fences-there n)
-      (and-both (ap (λ (b : Bool). Bool·beq b false) (fl .properties)) (ap (λ (b : Bool). not b || dead) (fl .marked) ∙ implied dead))))
+      rw (flags-is, keycount-is, edgecount-is, there kind.tombstones ∙ t .marked, there kind.fences ∙ t .fences, there kind.properties ∙ t .streams)
+      (and-both (le-leb n (length es) (groups-count es)) (and-both none-none (and-both (fences-there n)
+      (and-both (ap (λ (b : Bool). Bool·beq b false) (fl .properties)) (ap (λ (b : Bool). not b || dead) (fl .marked) ∙ implied dead)))))
 
-  counts : countsGood (flagsOf f) (keyCount (bodyOf f)) (edgeCount (bodyOf f)) (bitsOf (bodyOf f)) (rowsOf (bodyOf f)) ≡ true
-  unfolding countsGood
-  counts =
-      (λ j. sizesGood (keycount-is j) (edgecount-is j) (bits-is j) ((len kind.keys ∙ ap length (t .keys-are)) j) ((len kind.offsets ∙ ap length (t .offsets-are)) j)
-      ((len kind.logs ∙ ap length (t .logs-are)) j) ((there kind.tombstones ∙ t .marked) j) ((len kind.tombstones ∙ ap length (t .tombs-are)) j)
-      && presenceGood (flags-is j) (keycount-is j) (edgecount-is j) ((there kind.tombstones ∙ t .marked) j) ((there kind.fences ∙ t .fences) j) ((there kind.properties ∙ t .streams) j))
-      ∙ and-both sizes presence
+  counts : countsGood (flagsOf f) (framedOf f) ≡ true
+  unfolding countsGood framedOf framedFrom recordOf recordFrom
+  counts = and-both (rw bits-is width-good) (and-both (sized-made (recordOf f) sized) presence)
 
   frames : Frames f
   unfolding fileOf layoutOf layoutBy
@@ -379,7 +378,7 @@ module _ (h : Heading) (es : List Edge) (q : Written h es) where
 
   pub file-opens : openOf f ≡ Opening.Good (recordOf f)
   unfolding openOf opening fileCheck
-  file-opens = rw (fine-both (frames-made f frames) content-fine)
+  file-opens = rw (fine-both (frames-made (length f) f f frames) content-fine)
 
   -- ---- the full check
 
@@ -411,7 +410,7 @@ module _ (h : Heading) (es : List Edge) (q : Written h es) where
   pub passes : fullCheck f ≡ Check.Fine
   unfolding fullCheck fileCheck
   passes =
-      fine-both (fine-both (frames-made f frames) content-fine)
+      fine-both (fine-both (frames-made (length f) f f frames) content-fine)
       (fine-both (ap (λ (r : List Row). sumsFrom f r 0) rows ∙ sums-fine ss f head (body ++ trailer body) 64 2 0 raw parts h64) edges-fine)
 
   -- ---- the read-out

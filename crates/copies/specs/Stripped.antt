@@ -21,8 +21,8 @@ use Rattle.frame.specs.declared.Range.{Range}
 use Rattle.frame.specs.declared.Opened.{Opened}
 use Rattle.frame.specs.declared.Opening.{Opening}
 use Rattle.frame.specs.Kind as kind
-use Rattle.frame.specs.Frame.{has, twice, rangeOf, nowhere, sectionOf, all, nameGood, kindsGood, codecGood, codecs, ranges, countOf, rowsOf, endOf, rowsFrom, sizesGood, presenceGood, countsGood, keyCount, edgeCount, bitsOf, bodyOf, footLen, flagsOf, sizeCheck, headCheck, tailCheck, sumCheck, frameCheck}
-use Rattle.frame.specs.Frame.Laws.{length-rows, Table}
+use Rattle.frame.specs.Frame.{has, twice, rangeOf, nowhere, sectionOf, all, nameGood, kindsGood, codecGood, codecs, ranges, countOf, rowsOf, endOf, rowsFrom, widthGood, sizesGood, presenceGood, countsGood, keyCount, edgeCount, bitsOf, bodyOf, footLen, flagsOf, sizeCheck, headCheck, tailCheck, sumCheck, frameCheck}
+use Rattle.frame.specs.Frame.Laws.{length-rows, Table, kinds-alike, kinds-keys}
 use Rattle.frame.specs.Open.{Known, knownOf, bytesAt, recordFrom, recordOf, framedFrom, framedOf, contentCheck, fileCheck, opening, openOf}
 use Rattle.frame.specs.Open.Laws.{Frames, frames-parts, frames-made, opens-parts, opens-record}
 use Rattle.lookup.specs.Lookup.{Outcome, Rooms, lookOf}
@@ -73,6 +73,10 @@ pub record Stripped (f g : List ℕ) : Type 0 where
 
 other : (a k : ℕ) → unknown k ≡ false → unknown a ≡ true → eqb a k ≡ false
 other a k h u = ne-eqb a k (λ e. let v : unknown k ≡ true = (rw e at u) in let w : true ≡ false = sym v ∙ h in let z : _≡_ {A = ℕ} 0 1 = cc in omega arith)
+
+-- a kind that is read is known
+known : (k : ℕ) → kind.fixed k ≡ true → unknown k ≡ false
+known k e = rw e
 
 module _ (f b g c : List ℕ) where
   has-copied : (k : ℕ) → unknown k ≡ false → {rs ts : List Row} → Copied f b g c rs ts → has k ts ≡ has k rs
@@ -189,27 +193,28 @@ module _ (f g : List ℕ) (s : Stripped f g) where
   content-same : contentCheck (knownOf g (recordOf g)) (framedOf g .fenced) (bytesAt g (framedOf g .fences)) ≡ contentCheck (knownOf f (recordOf f)) (framedOf f .fenced) (bytesAt f (framedOf f .fences))
   content-same = λ j. contentCheck (known-same j) (fences-same .0 j) (fences-same .1 j)
 
-  counts-same : countsGood (flagsOf g) (keyCount c) (edgeCount c) (bitsOf c) (rowsOf c) ≡ countsGood (flagsOf f) (keyCount b) (edgeCount b) (bitsOf b) (rowsOf b)
-  unfolding countsGood
-  counts-same = λ j.
-      sizesGood (s .keys j) (s .edges j) (s .bits j) (len-copied f b g c kind.keys refl (s .table) j) (len-copied f b g c kind.offsets refl (s .table) j)
-      (len-copied f b g c kind.logs refl (s .table) j) (has-copied f b g c kind.tombstones refl (s .table) j) (len-copied f b g c kind.tombstones refl (s .table) j)
-      && presenceGood (flags-same j) (s .keys j) (s .edges j) (has-copied f b g c kind.tombstones refl (s .table) j) (has-copied f b g c kind.fences refl (s .table) j) (has-copied f b g c kind.properties refl (s .table) j)
+  sizes-same : sizesGood (recordOf g) ≡ sizesGood (recordOf f)
+  unfolding sizesGood recordOf recordFrom
+  sizes-same =
+      rw (s .keys, s .edges, s .bits, len-copied f b g c kind.keys refl (s .table), len-copied f b g c kind.offsets refl (s .table),
+      len-copied f b g c kind.logs refl (s .table), has-copied f b g c kind.tombstones refl (s .table), len-copied f b g c kind.tombstones refl (s .table))
+
+  presence-same : presenceGood (flagsOf g) (framedOf g) ≡ presenceGood (flagsOf f) (framedOf f)
+  unfolding presenceGood framedOf framedFrom recordFrom
+  presence-same =
+      rw (flags-same, s .keys, s .edges, has-copied f b g c kind.tombstones refl (s .table), has-copied f b g c kind.fences refl (s .table), has-copied f b g c kind.properties refl (s .table))
+
+  counts-same : countsGood (flagsOf g) (framedOf g) ≡ countsGood (flagsOf f) (framedOf f)
+  unfolding countsGood framedOf framedFrom recordOf recordFrom
+  counts-same = λ j. widthGood (s .bits j) && (sizes-same j && presence-same j)
 
   kinds-same : kindsGood (rowsOf c) ≡ kindsGood (rowsOf b)
-  unfolding kindsGood
-  kinds-same = λ j.
-      (has-copied f b g c kind.keys refl (s .table) j && not (twice-copied f b g c kind.keys refl (s .table) j))
-      && ((has-copied f b g c kind.offsets refl (s .table) j && not (twice-copied f b g c kind.offsets refl (s .table) j))
-      && ((has-copied f b g c kind.partners refl (s .table) j && not (twice-copied f b g c kind.partners refl (s .table) j))
-      && ((has-copied f b g c kind.logs refl (s .table) j && not (twice-copied f b g c kind.logs refl (s .table) j))
-      && (not (twice-copied f b g c kind.tombstones refl (s .table) j) && not (twice-copied f b g c kind.fences refl (s .table) j)))))
+  kinds-same = kinds-alike (rowsOf b) (rowsOf c) (λ k r. let h = known k r in (has-copied f b g c k h (s .table), twice-copied f b g c k h (s .table)))
 
   table-good : Table b → Table c
-  unfolding kindsGood
   table-good t =
       let kinds : kindsGood (rowsOf c) ≡ true = kinds-same ∙ t .kinds in
-      let one = has-some kind.keys (rowsOf c) (and-parts _ _ (and-parts _ _ kinds .0) .0) in
+      let one = has-some kind.keys (rowsOf c) (kinds-keys (rowsOf c) kinds) in
       let n = rows-count c in
       let m = rows-count b in
       let fewer = length-copied f b g c (s .table) in
@@ -223,7 +228,7 @@ module _ (f g : List ℕ) (s : Stripped f g) where
     pub copy-opens : openOf g ≡ Opening.Good (recordOf g)
     unfolding openOf opening fileCheck
     copy-opens =
-        let frame : frameCheck (length g) g g ≡ Check.Fine = frames-made g (record {
+        let frame : frameCheck (length g) g g ≡ Check.Fine = frames-made (length g) g g (record {
           size = s .size;
           head = head-same ∙ frames .head;
           tail = s .tail;

@@ -8,7 +8,6 @@ use lib.ListN.{length}
 use lib.Dec.{leb, eqb}
 use borrow.Author.Tests.{eqb-true, leb-true, ne-eqb}
 use Rattle.base.specs.Pick.{pick}
-use Rattle.base.specs.Over.{length-part}
 use Rattle.refusal.specs.declared.Refusal.{Refusal}
 use Rattle.refusal.specs.declared.Check.{Check}
 use Rattle.refusal.specs.Check.{_⊳_, refuse}
@@ -16,32 +15,15 @@ use Rattle.refusal.specs.Check.Laws.{and-parts, or-cases, fine-parts, bad-then,
 use Rattle.frame.specs.declared.Opened.{Opened}
 use Rattle.frame.specs.declared.Opening.{Opening}
 use Rattle.frame.specs.Frame.{rowsOf, flag, flagsOf, bodyOf}
-use Rattle.frame.specs.Open.{knownOf, recordOf, bytesAt, inside, recordGood, fileCheck, opening, openOf}
-use Rattle.frame.specs.Open.Laws.{sized-parts, opens-record}
+use Rattle.frame.specs.Open.{knownOf, recordOf, bytesAt, fileCheck, opening, openOf}
+use Rattle.frame.specs.Open.Laws.{opens-record}
 use Rattle.lookup.specs.Lookup.{markAt}
 use Rattle.lookup.specs.Lookup.Laws.{mark-none}
-use Rattle.lookup.specs.Record.{Holds, holds, dead-inside}
 use Rattle.full_check.specs.declared.groups.Groups.{Groups}
 use Rattle.full_check.specs.declared.marks.Marks.{Marks}
 use Rattle.full_check.specs.Full.{sumsFrom, groupsFrom, degreesFrom, denseFrom, deadFrom, marksOf, dataGood, edgesCheck, fullCheck, groupsTold, groupsOf, checkedOf}
 
 -- ---- tombstones
-
--- their length is what the edge count gives
-pub dead-length : (f : List ℕ) (o : Opened) → recordGood f o ≡ true → o .marked ≡ true → length (bytesAt f (o .dead)) ≡ (o .edgecount + 7) / 8
-unfolding recordGood
-dead-length f o e m =
-    let a = and-parts (leb (length f) (2 ^ 30)) _ e in
-    let b = and-parts (inside f (o .keys)) _ (a .1) in
-    let c = and-parts (inside f (o .offsets)) _ (b .1) in
-    let d = and-parts (inside f (o .partners)) _ (c .1) in
-    let g = and-parts (inside f (o .logs)) _ (d .1) in
-    let h = and-parts (not (o .marked) || inside f (o .dead)) _ (g .1) in
-    let s = sized-parts _ _ _ _ _ _ _ _ (h .1) in
-    let len = eqb-true (o .dead .len) ((o .edgecount + 7) / 8) (or-cases (not (o .marked)) _ (s .dead) (ap not m)) in
-    let within = dead-inside f o (holds f o e) m in
-    let part = length-part f (o .dead .start) (o .dead .start + o .dead .len) within in
-    omega arith
 
 -- without them every edge is live
 pub dead-none : (d e : ℕ) → deadFrom d [] e ≡ false

@@ -7,6 +7,7 @@ use mathlib.Core.Bool.{Bool, true, false, not, _&&_, _||_}
 use lib.ListN.{length}
 use lib.Dec.{ltb, leb, eqb}
 use borrow.Author.Tests.{ltb-false, leb-true, le-leb, eqb-true, eq-eqb}
+use Rattle.base.specs.Over.{length-part}
 use Rattle.codes.specs.Little.{leAt}
 use Rattle.refusal.specs.declared.Refusal.{Refusal}
 use Rattle.refusal.specs.declared.Check.{Check}
@@ -90,6 +91,24 @@ tail-parts n t e =
     let p = fine-parts (refuse Refusal.TailMagic (not (eqb (leAt t (length t - 8) 8) kind.magic))) _ e in
     let a = either-parts Refusal.FooterLength (ltb (footLen t) 39) (ltb (n - 64) (footLen t)) (p .1) in
     (ltb-false (footLen t) 39 (a .0), ltb-false (n - 64) (footLen t) (a .1))
+
+-- a footer's body is the footer without its trailer
+pub body-length : (t : List ℕ) → kind.trailerSize ≤ footLen t → footLen t ≤ length t → length (bodyOf t) ≡ footLen t - kind.trailerSize
+unfolding bodyOf
+body-length t least most = length-part t (length t - footLen t) (length t - kind.trailerSize) (omega arith) ∙ omega arith
+
+-- where the footer of a file with a good frame lies
+pub record Footed (f : List ℕ) : Type 0 where
+  pub bytes : length f ≤ kind.mostBytes
+  pub least : kind.leastFooter ≤ footLen f
+  pub most : footLen f + kind.headerSize ≤ length f
+  pub body : length (bodyOf f) ≡ footLen f - kind.trailerSize
+
+pub footed : (f : List ℕ) → Frames f → Footed f
+footed f s =
+    let a = size-parts (length f) (s .size) in
+    let b = tail-parts (length f) f (s .tail) in
+    record { bytes = a .1; least = b .0; most = omega arith; body = body-length f (omega arith) (omega arith) }
 
 -- the bounds and lengths of rule 12
 pub record Sized (o : Opened) : Type 0 where

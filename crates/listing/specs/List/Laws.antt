@@ -7,7 +7,6 @@ use mathlib.Core.Bool.{Bool, true, false}
 use lib.ListN.{length, length-set}
 use lib.Dec.{ltb}
 use borrow.Author.Tests.{lt-ltb, le-ltb, ltb-false}
-use Rattle.base.specs.Over.{part}
 use Rattle.refusal.specs.declared.Refusal.{Refusal}
 use Rattle.refusal.specs.declared.Check.{Check}
 use Rattle.refusal.specs.Check.{_⊳_, refuse}
@@ -15,9 +14,7 @@ use Rattle.refusal.specs.Check.Laws.{bad-then, fine-then}
 use Rattle.frame.specs.declared.Row.{Row}
 use Rattle.frame.specs.declared.Opened.{Opened}
 use Rattle.frame.specs.declared.Opening.{Opening}
-use Rattle.frame.specs.Frame.{footLen, bodyOf}
 use Rattle.frame.specs.Open.{recordOf, fileCheck, opening, openOf}
-use Rattle.frame.specs.Open.Laws.{Frames, size-parts, tail-parts}
 use Rattle.reader.specs.declared.rows.Section.{Section}
 use Rattle.listing.specs.declared.Listed.{Listed}
 use Rattle.listing.specs.List.{needed, listCheck, refusedPlan, planned, planOf, answerOf, noRow, entry, listed}
@@ -90,23 +87,3 @@ refused-leaves f room r ys = go (listCheck f room)
     go : (c : Check) → planned c (needed f) .answer ≡ Listed.Refused r → listed f (planned c (needed f) .n) ys ≡ ys
     go Check.Fine e = let z : _≡_ {A = ℕ} 0 1 = cc in absurd (omega arith)
     go (Check.Bad q) e = refl
-
--- ---- where the count stands
-
-pub record Footed (f : List ℕ) (foot : ℕ) : Type 0 where
-  pub size : 84 ≤ length f
-  pub most : foot ≤ length f - 64
-  pub some : 39 ≤ foot
-  pub body : part f (length f - foot) (length f - 20) ≡ bodyOf f
-
-pub footed : (f : List ℕ) (foot : ℕ) → foot ≡ footLen f → Frames f → Footed f foot
-unfolding bodyOf
-footed f foot e s =
-    let a = size-parts (length f) (s .size) in
-    let b = tail-parts (length f) f (s .tail) in
-    record {
-      size = a .0;
-      most = rw e (b .1);
-      some = rw e (b .0);
-      body = ap (λ (t : ℕ). part f (length f - t) (length f - 20)) e;
-    }
