@@ -117,9 +117,9 @@ pub record Written (h : Heading) (es : List Edge) : Type 0 where
   pub way : h .direction ≤ 1
   pub ids : length (h .ids) ≡ 48
   pub order : Grouped 0 (groupsOf es)
-  pub keys : length (groupsOf es) ≤ 16777216
-  pub edges : length es ≤ 67108864
-  pub size : length (fileOf h es) ≤ 2 ^ 30
+  pub keys : length (groupsOf es) ≤ kind.mostKeys
+  pub edges : length es ≤ kind.mostEdges
+  pub size : length (fileOf h es) ≤ kind.mostBytes
 
 module _ (h : Heading) (es : List Edge) (q : Written h es) where
   abbrev gs : List Group
@@ -310,8 +310,9 @@ module _ (h : Heading) (es : List Edge) (q : Written h es) where
 
   presence : presenceBy flags n (length es) dead fence false ≡ true
   presence =
-      and-both (le-leb n (length es) (groups-count es)) (and-both none-none (and-both (fences-there n)
-      (and-both (ap (λ (b : Bool). Bool·beq b false) (fl .properties)) (ap (λ (b : Bool). not b || dead) (fl .marked) ∙ implied dead))))
+      rw (flags-is, keycount-is, edgecount-is, there kind.tombstones ∙ t .marked, there kind.fences ∙ t .fences, there kind.properties ∙ t .streams)
+      (and-both (le-leb n (length es) (groups-count es)) (and-both none-none (and-both (fences-there n)
+      (and-both (ap (λ (b : Bool). Bool·beq b false) (fl .properties)) (ap (λ (b : Bool). not b || dead) (fl .marked) ∙ implied dead)))))
 
   counts : countsGood (flagsOf f) (framedOf f) ≡ true
   unfolding countsGood sizesGood presenceGood framedOf framedFrom recordFrom

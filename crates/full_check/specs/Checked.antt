@@ -14,22 +14,16 @@ use Rattle.refusal.specs.Check.{_⊳_, refuse}
 use Rattle.refusal.specs.Check.Laws.{fine-parts, bad-then, fine-then}
 use Rattle.frame.specs.declared.Opened.{Opened}
 use Rattle.frame.specs.declared.Opening.{Opening}
-use Rattle.frame.specs.Frame.{rowsOf, flag, flagsOf, bodyOf, recordOf}
-use Rattle.frame.specs.Kind as kind
-use Rattle.frame.specs.Open.{knownOf, bytesAt, recordGood, fileCheck, opening, openOf}
+use Rattle.frame.specs.Frame.{rowsOf, flag, flagsOf, bodyOf}
+use Rattle.frame.specs.Open.{knownOf, recordOf, bytesAt, fileCheck, opening, openOf}
 use Rattle.frame.specs.Open.Laws.{opens-record}
 use Rattle.lookup.specs.Lookup.{markAt}
 use Rattle.lookup.specs.Lookup.Laws.{mark-none}
-use Rattle.lookup.specs.Record.{Holds, holds}
 use Rattle.full_check.specs.declared.groups.Groups.{Groups}
 use Rattle.full_check.specs.declared.marks.Marks.{Marks}
 use Rattle.full_check.specs.Full.{sumsFrom, groupsFrom, degreesFrom, denseFrom, deadFrom, marksOf, dataGood, edgesCheck, fullCheck, groupsTold, groupsOf, checkedOf}
 
 -- ---- tombstones
-
--- their length is what the edge count gives
-pub dead-length : (f : List ℕ) (o : Opened) → recordGood f o ≡ true → o .marked ≡ true → length (bytesAt f (o .dead)) ≡ kind.tombstonesLen (o .edgecount)
-dead-length f o e m = holds f o e .deadbytes m
 
 -- without them every edge is live
 pub dead-none : (d e : ℕ) → deadFrom d [] e ≡ false

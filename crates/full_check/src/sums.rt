@@ -2,6 +2,7 @@
 ghost use mathlib.Core.Path.{_≡_};
 ghost use Prim.Native.Nat.{_+_, _≤_};
 ghost use lib.ListN.{length};
+ghost use Rattle.frame.specs.Kind as kind;
 ghost use Rattle.frame.specs.Frame.{rowsFrom, endFrom, rowsOf, bodyOf};
 ghost use Rattle.xxh3_spec.specs.Xxh3.{xxh3};
 ghost use Rattle.frame.specs.Open.{bytesAt};
@@ -10,9 +11,10 @@ ghost use Rattle.frame.specs.Open.Laws.{Frames};
 ghost use Rattle.full_check.specs.Full.{sumsFrom};
 ghost use Rattle.full_check.specs.Full.Laws.{Within};
 use codes::little::le16;
-use codes::little::le32;
 use frame::Range;
+use frame::Row;
 use frame::bytes_of;
+use frame::ends::body_of;
 use refusal::Check;
 use refusal::Refusal;
 use table::row_at;
@@ -29,7 +31,7 @@ fn sum_of(file: &[u8], start: u64, len: u64) -> u64
 
 // The first of `count` entries of the footer body b whose section does not have its checksum.
 fn sums_from(file: &[u8], b: &[u8], count: usize) -> Check
-    requires { ⌜ (count ≤ 64) × (endFrom count (now b) 2 ≤ length (now b)) × (length (now b) ≤ 1073741824) × Within (length (now file)) (rowsFrom count (now b) 2) ⌝ }
+    requires { ⌜ (count ≤ kind.mostSections) × (endFrom count (now b) 2 ≤ length (now b)) × (length (now b) ≤ kind.mostBytes) × Within (length (now file)) (rowsFrom count (now b) 2) ⌝ }
     ensures { λ r. ⌜ r ≡ sumsFrom (now (file .entry)) (rowsFrom count (now (b .entry)) 2) 0 ⌝ }
 {
     let mut at: usize = 2;
@@ -40,7 +42,7 @@ fn sums_from(file: &[u8], b: &[u8], count: usize) -> Check
             let refusal = Refusal::Sum { entry: k as u64 };
             return Check::Bad { refusal };
         }
-        at = at + 28 + row.namelen as usize;
+        at = at + Row::ENTRY + row.namelen as usize;
         k = k + 1;
     }
     Check::Fine
@@ -48,7 +50,7 @@ fn sums_from(file: &[u8], b: &[u8], count: usize) -> Check
 
 // The same of all entries of b.
 fn sums_in(file: &[u8], b: &[u8]) -> Check
-    requires { ⌜ Table (now b) × (length (now b) ≤ 1073741824) × Within (length (now file)) (rowsOf (now b)) ⌝ }
+    requires { ⌜ Table (now b) × (length (now b) ≤ kind.mostBytes) × Within (length (now file)) (rowsOf (now b)) ⌝ }
     ensures { λ r. ⌜ r ≡ sumsFrom (now (file .entry)) (rowsOf (now (b .entry))) 0 ⌝ }
 {
     sums_from(file, b, le16(b, 0) as usize)
@@ -59,9 +61,5 @@ pub fn sums_check(file: &[u8]) -> Check
     requires { ⌜ Frames (now file) ⌝ }
     ensures { λ r. ⌜ r ≡ sumsFrom (now (file .entry)) (rowsOf (bodyOf (now (file .entry)))) 0 ⌝ }
 {
-    let size = file.len();
-    let foot = le32(file, size - 12) as usize;
-    let a = size - foot;
-    let e = size - 20;
-    sums_in(file, &file[a..e])
+    sums_in(file, body_of(file))
 }

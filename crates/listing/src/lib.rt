@@ -5,9 +5,9 @@ ghost use Rattle.frame.specs.Frame.{countOf, bodyOf};
 ghost use Rattle.frame.specs.Open.Laws.{Frames};
 ghost use Rattle.listing.specs.List.{refusedPlan, planOf, answerOf, rowIs, listed};
 use codes::little::le16;
-use codes::little::le32;
 use frame::Opening;
 use frame::Row;
+use frame::ends::body_of;
 use reader::open::open;
 use reader::rows::Section;
 use reader::rows::section_at;
@@ -37,11 +37,7 @@ fn count_of(file: &[u8]) -> usize
     requires { ⌜ Frames (now file) ⌝ }
     ensures { λ r. ⌜ r ≡ countOf (bodyOf (now (file .entry))) ⌝ }
 {
-    let size = file.len();
-    let foot = le32(file, size - 12) as usize;
-    let a = size - foot;
-    let e = size - 20;
-    le16(&file[a..e], 0) as usize
+    le16(body_of(file), 0) as usize
 }
 
 // The answer for a table of so many rows, and how many of them are written.

@@ -9,7 +9,6 @@ use lib.ListN.{length, getD}
 use lib.Dec.{leb, ltb}
 use borrow.Author.Tests.{le-leb, lt-leb, lt-ltb, le-ltb}
 use Rattle.base.specs.Pick.{pick}
-use Rattle.base.specs.Over.{part}
 use Rattle.frame.specs.declared.Row.{Row}
 use Rattle.frame.specs.Kind as kind
 use Rattle.frame.specs.Frame.{rowAt, nextAt, endFrom, countOf, footLen, bodyOf}
@@ -123,11 +122,11 @@ module _ (f : List ℕ) (i : ℕ) where
         row-over h =
             simp (le-leb 84 (length f) low, le-leb (length f) (kind.mostBytes) high, le-leb 39 (footLen f) (omega arith), lt-leb (footLen f) (length f - 64) (omega arith))
 
-        pub row-footed : foot ≤ length f - 64 → rowOf f i ≡ rowIn (length f - foot) (part f (length f - foot) (length f - 20)) i
-        unfolding rowOf bodyOf
-        row-footed h =
-            simp (le-leb 84 (length f) low, le-leb (length f) (kind.mostBytes) high, le-leb 39 (footLen f) (omega arith), le-leb (footLen f) (length f - 64) (omega arith))
-            (ap (λ (t : ℕ). rowIn (length f - t) (part f (length f - t) (length f - 20)) i) (sym e))
+        pub row-footed : foot ≤ length f - kind.headerSize → {at : ℕ} {b : List ℕ} → at ≡ length f - footLen f → b ≡ bodyOf f → rowOf f i ≡ rowIn at b i
+        unfolding rowOf
+        row-footed h p q =
+            simp (le-leb 84 (length f) low, le-leb (length f) kind.mostBytes high, le-leb 39 (footLen f) (omega arith), le-leb (footLen f) (length f - 64) (omega arith))
+            (λ j. rowIn (sym p j) (sym q j) i)
 
 -- where nothing is left to pass, the next entry is entry i
 pub end-here : (b : List ℕ) (i k p : ℕ) → i ≤ k → endFrom (i - k) b p ≡ endFrom i b 2 → p ≡ endFrom i b 2

@@ -8,6 +8,7 @@ use mathlib.Core.Bool.{Bool, true, false, not, _&&_, _||_}
 use lib.ListN.{length}
 use lib.Dec.{ltb, leb, eqb}
 use borrow.Author.Tests.{ltb-false, leb-true, eqb-true, le-leb, le-ltb, eq-eqb}
+use Rattle.base.specs.Over.{length-part}
 use Rattle.codes.specs.Little.{leAt}
 use Rattle.xxh3_spec.specs.Xxh3.{xxh3}
 use Rattle.refusal.specs.declared.Refusal.{Refusal}
@@ -115,6 +116,24 @@ tail-made n t m a b = rw (eq-eqb (leAt t (length t - 8) 8) kind.magic m, le-ltb 
 pub sum-made : (t : List ℕ) → xxh3 (bodyOf t) ≡ leAt t (length t - 20) 8 → sumCheck t ≡ Check.Fine
 unfolding sumCheck
 sum-made t e = rw (eq-eqb (xxh3 (bodyOf t)) (leAt t (length t - 20) 8) e)
+
+-- a footer's body is the footer without its trailer
+pub body-length : (t : List ℕ) → kind.trailerSize ≤ footLen t → footLen t ≤ length t → length (bodyOf t) ≡ footLen t - kind.trailerSize
+unfolding bodyOf
+body-length t least most = length-part t (length t - footLen t) (length t - kind.trailerSize) (omega arith) ∙ omega arith
+
+-- where the footer of a file with a good frame lies
+pub record Footed (f : List ℕ) : Type 0 where
+  pub bytes : length f ≤ kind.mostBytes
+  pub least : kind.leastFooter ≤ footLen f
+  pub most : footLen f + kind.headerSize ≤ length f
+  pub body : length (bodyOf f) ≡ footLen f - kind.trailerSize
+
+pub footed : (f : List ℕ) → Frames f → Footed f
+footed f s =
+    let a = size-parts (length f) (s .size) in
+    let b = tail-parts (length f) f (s .tail) in
+    record { bytes = a .1; least = b .0; most = omega arith; body = body-length f (omega arith) (omega arith) }
 
 -- the bounds and lengths of rule 12
 pub record Sized (o : Opened) : Type 0 where

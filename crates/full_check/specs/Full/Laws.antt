@@ -13,9 +13,10 @@ use Rattle.base.specs.Pick.{pick}
 use Rattle.xxh3_spec.specs.Xxh3.{xxh3}
 use Rattle.refusal.specs.Check.Laws.{pick-fine, and-parts}
 use Rattle.frame.specs.declared.Row.{Row}
+use Rattle.frame.specs.Kind as kind
 use Rattle.frame.specs.Frame.{rowAt, rowsFrom, endFrom, rowsOf, footLen, bodyOf, rangeOf, rangeGood, ranges}
 use Rattle.frame.specs.Frame.Laws.{Table, rows-on, end-on, rows-none}
-use Rattle.frame.specs.Open.Laws.{Frames, size-parts, tail-parts}
+use Rattle.frame.specs.Open.Laws.{Frames}
 use Rattle.base.specs.Over.{part, length-part}
 use Rattle.codes.specs.declared.ids.Id.{Id}
 use Rattle.refusal.specs.declared.Refusal.{Refusal}
@@ -93,31 +94,9 @@ module _ (f b : List ℕ) (count : ℕ) where
   unfolding sumsFrom
   summed-end i k h le = ap (λ (t : List Row). sumsFrom f t k) (sym (rows-none b count i k le)) ∙ h .check
 
--- what is asked of the table of a file whose frame is good
-pub record Footed (f : List ℕ) (foot : ℕ) : Type 0 where
-  pub size : 84 ≤ length f
-  pub some : 39 ≤ foot
-  pub most : foot ≤ length f - 64
-  pub body : part f (length f - foot) (length f - 20) ≡ bodyOf f
-  pub few : length (bodyOf f) ≤ 1073741824
-  pub table : Table (bodyOf f)
-  pub within : Within (length f) (rowsOf (bodyOf f))
-
-pub footed : (f : List ℕ) (foot : ℕ) → foot ≡ footLen f → Frames f → Footed f foot
-unfolding bodyOf
-footed f foot e s =
-    let size = size-parts (length f) (s .size) in
-    let tail = tail-parts (length f) f (s .tail) in
-    let long = length-part f (length f - footLen f) (length f - 20) (omega arith) in
-    record {
-      size = size .0;
-      some = omega arith;
-      most = omega arith;
-      body = ap (λ (t : ℕ). part f (length f - t) (length f - 20)) e;
-      few = omega arith;
-      table = s .table;
-      within = ranges-within (length f) (length f - footLen f) (rowsOf (bodyOf f)) 64 0 (omega arith) (s .apart);
-    }
+-- the sections of a file whose frame is good lie within it
+pub frames-inside : (f : List ℕ) → Frames f → Within (length f) (rowsOf (bodyOf f))
+frames-inside f s = ranges-within (length f) (length f - footLen f) (rowsOf (bodyOf f)) kind.headerSize 0 (omega arith) (s .apart)
 
 -- ---- a group by its answer
 

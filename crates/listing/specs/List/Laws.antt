@@ -8,7 +8,6 @@ use mathlib.Core.Bool.{Bool, true, false}
 use lib.ListN.{length, length-set}
 use lib.Dec.{ltb}
 use borrow.Author.Tests.{lt-ltb, le-ltb, ltb-false}
-use Rattle.base.specs.Over.{part}
 use Rattle.refusal.specs.declared.Refusal.{Refusal}
 use Rattle.refusal.specs.declared.Check.{Check}
 use Rattle.refusal.specs.Refusal.{numberOf}
@@ -17,9 +16,7 @@ use Rattle.refusal.specs.Check.Laws.{bad-then, fine-then, by-first, refuse-own}
 use Rattle.frame.specs.declared.Row.{Row}
 use Rattle.frame.specs.declared.Opened.{Opened}
 use Rattle.frame.specs.declared.Opening.{Opening}
-use Rattle.frame.specs.Frame.{footLen, bodyOf, recordOf}
-use Rattle.frame.specs.Open.{fileCheck, opening, openOf}
-use Rattle.frame.specs.Open.Laws.{Frames, size-parts, tail-parts}
+use Rattle.frame.specs.Open.{recordOf, fileCheck, opening, openOf}
 use Rattle.reader.specs.declared.rows.Section.{Section}
 use Rattle.listing.specs.declared.Listed.{Listed}
 use Rattle.listing.specs.List.{needed, listCheck, refusedPlan, planned, planOf, answerOf, noRow, entry, listed}
@@ -117,23 +114,3 @@ length-listed f (suc n) ys = simp length-set (length-listed f n ys)
 pub refused-leaves : (f : List ℕ) (room : ℕ) (r : Refusal) (ys : List Row) → answerOf f room ≡ Listed.Refused r → listed f (planOf f room .n) ys ≡ ys
 unfolding listed
 refused-leaves f room r ys e = ap (λ (n : ℕ). listed f n ys) (plan-refused f room r e)
-
--- ---- where the count stands
-
-pub record Footed (f : List ℕ) (foot : ℕ) : Type 0 where
-  pub size : 84 ≤ length f
-  pub most : foot ≤ length f - 64
-  pub some : 39 ≤ foot
-  pub body : part f (length f - foot) (length f - 20) ≡ bodyOf f
-
-pub footed : (f : List ℕ) (foot : ℕ) → foot ≡ footLen f → Frames f → Footed f foot
-unfolding bodyOf
-footed f foot e s =
-    let a = size-parts (length f) (s .size) in
-    let b = tail-parts (length f) f (s .tail) in
-    record {
-      size = a .0;
-      most = rw e (b .1);
-      some = rw e (b .0);
-      body = ap (λ (t : ℕ). part f (length f - t) (length f - 20)) e;
-    }

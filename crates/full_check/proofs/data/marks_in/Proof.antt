@@ -4,10 +4,9 @@ use Prim.Native.Nat.{ℕ}
 use mathlib.Core.List.{List}
 use lib.ListN.{length}
 use Rattle.frame.specs.Open.{bytesAt}
-use Rattle.reader.specs.Opened.{opened-good}
 use Rattle.reader.specs.Look.{opened-holds}
 use Rattle.full_check.specs.Full.{marksOf}
-use Rattle.full_check.specs.Checked.{dead-length, marks-there, marks-none}
+use Rattle.full_check.specs.Checked.{marks-there, marks-none}
 use borrow.Author.Needs.{needs}
 use native.Mathlib.Omega.{arith}
 use Rattle.full_check.proofs.data.marks_in.Statement.{statement}
@@ -22,8 +21,8 @@ bytes-of-requires c κs = let a = c .before .before .before .args in opened-hold
 
 marks-of-requires : tie.Need-marks-of-requires
 marks-of-requires c κs = let a = c .before .before .before .before .args in
-    let few = opened-holds (a .file .now) (a .o) (c .before .before .before .before .pre) .edges in
-    (few, ap length (c .bytes-of .ensures) ∙ dead-length (a .file .now) (a .o) (opened-good (a .file .now) (a .o) (c .before .before .before .before .pre)) (c .before .before .if1 .taken))
+    let h = opened-holds (a .file .now) (a .o) (c .before .before .before .before .pre) in
+    (h .edges, ap length (c .bytes-of .ensures) ∙ h .deadbytes (c .before .before .if1 .taken))
 
 returns : tie.Need-returns
 returns c = let a = c .before .before .before .before .before .args in

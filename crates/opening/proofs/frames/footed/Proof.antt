@@ -1,16 +1,14 @@
 -- `opening::frames::footed` meets its contract.
 use mathlib.Core.Path.{_≡_, refl, sym, ap, _∙_}
-use Prim.Native.Nat.{ℕ, _-_, _≤_}
+use Prim.Native.Nat.{ℕ, _-_}
 use mathlib.Core.List.{List}
 use lib.ListN.{length}
-use Rattle.base.specs.Over.{length-part}
 use Rattle.refusal.specs.declared.Refusal.{Refusal}
 use Rattle.refusal.specs.declared.Check.{Check}
 use Rattle.frame.specs.declared.Framing.{Framing}
-use Rattle.frame.specs.Kind as kind
 use Rattle.frame.specs.Frame.{rowsOf, footLen, bodyOf, framedFrom, framedOf, sumCheck, rowsCheck, footerCheck}
 use Rattle.frame.specs.Open.{framing}
-use Rattle.frame.specs.Open.Laws.{framing-bad, framing-on}
+use Rattle.frame.specs.Open.Laws.{body-length, framing-bad, framing-on}
 use Rattle.opening.proofs.frames.footed.Statement.{statement}
 use Rattle.opening.proofs.frames.footed.Tie as tie
 use borrow.Author.Needs.{needs}
@@ -29,10 +27,6 @@ module _ (size : ℕ) (t : List ℕ) where
   unsummed : (r : Refusal) → sumCheck t ≡ Check.Bad r → framing (footerCheck size t) (framedOf t) ≡ Framing.Refused r
   unfolding footerCheck
   unsummed r e = framing-bad (rowsCheck (size - footLen t) (bodyOf t)) (framedOf t) r e
-
-  body-len : (b : List ℕ) → b ≡ bodyOf t → kind.leastFooter ≤ footLen t → footLen t ≤ length t → length b ≡ footLen t - kind.trailerSize
-  unfolding bodyOf
-  body-len b e g h = ap length e ∙ length-part t (length t - footLen t) (length t - kind.trailerSize) (omega arith) ∙ omega arith
 
 sum-check-requires : tie.Need-sum-check-requires
 sum-check-requires c κs = search needs
@@ -56,7 +50,7 @@ sub-rows-framing : tie.Need-sub-rows-framing
 sub-rows-framing c = search needs
 
 rows-framing-requires : tie.Need-rows-framing-requires
-rows-framing-requires c κs = let a = c .before .before .before .before .before .before .args in let l = body-len (a .size) (a .t .now) _ (c .before .body-of .ensures) (omega arith) (omega arith) in (omega arith, omega arith)
+rows-framing-requires c κs = let a = c .before .before .before .before .before .before .args in let e = ap length (c .before .body-of .ensures) in let l = body-length (a .t .now) (omega arith) (omega arith) in (omega arith, omega arith)
 
 returns : tie.Need-returns
 returns c = let a = c .before .before .before .before .before .before .args in c .refused .ensures ∙ sym (unsummed (a .size) (a .t .now) _ (sym (c .before .before .before .before .sum-check .ensures) ∙ c .before .before .refusal .given .1))

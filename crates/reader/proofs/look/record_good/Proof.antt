@@ -1,72 +1,115 @@
-use borrow.Author.Needs.{needs}
+-- `reader::look::record_good` meets its contract.
+use mathlib.Core.Path.{_≡_, refl, sym, ap, _∙_}
+use Prim.Native.Nat.{ℕ, _≤_, _<_}
+use mathlib.Core.Bool.{true, false, not, _||_}
+use borrow.Author.Tests.{le-leb, lt-leb, not-true, not-false}
+use Rattle.frame.specs.declared.Opened.{Opened}
+use Rattle.frame.specs.Kind as kind
+use Rattle.frame.specs.Frame.{widthGood, sizesGood}
+use Rattle.frame.specs.Open.{inside, recordWithin}
 use Rattle.reader.proofs.look.record_good.Statement.{statement}
 use Rattle.reader.proofs.look.record_good.Tie as tie
-use Rattle.reader.proofs.look.record_good.Reads as reads
-use Rattle.reader.proofs.look.record_good.Lts as lts
-use Rattle.counts.proofs.sizes_good.Reads as sizes-good-reads
-use Rattle.counts.proofs.width_good.Reads as width-good-reads
-use Rattle.reader.proofs.look.dead_inside.Reads as dead-inside-reads
-use Rattle.reader.proofs.look.inside.Reads as inside-reads
+use borrow.Author.Needs.{needs}
+use native.Mathlib.Omega.{arith}
 
--- src/look.rt:52:9
+module _ (size : ℕ) (o : Opened) where
+  large : kind.mostBytes < size → recordWithin size o ≡ false
+  unfolding recordWithin
+  large h = simp (lt-leb size kind.mostBytes h)
+
+  module _ (s : size ≤ kind.mostBytes) where
+    no-keys : inside size (o .keys) ≡ false → recordWithin size o ≡ false
+    unfolding recordWithin
+    no-keys e = simp (le-leb size kind.mostBytes s, e)
+
+    module _ (keys : inside size (o .keys) ≡ true) where
+      no-offsets : inside size (o .offsets) ≡ false → recordWithin size o ≡ false
+      unfolding recordWithin
+      no-offsets e = simp (le-leb size kind.mostBytes s, keys, e)
+
+      module _ (offsets : inside size (o .offsets) ≡ true) where
+        no-partners : inside size (o .partners) ≡ false → recordWithin size o ≡ false
+        unfolding recordWithin
+        no-partners e = simp (le-leb size kind.mostBytes s, keys, offsets, e)
+
+        module _ (partners : inside size (o .partners) ≡ true) where
+          no-logs : inside size (o .logs) ≡ false → recordWithin size o ≡ false
+          unfolding recordWithin
+          no-logs e = simp (le-leb size kind.mostBytes s, keys, offsets, partners, e)
+
+          module _ (logs : inside size (o .logs) ≡ true) where
+            no-dead : (not (o .marked) || inside size (o .dead)) ≡ false → recordWithin size o ≡ false
+            unfolding recordWithin
+            no-dead e = simp (le-leb size kind.mostBytes s, keys, offsets, partners, logs, e)
+
+            module _ (dead : (not (o .marked) || inside size (o .dead)) ≡ true) where
+              no-width : widthGood (o .bits) ≡ false → recordWithin size o ≡ false
+              unfolding recordWithin
+              no-width e = simp (le-leb size kind.mostBytes s, keys, offsets, partners, logs, dead, e)
+
+              module _ (width : widthGood (o .bits) ≡ true) where
+                last : recordWithin size o ≡ sizesGood o
+                unfolding recordWithin
+                last = simp (le-leb size kind.mostBytes s, keys, offsets, partners, logs, dead, width)
+
 returns : tie.Need-returns
-returns c = ?
+returns c = let a = c .before .args in sym (large (a .size) (a .o) (omega arith))
 
--- src/look.rt:55:9
 inside-requires : tie.Need-inside-requires
 inside-requires c κs = search needs
 
--- src/look.rt:56:9
 returns-2 : tie.Need-returns-2
-returns-2 c = ?
+returns-2 c =
+    let a = c .before .before .before .before .args in
+    sym (no-keys (a .size) (a .o) (omega (arith, c .before .before .before .if1 .left)) (sym (c .before .inside .ensures) ∙ not-true _ (c .if2 .taken)))
 
--- src/look.rt:59:9
 inside-requires-2 : tie.Need-inside-requires-2
 inside-requires-2 c κs = search needs
 
--- src/look.rt:60:9
 returns-3 : tie.Need-returns-3
-returns-3 c = ?
+returns-3 c =
+    let a = c .before .before .before .before .before .before .before .args in
+    sym (no-offsets (a .size) (a .o) (omega (arith, c .before .before .before .before .before .before .if1 .left)) (sym (c .before .before .before .before .inside .ensures) ∙ not-false _ (c .before .before .before .if2 .left)) (sym (c .before .inside2 .ensures) ∙ not-true _ (c .if3 .taken)))
 
--- src/look.rt:63:9
 inside-requires-3 : tie.Need-inside-requires-3
 inside-requires-3 c κs = search needs
 
--- src/look.rt:64:9
 returns-4 : tie.Need-returns-4
-returns-4 c = ?
+returns-4 c =
+    let a = c .before .before .before .before .before .before .before .before .before .before .args in
+    sym (no-partners (a .size) (a .o) (omega (arith, c .before .before .before .before .before .before .before .before .before .if1 .left)) (sym (c .before .before .before .before .before .before .before .inside .ensures) ∙ not-false _ (c .before .before .before .before .before .before .if2 .left)) (sym (c .before .before .before .before .inside2 .ensures) ∙ not-false _ (c .before .before .before .if3 .left)) (sym (c .before .inside3 .ensures) ∙ not-true _ (c .if4 .taken)))
 
--- src/look.rt:67:9
 inside-requires-4 : tie.Need-inside-requires-4
 inside-requires-4 c κs = search needs
 
--- src/look.rt:68:9
 returns-5 : tie.Need-returns-5
-returns-5 c = ?
+returns-5 c =
+    let a = c .before .before .before .before .before .before .before .before .before .before .before .before .before .args in
+    sym (no-logs (a .size) (a .o) (omega (arith, c .before .before .before .before .before .before .before .before .before .before .before .before .if1 .left)) (sym (c .before .before .before .before .before .before .before .before .before .before .inside .ensures) ∙ not-false _ (c .before .before .before .before .before .before .before .before .before .if2 .left)) (sym (c .before .before .before .before .before .before .before .inside2 .ensures) ∙ not-false _ (c .before .before .before .before .before .before .if3 .left)) (sym (c .before .before .before .before .inside3 .ensures) ∙ not-false _ (c .before .before .before .if4 .left)) (sym (c .before .inside4 .ensures) ∙ not-true _ (c .if5 .taken)))
 
--- src/look.rt:70:9
 dead-inside-requires : tie.Need-dead-inside-requires
 dead-inside-requires c κs = search needs
 
--- src/look.rt:71:9
 returns-6 : tie.Need-returns-6
-returns-6 c = ?
+returns-6 c =
+    let a = c .before .before .before .before .before .before .before .before .before .before .before .before .before .before .before .args in
+    sym (no-dead (a .size) (a .o) (omega (arith, c .before .before .before .before .before .before .before .before .before .before .before .before .before .before .if1 .left)) (sym (c .before .before .before .before .before .before .before .before .before .before .before .before .inside .ensures) ∙ not-false _ (c .before .before .before .before .before .before .before .before .before .before .before .if2 .left)) (sym (c .before .before .before .before .before .before .before .before .before .inside2 .ensures) ∙ not-false _ (c .before .before .before .before .before .before .before .before .if3 .left)) (sym (c .before .before .before .before .before .before .inside3 .ensures) ∙ not-false _ (c .before .before .before .before .before .if4 .left)) (sym (c .before .before .before .inside4 .ensures) ∙ not-false _ (c .before .before .if5 .left)) (sym (c .before .dead-inside .ensures) ∙ not-true _ (c .if6 .taken)))
 
--- src/look.rt:73:9
 width-good-requires : tie.Need-width-good-requires
 width-good-requires c κs = search needs
 
--- src/look.rt:74:9
 returns-7 : tie.Need-returns-7
-returns-7 c = ?
+returns-7 c =
+    let a = c .before .before .before .before .before .before .before .before .before .before .before .before .before .before .before .before .before .args in
+    sym (no-width (a .size) (a .o) (omega (arith, c .before .before .before .before .before .before .before .before .before .before .before .before .before .before .before .before .if1 .left)) (sym (c .before .before .before .before .before .before .before .before .before .before .before .before .before .before .inside .ensures) ∙ not-false _ (c .before .before .before .before .before .before .before .before .before .before .before .before .before .if2 .left)) (sym (c .before .before .before .before .before .before .before .before .before .before .before .inside2 .ensures) ∙ not-false _ (c .before .before .before .before .before .before .before .before .before .before .if3 .left)) (sym (c .before .before .before .before .before .before .before .before .inside3 .ensures) ∙ not-false _ (c .before .before .before .before .before .before .before .if4 .left)) (sym (c .before .before .before .before .before .inside4 .ensures) ∙ not-false _ (c .before .before .before .before .if5 .left)) (sym (c .before .before .before .dead-inside .ensures) ∙ not-false _ (c .before .before .if6 .left)) (sym (c .before .width-good .ensures) ∙ not-true _ (c .if7 .taken)))
 
--- src/look.rt:76:5
 sizes-good-requires : tie.Need-sizes-good-requires
 sizes-good-requires c κs = search needs
 
--- src/look.rt:48:1
 returns-8 : tie.Need-returns-8
-returns-8 c = ?
+returns-8 c =
+    let a = c .before .before .before .before .before .before .before .before .before .before .before .before .before .before .before .before .before .before .args in
+    c .sizes-good .ensures ∙ sym (last (a .size) (a .o) (omega (arith, c .before .before .before .before .before .before .before .before .before .before .before .before .before .before .before .before .before .if1 .left)) (sym (c .before .before .before .before .before .before .before .before .before .before .before .before .before .before .before .inside .ensures) ∙ not-false _ (c .before .before .before .before .before .before .before .before .before .before .before .before .before .before .if2 .left)) (sym (c .before .before .before .before .before .before .before .before .before .before .before .before .inside2 .ensures) ∙ not-false _ (c .before .before .before .before .before .before .before .before .before .before .before .if3 .left)) (sym (c .before .before .before .before .before .before .before .before .before .inside3 .ensures) ∙ not-false _ (c .before .before .before .before .before .before .before .before .if4 .left)) (sym (c .before .before .before .before .before .before .inside4 .ensures) ∙ not-false _ (c .before .before .before .before .before .if5 .left)) (sym (c .before .before .before .before .dead-inside .ensures) ∙ not-false _ (c .before .before .before .if6 .left)) (sym (c .before .before .width-good .ensures) ∙ not-false _ (c .before .if7 .left)))
 
 pub record-good-spec : {M : Type 1} → statement M
 record-good-spec =

@@ -1,34 +1,29 @@
-use borrow.Author.Needs.{needs}
+-- `reader::open::index_check` meets its contract.
+use mathlib.Core.Path.{_≡_, refl, sym, ap, _∙_}
+use Prim.Native.Nat.{_+_}
+use Rattle.refusal.specs.Check.Laws.{bad-then, fine-then}
+use Rattle.frame.specs.Open.{offsetsFrom}
 use Rattle.reader.proofs.open.index_check.Statement.{statement}
 use Rattle.reader.proofs.open.index_check.Tie as tie
-use Rattle.reader.proofs.open.index_check.Reads as reads
-use Rattle.reader.proofs.open.index_check.Lts as lts
-use Rattle.index.proofs.keys.keys_check.Reads as keys-check-reads
-use Rattle.index.proofs.offsets.offsets_check.Reads as offsets-check-reads
+use borrow.Author.Needs.{needs}
 
--- src/open.rt:27:11
 keys-check-requires : tie.Need-keys-check-requires
 keys-check-requires c κs = search needs
 
--- src/open.rt:28:22
 enum-known-refusal : tie.Need-enum-known-refusal
 enum-known-refusal c = search needs
 
--- src/open.rt:29:24
 enum-told : tie.Need-enum-told
 enum-told c = search needs
 
--- src/open.rt:29:24
 offsets-check-requires : tie.Need-offsets-check-requires
 offsets-check-requires c κs = search needs
 
--- src/open.rt:23:1
 returns : tie.Need-returns
-returns c = ?
+returns c = let a = c .before .before .before .before .before .before .args in sym (bad-then (offsetsFrom (a .n + 1) (a .offsets .now) (a .w) (a .n) (a .len) 0) (sym (c .before .before .before .keys-check .ensures) ∙ c .before .refusal .given .1))
 
--- src/open.rt:23:1
 returns-2 : tie.Need-returns-2
-returns-2 c = ?
+returns-2 c = let a = c .before .before .before .before .before .before .args in c .offsets-check .ensures ∙ sym (fine-then (offsetsFrom (a .n + 1) (a .offsets .now) (a .w) (a .n) (a .len) 0) (sym (c .before .before .before .keys-check .ensures) ∙ c .before .enum-told .given .1))
 
 pub index-check-spec : {M : Type 1} → statement M
 index-check-spec =
