@@ -62,7 +62,7 @@ fn row_in(at: u64, b: &[u8], i: usize) -> Section
         return Section::Missing;
     }
     let name = byte(b, p + 3) as usize;
-    if b.len() < p + Row::ENTRY + name + Row::COUNTS {
+    if b.len() < p + Row::ENTRY + name + Footer::COUNTS {
         return Section::Missing;
     }
     placed(at, row_at(b, p))
