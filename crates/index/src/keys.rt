@@ -2,14 +2,15 @@
 ghost use mathlib.Core.Path.{_≡_};
 ghost use Prim.Native.Nat.{_+_, _-_, _*_, _≤_};
 ghost use lib.ListN.{length};
-ghost use lib.Dec.{ltb};
 ghost use Rattle.codes.specs.Ids.{numberOf, halvesAt};
 ghost use Rattle.frame.specs.Open.{keysFrom};
 ghost use Rattle.index.specs.Find.{findIn};
 use codes::ids::Id;
 use codes::ids::Order;
+use codes::ids::be64;
 use codes::ids::compare;
 use codes::ids::id_at;
+use codes::ids::precedes;
 use frame::Row;
 use refusal::Check;
 use refusal::Refusal;
@@ -28,18 +29,8 @@ pub fn key_at(keys: &[u8], k: usize) -> Id
     id_at(keys, k * (Row::KEY as usize))
 }
 
-// Is b above a?
-fn above(a: Id, b: Id) -> bool
-    ensures { λ r. ⌜ r ≡ ltb (numberOf a) (numberOf b) ⌝ }
-{
-    match compare(a, b) {
-        Order::Less => true,
-        Order::Equal => false,
-        Order::Greater => false,
-    }
-}
-
-// Rule 13: the first of n keys that is not above the one before it. Each key is read once.
+// Rule 13: the first of n keys that is not above the one before it. Upper halves are read once, and lower ones only where
+// these are equal.
 pub fn keys_check(keys: &[u8], n: usize) -> Check
     requires { ⌜ (n ≤ 16777216) × (n * 16 ≤ length (now keys)) ⌝ }
     ensures { λ r. ⌜ r ≡ keysFrom (n - 1) (now (keys .entry)) 1 ⌝ }
@@ -47,16 +38,17 @@ pub fn keys_check(keys: &[u8], n: usize) -> Check
     if n == 0 {
         return Check::Fine;
     }
-    let mut last = key_at(keys, 0);
+    let mut last = be64(keys, 0);
     let mut k: usize = 1;
     while k < n {
-        let key = key_at(keys, k);
-        if !above(last, key) {
+        let i = k * (Row::KEY as usize);
+        let hi = be64(keys, i);
+        if !precedes(keys, i - (Row::KEY as usize), i, last, hi) {
             return Check::Bad {
                 refusal: Refusal::Key { index: k as u64 },
             };
         }
-        last = key;
+        last = hi;
         k = k + 1;
     }
     Check::Fine
