@@ -1,6 +1,7 @@
 // Ids of 16 bytes. An id compares as one big-endian number; the code holds it as its two halves.
 ghost use mathlib.Core.Path.{_≡_};
 ghost use Prim.Native.Nat.{_+_, _≤_, _<_};
+ghost use lib.Dec.{ltb};
 ghost use lib.ListN.{length};
 ghost use lib.Seq.{sets};
 ghost use Rattle.codes.specs.Ids.{beAt, beBytes, turned, idAt, numberOf, idBytes, halvesAt, order};
@@ -71,6 +72,22 @@ pub fn compare(a: Id, b: Id) -> Order
         return Order::Greater;
     }
     Order::Equal
+}
+
+// Does the id at i come before the one at j? Their upper halves are a and b; the lower ones are read only where these
+// are equal.
+pub fn precedes(s: &[u8], i: usize, j: usize, a: u64, b: u64) -> bool
+    requires { ⌜ (i + 16 ≤ length (now s)) × (j + 16 ≤ length (now s)) × (a ≡ beAt (now s) i 8) × (b ≡ beAt (now s) j 8) ⌝ }
+    ensures { λ r. ⌜ r ≡ ltb (idAt (now (s .entry)) i) (idAt (now (s .entry)) j) ⌝ }
+{
+    if a < b {
+        return true;
+    }
+    if b < a {
+        return false;
+    }
+    let lower = be64(s, i + 8);
+    lower < be64(s, j + 8)
 }
 
 // Writes the n low bytes of x at `at`, the highest first.

@@ -6,9 +6,9 @@ ghost use lib.ListN.{length, drop};
 ghost use Rattle.base.specs.Over.{over};
 ghost use Rattle.group.specs.Group.{walkFrom, answerOf};
 use super::Group;
-use super::above;
 use super::fault::Fault;
-use codes::ids::id_at;
+use codes::ids::be64;
+use codes::ids::precedes;
 
 // Checks the partners from `at` on. Every fault of a dense payload is a bad shape, so its length can be held against the
 // degree before any partner is read.
@@ -28,16 +28,16 @@ pub fn check_dense(g: &[u8], at: usize, degree: u64) -> Group
             fault: Fault::Shape,
         };
     }
-    let mut last = id_at(g, at);
+    let mut last = be64(g, at);
     let mut i = at + 16;
     while i < g.len() {
-        let id = id_at(g, i);
-        if !above(last, id) {
+        let hi = be64(g, i);
+        if !precedes(g, i - 16, i, last, hi) {
             return Group::Bad {
                 fault: Fault::Shape,
             };
         }
-        last = id;
+        last = hi;
         i = i + 16;
     }
     Group::Good {

@@ -5,8 +5,8 @@ use native.Mathlib.Omega.{arith}
 use native.Mathlib.Decide.{decLt}
 use mathlib.Core.List.{List}
 use mathlib.Core.Bool.{Bool, true, false}
-use lib.Dec.{ltb, eqb}
-use borrow.Author.Tests.{lt-ltb, le-ltb, eq-eqb, ne-eqb}
+use lib.Dec.{eqb}
+use borrow.Author.Tests.{eq-eqb, ne-eqb}
 use Rattle.codes.specs.declared.ids.Order.{Order}
 use Rattle.codes.specs.declared.ids.Id.{Id}
 use Rattle.codes.specs.Ids.{idAt, numberOf, halvesAt, order}
@@ -16,12 +16,7 @@ use Rattle.codes.specs.Ids.Laws.{less, greater, equal, number-halves}
 pub tri {ℓ} : {X : Type ℓ} (m n : ℕ) → (m < n → X) → (m ≡ n → X) → (n < m → X) → X
 tri m n f g h = elim (decLt m n) [ yes a ↦ f a | no a ↦ elim (decLt n m) [ yes b ↦ h b | no b ↦ g (omega arith) ] ]
 
--- what an order says as a test: below, or equal
-abbrev pub isLess : Order → Bool
-isLess Order.Less = true
-isLess Order.Equal = false
-isLess Order.Greater = false
-
+-- what an order says as a test
 abbrev pub isEqual : Order → Bool
 isEqual Order.Less = false
 isEqual Order.Equal = true
@@ -29,18 +24,12 @@ isEqual Order.Greater = false
 
 -- an answer p of the order of m and n
 module _ (m n : ℕ) where
-  less-test : isLess (order m n) ≡ ltb m n
-  less-test = tri m n (λ l. rw (less l, lt-ltb m n l)) (λ e. rw (equal e, le-ltb m n (omega arith))) (λ g. rw (greater g, le-ltb m n (omega arith)))
-
   equal-test : isEqual (order m n) ≡ eqb m n
   equal-test =
       tri m n
       (λ l. rw (less l, ne-eqb m n (λ q. omega arith)))
       (λ e. rw (equal e, eq-eqb m n e))
       (λ g. rw (greater g, ne-eqb m n (λ q. omega arith)))
-
-  pub less-is : (p : Order) {o : Order} → o ≡ order m n → o ≡ p → isLess p ≡ ltb m n
-  less-is p e q = ap isLess (sym q ∙ e) ∙ less-test
 
   pub equal-is : (p : Order) {o : Order} → o ≡ order m n → o ≡ p → isEqual p ≡ eqb m n
   equal-is p e q = ap isEqual (sym q ∙ e) ∙ equal-test
@@ -55,8 +44,5 @@ module _ (s : List ℕ) (i : ℕ) {d : Id} (e : d ≡ halvesAt s i) where
   order-read k p g q = sym (ap (λ (t : ℕ). order t k) (number-is s i e)) ∙ sym g ∙ q
 
   module _ (t : List ℕ) (j : ℕ) {f : Id} (h : f ≡ halvesAt t j) {b c : Bool} where
-    pub ltb-read : b ≡ ltb (numberOf d) (numberOf f) → b ≡ c → ltb (idAt s i) (idAt t j) ≡ c
-    ltb-read g q = sym (ap₂ ltb (number-is s i e) (number-is t j h)) ∙ sym g ∙ q
-
     pub eqb-read : b ≡ eqb (numberOf d) (numberOf f) → b ≡ c → eqb (idAt s i) (idAt t j) ≡ c
     eqb-read g q = sym (ap₂ eqb (number-is s i e) (number-is t j h)) ∙ sym g ∙ q

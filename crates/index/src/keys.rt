@@ -2,15 +2,16 @@
 ghost use mathlib.Core.Path.{_≡_};
 ghost use Prim.Native.Nat.{_+_, _-_, _*_, _≤_};
 ghost use lib.ListN.{length};
-ghost use lib.Dec.{ltb};
 ghost use Rattle.codes.specs.Ids.{numberOf, halvesAt};
 ghost use Rattle.frame.specs.Kind as kind;
 ghost use Rattle.frame.specs.Open.{keysFrom};
 ghost use Rattle.index.specs.Find.{findIn};
 use codes::ids::Id;
 use codes::ids::Order;
+use codes::ids::be64;
 use codes::ids::compare;
 use codes::ids::id_at;
+use codes::ids::precedes;
 use frame::kind::Keys;
 use refusal::Check;
 use refusal::Refusal;
@@ -29,18 +30,8 @@ pub fn key_at(keys: &[u8], k: usize) -> Id
     id_at(keys, k * (Keys::ROW as usize))
 }
 
-// Is b above a?
-fn above(a: Id, b: Id) -> bool
-    ensures { λ r. ⌜ r ≡ ltb (numberOf a) (numberOf b) ⌝ }
-{
-    match compare(a, b) {
-        Order::Less => true,
-        Order::Equal => false,
-        Order::Greater => false,
-    }
-}
-
-// Rule 13: the first of n keys that is not above the one before it. Each key is read once.
+// Rule 13: the first of n keys that is not above the one before it. Upper halves are read once, and lower ones only where
+// these are equal.
 pub fn keys_check(keys: &[u8], n: usize) -> Check
     requires { ⌜ (n ≤ kind.mostKeys) × (n * kind.keySize ≤ length (now keys)) ⌝ }
     ensures { λ r. ⌜ r ≡ keysFrom (n - 1) (now (keys .entry)) 1 ⌝ }
@@ -48,16 +39,17 @@ pub fn keys_check(keys: &[u8], n: usize) -> Check
     if n == 0 {
         return Check::Fine;
     }
-    let mut last = key_at(keys, 0);
+    let mut last = be64(keys, 0);
     let mut k: usize = 1;
     while k < n {
-        let key = key_at(keys, k);
-        if !above(last, key) {
+        let i = k * (Keys::ROW as usize);
+        let hi = be64(keys, i);
+        if !precedes(keys, i - (Keys::ROW as usize), i, last, hi) {
             return Check::Bad {
                 refusal: Refusal::Key { index: k as u64 },
             };
         }
-        last = key;
+        last = hi;
         k = k + 1;
     }
     Check::Fine

@@ -4,6 +4,8 @@ use Prim.Native.Nat.{ℕ, zero, suc, _+_, _-_, _*_, _/_, _%_, _^_, _≤_, _<_}
 use native.Mathlib.Nat.{lt-of-lt-of-le, pow-le-pow-right, pow-suc, zero-lt-suc, add-zero, add-suc, add-assoc, add-mul, mul-assoc, div-add-mod', div-lt-iff-lt-mul}
 use native.Mathlib.Numerals.{add-one}
 use native.Mathlib.Omega.{arith}
+use native.Mathlib.Decide.{decLt}
+use mathlib.Core.Bool.{Bool, true, false}
 use mathlib.Core.List.{List, [], _∷_, _++_, append-assoc, append-nil}
 use lib.ListN.{length, getD, set, length-append}
 use lib.Seq.{sets, getD-append-add, getD-at, append-snoc}
@@ -74,6 +76,42 @@ halves-is s i = refl
 pub number-halves : (s : List ℕ) (i : ℕ) → numberOf (halvesAt s i) ≡ idAt s i
 unfolding halvesAt
 number-halves s i = sym (id-halves s i)
+
+-- ---- the order of two ids, by their halves
+
+module _ (a b : Id) where
+  pub above-upper : a .hi < b .hi → a .lo < 2 ^ 64 → ltb (numberOf a) (numberOf b) ≡ true
+  above-upper h l = lt-ltb (numberOf a) (numberOf b) (upper (a .lo) (b .lo) h l)
+
+  pub above-under : b .hi < a .hi → b .lo < 2 ^ 64 → ltb (numberOf a) (numberOf b) ≡ false
+  above-under h l = let lt = upper (b .lo) (a .lo) h l in le-ltb (numberOf a) (numberOf b) (omega arith)
+
+  pub above-lower : a .hi ≡ b .hi → ltb (numberOf a) (numberOf b) ≡ ltb (a .lo) (b .lo)
+  above-lower e =
+      elim (decLt (a .lo) (b .lo)) [
+        | yes l ↦ let n : numberOf a < numberOf b = rw e (omega arith) in lt-ltb (numberOf a) (numberOf b) n ∙ sym (lt-ltb (a .lo) (b .lo) l)
+        | no l ↦ let n : numberOf b ≤ numberOf a = rw e (omega arith) in le-ltb (numberOf a) (numberOf b) n ∙ sym (le-ltb (a .lo) (b .lo) (omega arith))
+      ]
+
+-- as they stand at i and at j
+module _ (s : List ℕ) (byte : (k : ℕ) → getD s k 0 < 256) (i j : ℕ) where
+  abbrev before : Bool
+  before = ltb (idAt s i) (idAt s j)
+
+  by-halves : before ≡ ltb (numberOf (halvesAt s i)) (numberOf (halvesAt s j))
+  by-halves = ap₂ ltb (sym (number-halves s i)) (sym (number-halves s j))
+
+  pub before-upper : beAt s i 8 < beAt s j 8 → before ≡ true
+  unfolding halvesAt
+  before-upper h = by-halves ∙ above-upper (halvesAt s i) (halvesAt s j) h (beAt-lt s byte (i + 8) 8)
+
+  pub before-under : beAt s j 8 < beAt s i 8 → before ≡ false
+  unfolding halvesAt
+  before-under h = by-halves ∙ above-under (halvesAt s i) (halvesAt s j) h (beAt-lt s byte (j + 8) 8)
+
+  pub before-lower : beAt s i 8 ≡ beAt s j 8 → before ≡ ltb (beAt s (i + 8) 8) (beAt s (j + 8) 8)
+  unfolding halvesAt
+  before-lower e = by-halves ∙ above-lower (halvesAt s i) (halvesAt s j) e
 
 -- ---- writing
 

@@ -1,7 +1,7 @@
 -- `group::above` meets its contract: the upper halves decide, and where they are equal the lower.
 use mathlib.Core.Path.{sym}
 use native.Mathlib.Nat.{le-antisymm}
-use Rattle.group.specs.Group.Laws.{above-upper, above-under, above-lower}
+use Rattle.codes.specs.Ids.Laws.{above-upper, above-under, above-lower}
 use Rattle.group.proofs.above.Statement.{statement}
 use Rattle.group.proofs.above.Tie as tie
 

@@ -16,7 +16,7 @@ use Rattle.codes.specs.declared.varint.Varint.the-variants.{Value}
 use Rattle.codes.specs.declared.varint.Unread.{Unread}
 use Rattle.codes.specs.Little.{leAt}
 use Rattle.codes.specs.Ids.{halvesAt, numberOf, idBytes}
-use Rattle.codes.specs.Ids.Laws.{length-idBytes, upper}
+use Rattle.codes.specs.Ids.Laws.{length-idBytes}
 use Rattle.codes.specs.Varint.{varintAt}
 use Rattle.codes.specs.Varint.Laws.{varint-next}
 use Rattle.group.specs.declared.fault.Fault.{Fault}
@@ -125,21 +125,7 @@ step-next false g i hi p n e =
     let after = varint-next g i v m q in
     (omega arith, omega arith)
 
--- ---- order, by the halves
-
-module _ (a b : Id) where
-  pub above-upper : a .hi < b .hi → a .lo < 2 ^ 64 → ltb (numberOf a) (numberOf b) ≡ true
-  above-upper h l = lt-ltb (numberOf a) (numberOf b) (upper (a .lo) (b .lo) h l)
-
-  pub above-under : b .hi < a .hi → b .lo < 2 ^ 64 → ltb (numberOf a) (numberOf b) ≡ false
-  above-under h l = let lt = upper (b .lo) (a .lo) h l in le-ltb (numberOf a) (numberOf b) (omega arith)
-
-  pub above-lower : a .hi ≡ b .hi → ltb (numberOf a) (numberOf b) ≡ ltb (a .lo) (b .lo)
-  above-lower e =
-      elim (decLt (a .lo) (b .lo)) [
-        | yes l ↦ let n : numberOf a < numberOf b = rw e (omega arith) in lt-ltb (numberOf a) (numberOf b) n ∙ sym (lt-ltb (a .lo) (b .lo) l)
-        | no l ↦ let n : numberOf b ≤ numberOf a = rw e (omega arith) in le-ltb (numberOf a) (numberOf b) n ∙ sym (le-ltb (a .lo) (b .lo) (omega arith))
-      ]
+-- ---- order
 
 -- the first partner is not below the floor, and another is not where it is above the last one
 pub order-first : (k : ℕ) (last p : Id) → k ≡ 0 → leb (floorOf k last) (numberOf p) ≡ true
