@@ -8,7 +8,8 @@ typedef enum { TIMES, SPAN, NEAR } ids;
 
 /* So many keys with so many partners each.
  * TIMES: ids of version 7. Of four keys `spread` have partners from one year, the
- *   others from one minute: their upper halves mostly differ by 7 bytes and by 5.
+ *   others from one minute: with 8 partners the differences of their upper halves take 7
+ *   bytes, and 4 or 5.
  * SPAN: ids of version 7, from a millisecond to 18 hours apart, each power of two
  *   alike: 3 to 6 bytes.
  * NEAR: upper halves 1 to 200 apart: 1 byte or 2. */
