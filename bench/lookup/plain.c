@@ -1,26 +1,9 @@
-/* A record lookup in plain C: the same rules, the same order of refusals and the
- * same answer as edge_sst_partners_with, written as one would without proofs. */
-#include <string.h>
+/* A record lookup in plain C: partners alone. Offsets, varints and groups are read in a
+ * form of its own; bench/README.md says what that of group.h would take. */
+#include "../common/format.h"
+#include "../common/plain.h"
 
-#include "../../include/edge_sst.h"
-
-EdgeSstLooked plain_partners_with(const uint8_t *p, size_t n, const EdgeSstOpened *o,
-                                  const uint8_t key[16], uint8_t *out, size_t m);
-
-static uint64_t le64(const uint8_t *p) {
-    uint64_t x;
-    memcpy(&x, p, 8);
-    return x;
-}
-
-static uint64_t be64(const uint8_t *p) { return __builtin_bswap64(le64(p)); }
-
-static void put_be64(uint8_t *p, uint64_t x) {
-    x = __builtin_bswap64(x);
-    memcpy(p, &x, 8);
-}
-
-static uint64_t offset_at(const uint8_t *p, size_t width) {
+static uint64_t offset_of(const uint8_t *p, size_t width) {
     uint64_t x = 0;
     switch (width) {
     case 3:
@@ -63,18 +46,15 @@ static inline int varint(const uint8_t **p, const uint8_t *end, uint64_t *x) {
     }
 }
 
-static int inside(uint64_t size, uint64_t start, uint64_t len) {
-    return start <= size && len <= size - start;
-}
+static int inside(uint64_t size, uint64_t start, uint64_t len) { return start <= size && len <= size - start; }
 
 static int record_good(size_t n, const EdgeSstOpened *o) {
-    return n <= 1u << 30 && inside(n, o->keystart, o->keylen) && inside(n, o->offsetstart, o->offsetlen) &&
+    return n <= MOST_BYTES && inside(n, o->keystart, o->keylen) && inside(n, o->offsetstart, o->offsetlen) &&
            inside(n, o->partnerstart, o->partnerlen) && inside(n, o->logstart, o->loglen) &&
-           (!o->marked || inside(n, o->deadstart, o->deadlen)) && o->keycount <= 1u << 24 &&
-           o->edgecount <= 1u << 26 &&
-           (o->bits == 24 || o->bits == 32 || o->bits == 40 || o->bits == 48) &&
-           o->keylen == 16 * o->keycount && o->offsetlen == (o->keycount + 1) * (o->bits / 8) &&
-           o->loglen == 8 * o->edgecount && (!o->marked || o->deadlen == (o->edgecount + 7) / 8);
+           (!o->marked || inside(n, o->deadstart, o->deadlen)) && o->keycount <= MOST_KEYS &&
+           o->edgecount <= MOST_EDGES && (o->bits == 24 || o->bits == 32 || o->bits == 40 || o->bits == 48) &&
+           o->keylen == ID * o->keycount && o->offsetlen == (o->keycount + 1) * (o->bits / 8) &&
+           o->loglen == 8 * o->edgecount && (!o->marked || o->deadlen == tombstone_bytes(o->edgecount));
 }
 
 /* Do the partners of 16 bytes each from p to end, at least one, strictly increase? */
@@ -99,13 +79,13 @@ static int check_group(const uint8_t *p, const uint8_t *end, uint64_t *degree, i
         return 18;
     uint8_t tag = *p++;
     *degree = d;
-    if (tag == 0x10) {
+    if (tag == DENSE) {
         *dense = 1;
         if ((uint64_t)(end - p) / 16 != d || (end - p) % 16 != 0)
             return 18;
         return dense_rise(p, end) ? 0 : 18;
     }
-    if (tag != 0x01)
+    if (tag != SPLIT)
         return 16;
     *dense = 0;
     for (uint64_t k = 0; k < d; k++) {
@@ -139,8 +119,8 @@ static void fill_group(const uint8_t *p, const uint8_t *end, int dense, uint8_t 
     }
 }
 
-EdgeSstLooked plain_partners_with(const uint8_t *p, size_t n, const EdgeSstOpened *o,
-                                  const uint8_t key[16], uint8_t *out, size_t m) {
+EdgeSstLooked plain_partners_with(const uint8_t *p, size_t n, const EdgeSstOpened *o, const uint8_t key[16],
+                                  uint8_t *out, size_t m) {
     if (!record_good(n, o))
         return (EdgeSstLooked){.number = 21};
     const uint8_t *keys = p + o->keystart;
@@ -151,7 +131,7 @@ EdgeSstLooked plain_partners_with(const uint8_t *p, size_t n, const EdgeSstOpene
         if (h == hi && l == lo) {
             size_t width = o->bits / 8;
             const uint8_t *at = p + o->offsetstart + width * i, *partners = p + o->partnerstart;
-            uint64_t a = offset_at(at, width), e = offset_at(at + width, width), d;
+            uint64_t a = offset_of(at, width), e = offset_of(at + width, width), d;
             int dense;
             if (e < a || o->partnerlen < e)
                 return (EdgeSstLooked){.number = 14, .place = i};

@@ -1,42 +1,19 @@
 /* Opening in plain C: rules 1 to 15 in their order. For little-endian machines. */
-#define XXH_INLINE_ALL
-#include <xxhash.h>
+#include "../common/sum.h"
 
-#include <string.h>
+#include "../common/format.h"
+#include "../common/plain.h"
 
-#include "open.h"
-
-enum { HEADER = 64, TRAILER = 20, ENTRY = 28, COUNTS = 17, KEY = 16, FENCES_HEAD = 8, FENCE = 24 };
-enum { KEYS = 1, OFFSETS, PARTNERS, LOGS, DEAD, FENCES, PROPERTIES = 0x100 };
 enum { NEEDED = 1 << KEYS | 1 << OFFSETS | 1 << PARTNERS | 1 << LOGS };
-enum { HAS_PROPERTIES = 1, HAS_DEAD = 2 };
-enum { MOST_KEYS = 1 << 24, MOST_EDGES = 1 << 26, MOST_WITHOUT_FENCES = 65536 };
 
 #define NONE SIZE_MAX
+#define INLINE __attribute__((always_inline)) static inline
 
 typedef struct {
     uint64_t start, length;
 } range;
 
-static inline uint64_t le16(const uint8_t *p) {
-    uint16_t x;
-    memcpy(&x, p, sizeof x);
-    return x;
-}
-
-static inline uint64_t le32(const uint8_t *p) {
-    uint32_t x;
-    memcpy(&x, p, sizeof x);
-    return x;
-}
-
-static inline uint64_t le64(const uint8_t *p) {
-    uint64_t x;
-    memcpy(&x, p, sizeof x);
-    return x;
-}
-
-static inline uint64_t be64(const uint8_t *p) { return __builtin_bswap64(le64(p)); }
+static inline EdgeSstTold told(uint64_t number, uint64_t place) { return (EdgeSstTold){number, place}; }
 
 static inline EdgeSstOpened refused(uint64_t number, uint64_t place) {
     return (EdgeSstOpened){.number = number, .place = place};
@@ -46,35 +23,20 @@ static inline EdgeSstOpened refused(uint64_t number, uint64_t place) {
 static inline size_t bad_key(const uint8_t *keys, size_t n) {
     if (n == 0)
         return NONE;
-    const uint8_t *end = keys + KEY * n;
+    const uint8_t *end = keys + ID * n;
     uint64_t last_high = be64(keys), last_low = be64(keys + 8);
-    for (const uint8_t *p = keys + KEY; p != end; p += KEY) {
+    for (const uint8_t *p = keys + ID; p != end; p += ID) {
         uint64_t high = be64(p), low = be64(p + 8);
         if (!(high > last_high || (high == last_high && low > last_low)))
-            return (size_t)(p - keys) / KEY;
+            return (size_t)(p - keys) / ID;
         last_high = high;
         last_low = low;
     }
     return NONE;
 }
 
-/* The offset of `width` bytes at p; no byte beside it is read. */
-static inline uint64_t offset_at(const uint8_t *p, size_t width) {
-    switch (width) {
-    case 3:
-        return le16(p) | (uint64_t)p[2] << 16;
-    case 4:
-        return le32(p);
-    case 5:
-        return le32(p) | (uint64_t)p[4] << 32;
-    default:
-        return le32(p) | le16(p + 4) << 32;
-    }
-}
-
 /* Rule 14: the first of n + 1 offsets that breaks it, or NONE. */
-__attribute__((always_inline)) static inline size_t bad_offset_of(const uint8_t *offsets, size_t n,
-                                                                  uint64_t length, size_t width) {
+INLINE size_t bad_offset_of(const uint8_t *offsets, size_t n, uint64_t length, size_t width) {
     const uint8_t *end = offsets + width * (n + 1);
     uint64_t last = offset_at(offsets, width);
     if (last != 0)
@@ -109,109 +71,140 @@ static inline int fences_good(const uint8_t *fences, uint64_t length, const uint
     if (stride == 0 || count != (n + stride - 1) / stride || length != FENCES_HEAD + FENCE * count)
         return 0;
     const uint8_t *p = fences + FENCES_HEAD, *end = fences + length;
-    for (uint64_t place = 0; p != end; p += FENCE, place += KEY * stride)
-        if (le64(p) != le64(keys + place) || le64(p + 8) != le64(keys + place + 8) ||
-            le64(p + KEY) != place)
+    for (uint64_t place = 0; p != end; p += FENCE, place += ID * stride)
+        if (le64(p) != le64(keys + place) || le64(p + 8) != le64(keys + place + 8) || le64(p + ID) != place)
             return 0;
     return 1;
 }
 
-EdgeSstOpened plain_open(const uint8_t *file, size_t size) {
-    static const uint8_t magic[8] = "TGEDGE";
+/* Where things stand, by the file's two ends. */
+typedef struct {
+    const uint8_t *trailer, *body;
+    uint64_t flags, sections_end;
+} ends;
 
-    /* The two ends: 1 to 8. */
-    if (size < HEADER + TRAILER || size > 1 << 30)
-        return refused(1, 0);
+/* Rules 1 to 8: the first that is broken, or 0. */
+INLINE uint64_t ends_fault(const uint8_t *file, size_t size, ends *e) {
+    if (size < HEADER + TRAILER || size > MOST_BYTES)
+        return 1;
     if (memcmp(file, magic, sizeof magic) != 0)
-        return refused(2, 0);
+        return 2;
     if (file[8] != 1)
-        return refused(3, 0);
+        return 3;
     if (le16(file + 10) != HEADER)
-        return refused(4, 0);
-    uint64_t flags = le32(file + 12);
-    if (flags >> 4 != 0)
-        return refused(5, 0);
-    const uint8_t *trailer = file + size - TRAILER;
-    if (memcmp(trailer + 12, magic, sizeof magic) != 0)
-        return refused(6, 0);
-    uint64_t footer = le32(trailer + 8);
-    if (footer < 2 + COUNTS + TRAILER || footer > size - HEADER)
-        return refused(7, 0);
-    uint64_t sections_end = size - footer;
-    const uint8_t *body = file + sections_end;
-    if (XXH3_64bits(body, footer - TRAILER) != le64(trailer))
-        return refused(8, 0);
+        return 4;
+    e->flags = le32(file + 12);
+    if (e->flags >> 4 != 0)
+        return 5;
+    e->trailer = file + size - TRAILER;
+    if (memcmp(e->trailer + 12, magic, sizeof magic) != 0)
+        return 6;
+    uint64_t footer = le32(e->trailer + 8);
+    if (footer < 2 + FOOTER_COUNTS + TRAILER || footer > size - HEADER)
+        return 7;
+    e->sections_end = size - footer;
+    e->body = file + e->sections_end;
+    if (XXH3_64bits(e->body, footer - TRAILER) != le64(e->trailer))
+        return 8;
+    return 0;
+}
 
-    /* The table: 9 to 11. An entry can be read anywhere in it, as 17 and 20 bytes follow. */
-    uint64_t sections = le16(body);
-    if (sections < 1 || sections > 64)
-        return refused(9, 0);
-    const uint8_t *p = body + 2, *counts = trailer - COUNTS;
+/* What the table says of kinds 1 to 6, and whether there is a property stream. */
+typedef struct {
     range found[FENCES + 1];
-    unsigned seen = 0;
-    int properties = 0;
+    unsigned seen;
+    int properties;
+} table;
+
+/* Rules 9 to 11. An entry can be read anywhere in the table, as 17 and 20 bytes follow. */
+INLINE EdgeSstTold table_fault(const uint8_t *body, const uint8_t *counts, uint64_t sections_end, table *t) {
+    uint64_t sections = le16(body), floor = HEADER;
+    if (sections < 1 || sections > 64)
+        return told(9, 0);
+    const uint8_t *p = body + 2;
     size_t bad_codec = NONE, bad_range = NONE;
-    uint64_t floor = HEADER;
-    found[DEAD] = found[FENCES] = (range){0, 0};
+    t->seen = 0;
+    t->properties = 0;
+    t->found[TOMBSTONES] = t->found[FENCES] = (range){0, 0};
     for (size_t i = 0; i < sections; i++) {
         uint64_t kind = le16(p), name = p[3];
         range r = {le64(p + 4), le64(p + 12)};
         if (name > 63 || (uint64_t)(counts - p) < ENTRY + name)
-            return refused(9, 0);
+            return told(9, 0);
         if (kind >= KEYS && kind <= FENCES) {
-            if (name != 0 || (seen >> kind & 1))
-                return refused(9, 0);
-            seen |= 1u << kind;
-            found[kind] = r;
+            if (name != 0 || (t->seen >> kind & 1))
+                return told(9, 0);
+            t->seen |= 1u << kind;
+            t->found[kind] = r;
             if (p[2] != 0 && bad_codec == NONE)
                 bad_codec = i;
         } else if (kind == PROPERTIES)
-            properties = 1;
-        if (bad_range == NONE &&
-            (r.start < floor || r.start > sections_end || r.length > sections_end - r.start))
+            t->properties = 1;
+        if (bad_range == NONE && (r.start < floor || r.start > sections_end || r.length > sections_end - r.start))
             bad_range = i;
         floor = r.start + r.length;
         p += ENTRY + name;
     }
-    if (p != counts || (seen & NEEDED) != NEEDED)
-        return refused(9, 0);
+    if (p != counts || (t->seen & NEEDED) != NEEDED)
+        return told(9, 0);
     if (bad_codec != NONE)
-        return refused(10, bad_codec);
-    if (bad_range != NONE)
-        return refused(11, bad_range);
+        return told(10, bad_codec);
+    return bad_range != NONE ? told(11, bad_range) : told(0, 0);
+}
 
-    /* The counts: 12. */
-    uint64_t n = le64(counts), edges = le64(counts + 8), bits = counts[16];
-    int marked = seen >> DEAD & 1, fenced = seen >> FENCES & 1;
-    if (n > MOST_KEYS || edges > MOST_EDGES || (bits != 24 && bits != 32 && bits != 40 && bits != 48) ||
-        found[KEYS].length != KEY * n || found[OFFSETS].length != (n + 1) * (bits / 8) ||
-        found[LOGS].length != 8 * edges || (marked && found[DEAD].length != (edges + 7) / 8) ||
-        edges < n || (n == 0 && edges > 0) || (n > MOST_WITHOUT_FENCES && !fenced) ||
-        ((flags & HAS_PROPERTIES) != 0) != properties || ((flags & HAS_DEAD) != 0 && !marked))
-        return refused(12, 0);
+/* Rule 12. */
+INLINE int counts_good(uint64_t flags, const table *t, uint64_t n, uint64_t edges, uint64_t bits) {
+    const range *found = t->found;
+    int marked = t->seen >> TOMBSTONES & 1, fenced = t->seen >> FENCES & 1;
+    return !(n > MOST_KEYS || edges > MOST_EDGES || (bits != 24 && bits != 32 && bits != 40 && bits != 48) ||
+             found[KEYS].length != ID * n || found[OFFSETS].length != (n + 1) * (bits / 8) ||
+             found[LOGS].length != 8 * edges || (marked && found[TOMBSTONES].length != tombstone_bytes(edges)) ||
+             edges < n || (n == 0 && edges > 0) || (n > MOST_WITHOUT_FENCES && !fenced) ||
+             ((flags & HAS_PROPERTIES) != 0) != t->properties || ((flags & HAS_DEAD) != 0 && !marked));
+}
 
-    /* The content: 13 to 15. */
+/* Rules 13 to 15. */
+INLINE EdgeSstTold content_fault(const uint8_t *file, const range found[], int fenced, uint64_t n, uint64_t bits) {
     const uint8_t *keys = file + found[KEYS].start;
     size_t bad = bad_key(keys, n);
     if (bad != NONE)
-        return refused(13, bad);
+        return told(13, bad);
     bad = bad_offset(file + found[OFFSETS].start, n, found[PARTNERS].length, bits / 8);
     if (bad != NONE)
-        return refused(14, bad);
+        return told(14, bad);
     if (fenced && !fences_good(file + found[FENCES].start, found[FENCES].length, keys, n))
-        return refused(15, 0);
+        return told(15, 0);
+    return told(0, 0);
+}
 
+EdgeSstOpened plain_open(const uint8_t *file, size_t size) {
+    ends e;
+    uint64_t fault = ends_fault(file, size, &e);
+    if (fault != 0)
+        return refused(fault, 0);
+    const uint8_t *counts = e.trailer - FOOTER_COUNTS;
+    table t;
+    EdgeSstTold wrong = table_fault(e.body, counts, e.sections_end, &t);
+    if (wrong.number != 0)
+        return refused(wrong.number, wrong.place);
+    uint64_t n = le64(counts), edges = le64(counts + 8), bits = counts[16];
+    int marked = t.seen >> TOMBSTONES & 1, fenced = t.seen >> FENCES & 1;
+    if (!counts_good(e.flags, &t, n, edges, bits))
+        return refused(12, 0);
+    EdgeSstTold bad = content_fault(file, t.found, fenced, n, bits);
+    if (bad.number != 0)
+        return refused(bad.number, bad.place);
     return (EdgeSstOpened){
-        .keystart = found[KEYS].start,
-        .keylen = found[KEYS].length,
-        .offsetstart = found[OFFSETS].start,
-        .offsetlen = found[OFFSETS].length,
-        .partnerstart = found[PARTNERS].start,
-        .partnerlen = found[PARTNERS].length,
-        .logstart = found[LOGS].start,
-        .loglen = found[LOGS].length,
-        .deadstart = found[DEAD].start,
-        .deadlen = found[DEAD].length,
+        .keystart = t.found[KEYS].start,
+        .keylen = t.found[KEYS].length,
+        .offsetstart = t.found[OFFSETS].start,
+        .offsetlen = t.found[OFFSETS].length,
+        .partnerstart = t.found[PARTNERS].start,
+        .partnerlen = t.found[PARTNERS].length,
+        .logstart = t.found[LOGS].start,
+        .loglen = t.found[LOGS].length,
+        .deadstart = t.found[TOMBSTONES].start,
+        .deadlen = t.found[TOMBSTONES].length,
         .marked = (uint64_t)marked,
         .keycount = n,
         .edgecount = edges,

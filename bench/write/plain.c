@@ -1,36 +1,18 @@
 /* The writer in plain C: the batch is checked and counted in one pass, its groups
  * measured in a second, and all sections but the fences written in a third. No
  * heap. For little-endian machines. */
-#define XXH_INLINE_ALL
-#include <xxhash.h>
+#include "../common/sum.h"
 
-#include <string.h>
+#include "../common/format.h"
+#include "../common/plain.h"
 
-#include "write.h"
-
-enum { HEADER = 64, TRAILER = 20, ENTRY = 28, ID = 16, HALF = 8, STRIDE = 256 };
-enum { HEADING = 50, EDGE = 41, KEY = 1, PARTNER = 17, LOG = 33 };
-enum { LIVE = 1, DEAD = 2, HEAD = 3, SPLIT = 0x01, DENSE = 0x10, MOST_BY_COST = 1024 };
-enum { MOST_KEYS = 1 << 24, MOST_EDGES = 1 << 26, MOST_BYTES = 1 << 30, MOST_WITHOUT_FENCES = 65536 };
-static const uint8_t magic[8] = "TGEDGE";
+enum { MOST_BY_COST = 1024 };
 
 /* What is known before anything is written. */
 typedef struct {
     uint64_t keys, edges, partners, width, fences, size;
     int dead, dense;
 } counts;
-
-static inline uint64_t le64(const uint8_t *p) {
-    uint64_t x;
-    memcpy(&x, p, sizeof x);
-    return x;
-}
-
-static inline uint64_t be64(const uint8_t *p) { return __builtin_bswap64(le64(p)); }
-
-static inline void put64(uint8_t *p, uint64_t x) { memcpy(p, &x, sizeof x); }
-
-static inline void put32(uint8_t *p, uint32_t x) { memcpy(p, &x, sizeof x); }
 
 static inline EdgeSstDone refused(uint64_t number, uint64_t place) { return (EdgeSstDone){number, place, 0}; }
 
@@ -52,28 +34,21 @@ static EdgeSstDone check(const uint8_t *p, size_t n, counts *c) {
     uint64_t keys = 0, edges = 0;
     unsigned kinds = 0;
     for (const uint8_t *e = p + HEADING; e != end; last = e, e += EDGE, edges++) {
-        if ((*e != LIVE && *e != DEAD) || end - e < EDGE)
+        if ((*e != LIVE_EDGE && *e != DEAD_EDGE) || end - e < EDGE)
             return refused(24, (uint64_t)(e - p));
         kinds |= *e;
-        int o = last == NULL ? 1 : order(e + KEY, last + KEY);
-        if (o < 0 || (o == 0 && order(e + PARTNER, last + PARTNER) <= 0))
+        int o = last == NULL ? 1 : order(e + RECORD_KEY, last + RECORD_KEY);
+        if (o < 0 || (o == 0 && order(e + RECORD_PARTNER, last + RECORD_PARTNER) <= 0))
             return refused(25, (uint64_t)(e - p));
         keys += o > 0;
     }
     c->keys = keys;
     c->edges = edges;
-    c->dead = (kinds & DEAD) != 0;
+    c->dead = (kinds & DEAD_EDGE) != 0;
     return refused(0, 0);
 }
 
 static inline uint64_t varint_length(uint64_t x) { return (63 - (unsigned)__builtin_clzll(x | 1)) / 7 + 1; }
-
-static inline uint8_t *put_varint(uint8_t *p, uint64_t x) {
-    for (; x >= 128; x >>= 7)
-        *p++ = (uint8_t)(x | 128);
-    *p++ = (uint8_t)x;
-    return p;
-}
 
 /* One key's edges. */
 typedef struct {
@@ -85,14 +60,14 @@ typedef struct {
 /* The group that begins at e: its end, its split cost and its form. */
 static inline group group_at(const uint8_t *e, const uint8_t *end, uint64_t keys) {
     group g = {.first = e};
-    uint64_t last = 0, high_key = le64(e + KEY), low_key = le64(e + KEY + HALF);
+    uint64_t last = 0, high_key = le64(e + RECORD_KEY), low_key = le64(e + RECORD_KEY + HALF);
     do {
-        uint64_t high = be64(e + PARTNER);
+        uint64_t high = be64(e + RECORD_PARTNER);
         g.cost += varint_length(high - last) + HALF;
         last = high;
         g.degree++;
         e += EDGE;
-    } while (e != end && le64(e + KEY) == high_key && le64(e + KEY + HALF) == low_key);
+    } while (e != end && le64(e + RECORD_KEY) == high_key && le64(e + RECORD_KEY + HALF) == low_key);
     g.end = e;
     g.dense = g.cost >= ID * g.degree || (g.degree > MOST_BY_COST && g.degree * g.degree > 16 * keys);
     return g;
@@ -114,7 +89,7 @@ static void measure(const uint8_t *p, size_t n, counts *c) {
     c->width = bytes < 1 << 24 ? 3 : 4;
     c->fences = c->keys > MOST_WITHOUT_FENCES ? (c->keys + STRIDE - 1) / STRIDE : 0;
     c->size = HEADER + ID * c->keys + c->width * (c->keys + 1) + bytes + 8 * c->edges +
-              (c->dead ? (c->edges + 7) / 8 : 0) + (c->fences ? 8 + 24 * c->fences : 0) + 2 +
+              (c->dead ? tombstone_bytes(c->edges) : 0) + (c->fences ? 8 + 24 * c->fences : 0) + 2 +
               ENTRY * (4 + (uint64_t)c->dead + (c->fences != 0)) + 17 + TRAILER;
 }
 
@@ -138,22 +113,22 @@ static inline uint8_t *put_group(uint8_t *p, const group *g) {
     if (g->dense) {
         *p++ = DENSE;
         for (const uint8_t *e = g->first; e != g->end; e += EDGE, p += ID)
-            memcpy(p, e + PARTNER, ID);
+            memcpy(p, e + RECORD_PARTNER, ID);
         return p;
     }
     *p++ = SPLIT;
     uint64_t last = 0;
     for (const uint8_t *e = g->first; e != g->end; e += EDGE, p += HALF) {
-        uint64_t high = be64(e + PARTNER);
+        uint64_t high = be64(e + RECORD_PARTNER);
         p = put_varint(p, high - last);
         last = high;
-        put64(p, be64(e + PARTNER + HALF));
+        put64(p, be64(e + RECORD_PARTNER + HALF));
     }
     return p;
 }
 
 static inline void put_offset(uint8_t *p, size_t width, uint64_t x) {
-    memcpy(p, &x, 2);
+    put(p, 2, x);
     p[2] = (uint8_t)(x >> 16);
     if (width == 4)
         p[3] = (uint8_t)(x >> 24);
@@ -170,7 +145,7 @@ static places places_of(uint8_t *out, const counts *c) {
     s.partners = s.offsets + c->width * (c->keys + 1);
     s.logs = s.partners + c->partners;
     s.dead = s.logs + 8 * c->edges;
-    s.fences = s.dead + (c->dead ? (c->edges + 7) / 8 : 0);
+    s.fences = s.dead + (c->dead ? tombstone_bytes(c->edges) : 0);
     s.footer = s.fences + (c->fences ? 8 + 24 * c->fences : 0);
     return s;
 }
@@ -180,7 +155,7 @@ static void put_header(uint8_t *out, const uint8_t *batch, const counts *c) {
     memset(out + 8, 0, 8);
     out[8] = 1;
     out[10] = HEADER;
-    out[12] = (uint8_t)(2 * c->dead + 4 * c->dense + 8 * batch[1]);
+    out[12] = (uint8_t)(HAS_DEAD * c->dead + HAS_DENSE * c->dense + INVERSE * batch[1]);
     memcpy(out + 16, batch + 2, 48);
 }
 
@@ -190,17 +165,17 @@ static void put_edges(const uint8_t *p, size_t n, const counts *c, places s) {
     uint8_t *partner = s.partners, *log = s.logs;
     uint64_t edge = 0;
     if (c->dead)
-        memset(s.dead, 0, (c->edges + 7) / 8);
+        memset(s.dead, 0, tombstone_bytes(c->edges));
     while (e != end) {
         group g = group_at(e, end, c->keys);
-        memcpy(s.keys, e + KEY, ID);
+        memcpy(s.keys, e + RECORD_KEY, ID);
         s.keys += ID;
         put_offset(s.offsets, c->width, (uint64_t)(partner - s.partners));
         s.offsets += c->width;
         partner = put_group(partner, &g);
         for (; e != g.end; e += EDGE, edge++, log += 8) {
-            memcpy(log, e + LOG, 8);
-            if (*e == DEAD)
+            memcpy(log, e + RECORD_LOG, 8);
+            if (*e == DEAD_EDGE)
                 s.dead[edge / 8] |= (uint8_t)(1 << edge % 8);
         }
     }
@@ -212,7 +187,7 @@ static void put_fences(const counts *c, places s) {
     if (c->fences == 0)
         return;
     put32(p, STRIDE);
-    put32(p + 4, (uint32_t)c->fences);
+    put32(p + 4, c->fences);
     p += 8;
     for (uint64_t i = 0; i < c->fences; i++, p += 24) {
         memcpy(p, s.keys + ID * STRIDE * i, ID);
@@ -230,9 +205,8 @@ static uint8_t *put_entry(uint8_t *p, unsigned kind, const uint8_t *out, const u
 }
 
 static void put_footer(uint8_t *out, const counts *c, places s) {
-    uint8_t *p = s.footer + 2, *sections = s.footer;
-    uint16_t count = (uint16_t)(4 + c->dead + (c->fences != 0));
-    memcpy(sections, &count, 2);
+    uint8_t *p = s.footer + 2;
+    put(s.footer, 2, 4 + (uint64_t)c->dead + (c->fences != 0));
     p = put_entry(p, 1, out, s.keys, s.offsets);
     p = put_entry(p, 2, out, s.offsets, s.partners);
     p = put_entry(p, 3, out, s.partners, s.logs);
@@ -246,7 +220,7 @@ static void put_footer(uint8_t *out, const counts *c, places s) {
     p[16] = (uint8_t)(8 * c->width);
     p += 17;
     put64(p, XXH3_64bits(s.footer, (size_t)(p - s.footer)));
-    put32(p + 8, (uint32_t)(p - s.footer) + TRAILER);
+    put32(p + 8, (uint64_t)(p - s.footer) + TRAILER);
     memcpy(p + 12, magic, 8);
 }
 
@@ -263,20 +237,4 @@ EdgeSstDone plain_write(const uint8_t *p, size_t n, uint8_t *out, size_t m) {
     put_fences(&c, s);
     put_footer(out, &c, s);
     return told;
-}
-
-/* Of a file of m bytes that stands at out: each section's sum once more, and the
- * footer's. It tells how much of the work these are. */
-EdgeSstDone plain_sums(const uint8_t *p, size_t n, uint8_t *out, size_t m) {
-    uint32_t length;
-    uint16_t sections;
-    uint64_t all = 0;
-    (void)p, (void)n;
-    memcpy(&length, out + m - TRAILER + 8, 4);
-    const uint8_t *body = out + m - length, *entry = body + 2;
-    memcpy(&sections, body, 2);
-    for (unsigned i = 0; i < sections; i++, entry += ENTRY)
-        all ^= XXH3_64bits(out + le64(entry + 4), le64(entry + 12)) ^ le64(entry + 20);
-    all ^= XXH3_64bits(body, length - TRAILER) ^ le64(out + m - TRAILER);
-    return (EdgeSstDone){all != 0, 0, m};
 }

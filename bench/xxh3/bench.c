@@ -1,0 +1,67 @@
+/* The benchmark of XXH3-64. */
+#include <stdio.h>
+
+#include "../../include/saffron_xxh3.h"
+#include "../common/harness.h"
+
+typedef uint64_t summer(const uint8_t *p, size_t n);
+
+summer sse2_xxh3_64, scalar_xxh3_64, rust_xxh3_64;
+
+enum { SHIFT = 64, MOST = 1 << 24 };
+#define SSE2 (function *)sse2_xxh3_64
+#define SCALAR (function *)scalar_xxh3_64
+#define RUST (function *)rust_xxh3_64
+
+/* The plan is the length. */
+const row rows[] = {
+    {"0", &(size_t){0}, SSE2, 8000, 0},
+    {"16", &(size_t){16}, SSE2, 8000, 0},
+    {"64", &(size_t){64}, SSE2, 8000, 0},
+    {"128", &(size_t){128}, SSE2, 8000, 0},
+    {"240", &(size_t){240}, SSE2, 8000, 0},
+    {"256", &(size_t){256}, SSE2, 8000, 0},
+    {"1024", &(size_t){1024}, SSE2, 8000, 0},
+    {"4096", &(size_t){4096}, SSE2, 8000, 1.15},
+    {"4096-scalar", &(size_t){4096}, SCALAR, 8000, 0},
+    {"4096-rust", &(size_t){4096}, RUST, 8000, 1},
+    {"16m", &(size_t){MOST}, SSE2, 1, 1.15},
+    {"16m-scalar", &(size_t){MOST}, SCALAR, 1, 0},
+    {"16m-rust", &(size_t){MOST}, RUST, 1, 1},
+    {0},
+};
+
+function *const ours = (function *)saffron_xxh3_64, *const empty = empty_in_registers;
+
+static bytes input;
+static size_t length;
+
+/* The byte family, and SHIFT more. */
+void prepare(const row *r) {
+    length = *(const size_t *)r->plan;
+    input = memory(length + SHIFT);
+    uint32_t x = 1;
+    for (size_t i = 0; i < input.size; i++) {
+        x = (x * 1103515245u + 12345u) & 0x7FFFFFFFu;
+        input.bytes[i] = (uint8_t)(x >> 16);
+    }
+}
+
+uint64_t call(function *f, uint64_t last) { return ((summer *)f)(input.bytes + (last & SHIFT), length); }
+
+static void same(size_t n) {
+    uint64_t sum = saffron_xxh3_64(input.bytes, n);
+    if (sse2_xxh3_64(input.bytes, n) != sum || scalar_xxh3_64(input.bytes, n) != sum ||
+        rust_xxh3_64(input.bytes, n) != sum)
+        stop(1, "the sums differ at %zu bytes", n);
+}
+
+void compare(void) {
+    prepare(&(row){.plan = &(size_t){MOST}});
+    for (size_t n = 0; n <= 1100; n++)
+        same(n);
+    same(65536);
+    for (const row *r = rows; r->name != NULL; r++)
+        same(*(const size_t *)r->plan);
+    printf("The same sums: at 0 to 1,100 and 65,536 bytes, and at the lengths of the table.\n");
+}
