@@ -1,5 +1,5 @@
 -- Over the contract of each call: what it tells, read back, is the library's answer; `number` is 0 exactly if nothing is
--- refused; and a refusal or absence leaves every output as it was.
+-- refused; a refusal or absence leaves every output as it was; and every output is left as the library's own call leaves it.
 use mathlib.Core.Path.{_≡_, refl, ap, _∙_}
 use mathlib.Core.Bool.{true, false}
 use Prim.Native.Nat.{_/_, _≤_}
@@ -11,12 +11,12 @@ use Rattle.frame.specs.declared.Opening.{Opening}
 use Rattle.frame.specs.Open.{openOf}
 use Rattle.lookup.specs.declared.Looked.{Looked}
 use Rattle.lookup.specs.Lookup.{answerOf, lookOf, lookWith}
-use Rattle.lookup.specs.Calls.{alone, lent}
+use Rattle.lookup.specs.Calls.{alone, lent, Alone, Whole}
 use Rattle.full_check.specs.Full.{fullCheck}
 use Rattle.readout.specs.declared.ReadOut.{ReadOut}
-use Rattle.readout.specs.ReadOut.{readOutOf}
+use Rattle.readout.specs.ReadOut.{readOutOf, readOutLeaves}
 use Rattle.writer.specs.declared.Written.{Written}
-use Rattle.writer.specs.Written.{neededOf, writtenOf}
+use Rattle.writer.specs.Written.{neededOf, writtenOf, Wrote}
 use Rattle.listing.specs.declared.Listed.{Listed}
 use Rattle.listing.specs.List as list
 use Rattle.edge_sst_c.specs.Look.{recordFrom}
@@ -140,3 +140,30 @@ write-leaves κs a r e p = write-stays p
 
 pub sections-leaves : Every c-sections.ended c-sections-reads.Post (λ κs a r e. 1 ≤ r .number → now (e .1 .0) ≡ now (a .1 .0))
 sections-leaves κs a r e p = sections-stay (now (a .0)) (now (a .1 .0)) (p .0) (p .1)
+
+-- ---- all that a call tells and leaves is what the library's own call of the same bytes answers and leaves
+
+pub partners-same : Every c-partners.ended c-partners-reads.Post
+    (λ κs a r e. Alone (lookOf false (alone (length (now (a .1 .1 .0)))) (idAt (now (a .1 .0)) 0) (now (a .0))) (lookedFrom r) (now (a .1 .1 .0)) (now (e .1 .1 .0)))
+partners-same κs a r e p = record { answer = partners-says κs a r e p; partners = p .partners }
+
+pub partners-with-same : Every c-partners-with.ended c-partners-with-reads.Post
+    (λ κs a r e. Alone (lookWith false (alone (length (now (a .1 .1 .1 .0)))) (idAt (now (a .1 .1 .0)) 0) (now (a .0)) (recordFrom (now (a .1 .0)))) (lookedFrom r) (now (a .1 .1 .1 .0)) (now (e .1 .1 .1 .0)))
+partners-with-same κs a r e p = record { answer = partners-with-says κs a r e p; partners = p .partners }
+
+pub lookup-same : Every c-lookup.ended c-lookup-reads.Post
+    (λ κs a r e. Whole (lookOf true (lent (length (now (a .1 .1 .0))) (length (now (a .1 .1 .1 .0))) (length (now (a .1 .1 .1 .1 .0)))) (idAt (now (a .1 .0)) 0) (now (a .0))) (lookedFrom r)
+    (now (a .1 .1 .0)) (now (e .1 .1 .0)) (now (a .1 .1 .1 .0)) (now (e .1 .1 .1 .0)) (now (a .1 .1 .1 .1 .0)) (now (e .1 .1 .1 .1 .0)))
+lookup-same κs a r e p = record { answer = lookup-says κs a r e p; partners = p .partners; numbers = p .numbers; dead = p .dead }
+
+pub lookup-with-same : Every c-lookup-with.ended c-lookup-with-reads.Post
+    (λ κs a r e. Whole (lookWith true (lent (length (now (a .1 .1 .1 .0))) (length (now (a .1 .1 .1 .1 .0))) (length (now (a .1 .1 .1 .1 .1 .0)))) (idAt (now (a .1 .1 .0)) 0) (now (a .0)) (recordFrom (now (a .1 .0)))) (lookedFrom r)
+    (now (a .1 .1 .1 .0)) (now (e .1 .1 .1 .0)) (now (a .1 .1 .1 .1 .0)) (now (e .1 .1 .1 .1 .0)) (now (a .1 .1 .1 .1 .1 .0)) (now (e .1 .1 .1 .1 .1 .0)))
+lookup-with-same κs a r e p = record { answer = lookup-with-says κs a r e p; partners = p .partners; numbers = p .numbers; dead = p .dead }
+
+pub read-out-same : Every c-read-out.ended c-read-out-reads.Post
+    (λ κs a r e. (readFrom r ≡ readOutOf (now (a .0)) (length (now (a .1 .0)))) × (now (e .1 .0) ≡ readOutLeaves (now (a .0)) (now (a .1 .0))))
+read-out-same κs a r e p = (read-out-says κs a r e p, p .1)
+
+pub write-same : Every c-write.ended c-write-reads.Post (λ κs a r e. Wrote (now (a .0)) (now (a .1 .0)) (writtenFrom r) (now (e .1 .0)))
+write-same κs a r e p = record { answer = write-says κs a r e p; output = p .output }

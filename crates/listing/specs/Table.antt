@@ -104,7 +104,7 @@ module _ (f : List ℕ) (s : Frames f) where
   row-is i h =
       let z = size-parts (length f) (s .size) in
       let t = tail-parts (length f) f (s .tail) in
-      ap entry (row-footed f i (z .0) (z .1) (footLen f) refl (t .0) (t .1)
+      ap entry (row-footed f i (z .0) (z .1) (footLen f) refl (t .0) (t .1) refl refl
       ∙ row-here (bodyAt f) b i (endFrom i b 2) refl h (getD b (endFrom i b 2 + 3) 0) refl (entry-room i h) (rowAt b (endFrom i b 2)) refl)
 
   rows-to-is : (n : ℕ) → n ≤ needed f → rowsTo f n ≡ map (moved (bodyAt f)) (rowsFrom n b 2)

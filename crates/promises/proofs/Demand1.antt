@@ -1,5 +1,8 @@
 -- Demand 1: for every public call the contract leaves one result and one content of lent memory, refused calls too. That each call
 -- ends, and reads and writes only what it was lent, is what every proof of a function shows.
+use contract.Lifetimes.{Lfts}
+use denote.Triple.Entry.{Args}
+use denote.Triple.Clauses.{Ended}
 use Rattle.base.proofs.Determined.{Determined}
 use Rattle.xxh3.proofs.saffron_xxh3_64 as c-saffron
 use Rattle.xxh3.proofs.saffron_xxh3_64.Reads as c-saffron-reads
@@ -148,4 +151,72 @@ one-result = record {
   edge-sst-write = edge-sst-write-determined;
   edge-sst-sections = edge-sst-sections-determined;
   edge-sst-sum = edge-sst-sum-determined;
+}
+
+-- ---- "Any bytes may be lent": no public call asks anything of its arguments
+
+-- of every arguments of the signature T what is asked holds
+abbrev Free : (T : Ended) → ((κs : Lfts (T .signature .lifetimes)) → Args (T .signature) κs → Type 0) → Type 0
+Free T Pre = (κs : Lfts (T .signature .lifetimes)) (a : Args (T .signature) κs) → Pre κs a
+
+pub record NothingAsked : Type 2 where
+  pub sum : Free c-sum.ended c-sum-reads.Pre
+  pub saffron-xxh3-64 : Free c-saffron.ended c-saffron-reads.Pre
+  pub opens : Free c-opens.ended c-opens-reads.Pre
+  pub section : Free c-section.ended c-section-reads.Pre
+  pub partners : Free c-partners.ended c-partners-reads.Pre
+  pub partners-with : Free c-partners-with.ended c-partners-with-reads.Pre
+  pub lookup : Free c-lookup.ended c-lookup-reads.Pre
+  pub lookup-with : Free c-lookup-with.ended c-lookup-with-reads.Pre
+  pub check : Free c-check.ended c-check-reads.Pre
+  pub checked : Free c-checked.ended c-checked-reads.Pre
+  pub read-out : Free c-read-out.ended c-read-out-reads.Pre
+  pub needed : Free c-needed.ended c-needed-reads.Pre
+  pub write : Free c-write.ended c-write-reads.Pre
+  pub check-batch : Free c-check-batch.ended c-check-batch-reads.Pre
+  pub plan-for : Free c-plan-for.ended c-plan-for-reads.Pre
+  pub row-of : Free c-row-of.ended c-row-of-reads.Pre
+  pub told : Free c-told.ended c-told-reads.Pre
+  pub edge-sst-open : Free sst-open.ended sst-open-reads.Pre
+  pub edge-sst-partners : Free sst-partners.ended sst-partners-reads.Pre
+  pub edge-sst-partners-with : Free sst-partners-with.ended sst-partners-with-reads.Pre
+  pub edge-sst-lookup : Free sst-lookup.ended sst-lookup-reads.Pre
+  pub edge-sst-lookup-with : Free sst-lookup-with.ended sst-lookup-with-reads.Pre
+  pub edge-sst-check : Free sst-check.ended sst-check-reads.Pre
+  pub edge-sst-read-out : Free sst-read-out.ended sst-read-out-reads.Pre
+  pub edge-sst-needed : Free sst-needed.ended sst-needed-reads.Pre
+  pub edge-sst-write : Free sst-write.ended sst-write-reads.Pre
+  pub edge-sst-sections : Free sst-sections.ended sst-sections-reads.Pre
+  pub edge-sst-sum : Free sst-sum.ended sst-sum-reads.Pre
+
+pub nothing-asked : NothingAsked
+nothing-asked = record {
+  sum = λ κs a. tt;
+  saffron-xxh3-64 = λ κs a. tt;
+  opens = λ κs a. tt;
+  section = λ κs a. tt;
+  partners = λ κs a. tt;
+  partners-with = λ κs a. tt;
+  lookup = λ κs a. tt;
+  lookup-with = λ κs a. tt;
+  check = λ κs a. tt;
+  checked = λ κs a. tt;
+  read-out = λ κs a. tt;
+  needed = λ κs a. tt;
+  write = λ κs a. tt;
+  check-batch = λ κs a. tt;
+  plan-for = λ κs a. tt;
+  row-of = λ κs a. tt;
+  told = λ κs a. tt;
+  edge-sst-open = λ κs a. tt;
+  edge-sst-partners = λ κs a. tt;
+  edge-sst-partners-with = λ κs a. tt;
+  edge-sst-lookup = λ κs a. tt;
+  edge-sst-lookup-with = λ κs a. tt;
+  edge-sst-check = λ κs a. tt;
+  edge-sst-read-out = λ κs a. tt;
+  edge-sst-needed = λ κs a. tt;
+  edge-sst-write = λ κs a. tt;
+  edge-sst-sections = λ κs a. tt;
+  edge-sst-sum = λ κs a. tt;
 }
