@@ -310,9 +310,8 @@ module _ (h : Heading) (es : List Edge) (q : Written h es) where
 
   presence : presenceBy flags n (length es) dead fence false ≡ true
   presence =
-      rw (flags-is, keycount-is, edgecount-is, there kind.tombstones ∙ t .marked, there kind.fences ∙ t .fences, there kind.properties ∙ t .streams)
-      (and-both (le-leb n (length es) (groups-count es)) (and-both none-none (and-both (fences-there n)
-      (and-both (ap (λ (b : Bool). Bool·beq b false) (fl .properties)) (ap (λ (b : Bool). not b || dead) (fl .marked) ∙ implied dead)))))
+      and-both (le-leb n (length es) (groups-count es)) (and-both none-none (and-both (fences-there n)
+      (and-both (ap (λ (b : Bool). Bool·beq b false) (fl .properties)) (ap (λ (b : Bool). not b || dead) (fl .marked) ∙ implied dead))))
 
   counts : countsGood (flagsOf f) (framedOf f) ≡ true
   unfolding countsGood sizesGood presenceGood framedOf framedFrom recordFrom
