@@ -22,7 +22,7 @@ EdgeSstTold plain_edges(const uint8_t *file, const EdgeSstOpened *o) {
         end = partners + offset_at(offset, width);
         int fault = group_fault(start, end, &degree, &dense);
         if (fault)
-            return (EdgeSstTold){(uint64_t)fault, i};
+            return (EdgeSstTold){.number = (uint64_t)fault, .place = i};
         sum += degree;
         some_dense |= dense;
     }
@@ -37,8 +37,8 @@ EdgeSstTold plain_edges(const uint8_t *file, const EdgeSstOpened *o) {
     }
     uint64_t flags = le32(file + 12);
     if (sum != count || ((flags & HAS_DEAD) != 0) != some_dead || ((flags & HAS_DENSE) != 0) != some_dense || unused)
-        return (EdgeSstTold){EDGE_SST_DATA, 0};
-    return (EdgeSstTold){0, 0};
+        return (EdgeSstTold){.number = EDGE_SST_DATA};
+    return (EdgeSstTold){.number = 0};
 }
 
 /* Rule 22, of a file that opens: opening has looked at the table and the ranges. */
@@ -47,16 +47,16 @@ EdgeSstTold plain_sums(const uint8_t *file, size_t size) {
     uint64_t sections = le16(body);
     for (uint64_t i = 0; i < sections; i++) {
         if (XXH3_64bits(file + le64(p + 4), le64(p + 12)) != le64(p + 20))
-            return (EdgeSstTold){EDGE_SST_SUM, i};
+            return (EdgeSstTold){.number = EDGE_SST_SUM, .place = i};
         p += ENTRY + p[3];
     }
-    return (EdgeSstTold){0, 0};
+    return (EdgeSstTold){.number = 0};
 }
 
 EdgeSstTold plain_check(const uint8_t *p, size_t n) {
     EdgeSstOpened o = plain_open(p, n);
     if (o.number != 0)
-        return (EdgeSstTold){o.number, o.place};
+        return (EdgeSstTold){.number = o.number, .place = o.place};
     EdgeSstTold told = plain_sums(p, n);
     return told.number != 0 ? told : plain_edges(p, &o);
 }

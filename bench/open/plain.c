@@ -13,7 +13,7 @@ typedef struct {
     uint64_t start, length;
 } range;
 
-static inline EdgeSstTold told(uint64_t number, uint64_t place) { return (EdgeSstTold){number, place}; }
+static inline EdgeSstTold told(uint64_t number, uint64_t place) { return (EdgeSstTold){.number = number, .place = place}; }
 
 static inline EdgeSstOpened refused(uint64_t number, uint64_t place) {
     return (EdgeSstOpened){.number = number, .place = place};

@@ -63,16 +63,16 @@ static void put_edges(const uint8_t *file, const EdgeSstOpened *o, uint8_t *out)
 EdgeSstDone plain_read_out(const uint8_t *p, size_t n, uint8_t *out, size_t m) {
     EdgeSstOpened o = plain_open(p, n);
     if (o.number != 0)
-        return (EdgeSstDone){o.number, o.place, 0};
+        return (EdgeSstDone){.number = o.number, .place = o.place};
     EdgeSstTold told = plain_sums(p, n);
     if (told.number == 0)
         told = plain_edges(p, &o);
     if (told.number != 0)
-        return (EdgeSstDone){told.number, told.place, 0};
+        return (EdgeSstDone){.number = told.number, .place = told.place};
     uint64_t needed = HEADING + EDGE * o.edgecount;
     if (m < needed)
-        return (EdgeSstDone){EDGE_SST_ROOM, needed, 0};
+        return (EdgeSstDone){.number = EDGE_SST_ROOM, .place = needed};
     put_heading(out, p);
     put_edges(p, &o, out + HEADING);
-    return (EdgeSstDone){0, 0, needed};
+    return (EdgeSstDone){.bytes = needed};
 }

@@ -14,7 +14,7 @@ typedef struct {
     int dead, dense;
 } counts;
 
-static inline EdgeSstDone refused(uint64_t number, uint64_t place) { return (EdgeSstDone){number, place, 0}; }
+static inline EdgeSstDone refused(uint64_t number, uint64_t place) { return (EdgeSstDone){.number = number, .place = place}; }
 
 /* 1 if the id at a is above the id at b, -1 if below, 0 if they are equal. */
 static inline int order(const uint8_t *a, const uint8_t *b) {
@@ -100,7 +100,7 @@ static EdgeSstDone plan(const uint8_t *p, size_t n, counts *c) {
     if (c->keys > MOST_KEYS || c->edges > MOST_EDGES)
         return refused(26, 0);
     measure(p, n, c);
-    return c->size > MOST_BYTES ? refused(26, 0) : (EdgeSstDone){0, 0, c->size};
+    return c->size > MOST_BYTES ? refused(26, 0) : (EdgeSstDone){.bytes = c->size};
 }
 
 EdgeSstDone plain_needed(const uint8_t *p, size_t n) {
