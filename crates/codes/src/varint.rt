@@ -1,10 +1,10 @@
 // Varints: numbers below 2^64 in their shortest form, seven bits to a byte, the lowest first; the top bit says that
 // another byte follows.
 ghost use mathlib.Core.Path.{_≡_};
-ghost use Prim.Native.Nat.{_+_, _≤_};
+ghost use Prim.Native.Nat.{_+_, _^_, _≤_, _<_};
 ghost use lib.ListN.{length};
 ghost use Rattle.base.specs.Put.{Put};
-ghost use Rattle.codes.specs.Varint.{varintAt, varBytes};
+ghost use Rattle.codes.specs.Varint.{lastByte, varintAt, varBytes};
 
 // Why no number is read.
 pub enum Unread {
@@ -22,6 +22,35 @@ pub enum Varint {
     Bad { why: Unread },
 }
 
+// What the last byte b gives, byte k of the number (from 0), over x with the weight m. The tenth has room for one bit.
+fn last_byte(b: u64, i: usize, x: u64, m: u64, k: usize) -> Varint
+    requires { ⌜ (k ≤ 9) × (b < 128) × (x < m) × (m ≡ 128 ^ k) × (i + 1 < 2 ^ 64) ⌝ }
+    ensures { λ r. ⌜ r ≡ lastByte b i x m ⌝ }
+{
+    if b == 0 {
+        if 1 < m {
+            return Varint::Bad { why: Unread::Long };
+        }
+        return Varint::Value {
+            value: x,
+            next: i + 1,
+        };
+    }
+    if k == 9 {
+        if 1 < b {
+            return Varint::Bad { why: Unread::Large };
+        }
+        return Varint::Value {
+            value: x + m,
+            next: i + 1,
+        };
+    }
+    Varint::Value {
+        value: x + b * m,
+        next: i + 1,
+    }
+}
+
 // The number at `at`, and the place after it.
 pub fn varint_at(s: &[u8], at: usize) -> Varint
     ensures { λ r. ⌜ r ≡ varintAt (now (s .entry)) at ⌝ }
@@ -36,28 +65,7 @@ pub fn varint_at(s: &[u8], at: usize) -> Varint
         }
         let b = s[i] as u64;
         if b < 128 {
-            if b == 0 {
-                if 1 < m {
-                    return Varint::Bad { why: Unread::Long };
-                }
-                return Varint::Value {
-                    value: x,
-                    next: i + 1,
-                };
-            }
-            if k == 9 {
-                if 1 < b {
-                    return Varint::Bad { why: Unread::Large };
-                }
-                return Varint::Value {
-                    value: x + m,
-                    next: i + 1,
-                };
-            }
-            return Varint::Value {
-                value: x + b * m,
-                next: i + 1,
-            };
+            return last_byte(b, i, x, m, k);
         }
         if k == 9 {
             return Varint::Bad { why: Unread::Large };

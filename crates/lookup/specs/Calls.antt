@@ -4,7 +4,7 @@ use Prim.Native.Nat.{ℕ, _+_, _*_, _/_, _≤_, _<_}
 use native.Mathlib.Decide.{decLe}
 use native.Mathlib.Omega.{arith}
 use mathlib.Core.List.{List, []}
-use mathlib.Core.Bool.{Bool, true, false, not, _&&_, _||_}
+use mathlib.Core.Bool.{Bool, true, false, true≢false, not, _&&_, _||_}
 use lib.ListN.{length}
 use lib.Dec.{ltb, leb}
 use borrow.Author.Tests.{lt-ltb, le-ltb, le-leb, lt-leb}
@@ -263,13 +263,29 @@ module _ (rooms : Rooms) (d : ℕ) where
     short-logs h = simp (le-ltb (rooms .bytes) (16 * d) b, lt-ltb (rooms .logs) d h)
 
     module _ (l : d ≤ rooms .logs) where
-      pub short-marks : rooms .marks < d → short true rooms d ≡ true
+      pub short-last : short true rooms d ≡ ltb (rooms .marks) d
       unfolding short
-      short-marks h = simp (le-ltb (rooms .bytes) (16 * d) b, le-ltb (rooms .logs) d l, lt-ltb (rooms .marks) d h)
+      short-last = simp (le-ltb (rooms .bytes) (16 * d) b, le-ltb (rooms .logs) d l)
+
+      pub short-marks : rooms .marks < d → short true rooms d ≡ true
+      short-marks h = short-last ∙ lt-ltb (rooms .marks) d h
 
       pub short-none : d ≤ rooms .marks → short true rooms d ≡ false
-      unfolding short
-      short-none h = simp (le-ltb (rooms .bytes) (16 * d) b, le-ltb (rooms .logs) d l, le-ltb (rooms .marks) d h)
+      short-none h = short-last ∙ le-ltb (rooms .marks) d h
+
+  -- where none is short, all have room
+  pub none-short : short true rooms d ≡ false → (16 * d ≤ rooms .bytes) × (d ≤ rooms .logs) × (d ≤ rooms .marks)
+  none-short e =
+      elim (decLe (16 * d) (rooms .bytes)) [
+        | yes b ↦ elim (decLe d (rooms .logs)) [
+          | yes l ↦ elim (decLe d (rooms .marks)) [
+            | yes m ↦ (b, l, m)
+            | no m ↦ absurd (true≢false (sym (short-marks b l (omega arith)) ∙ e))
+          ]
+          | no l ↦ absurd (true≢false (sym (short-logs b (omega arith)) ∙ e))
+        ]
+        | no b ↦ absurd (true≢false (sym (short-bytes (omega arith)) ∙ e))
+      ]
 
 -- an outcome by another name
 pub whole-as : {x y : Outcome} {r : Looked} {o out l logs m marks : List ℕ} → x ≡ y → Whole y r o out l logs m marks → Whole x r o out l logs m marks

@@ -12,7 +12,7 @@ ghost use Rattle.frame.specs.Open.{knownOf, bytesAt};
 ghost use Rattle.group.specs.Group.{bytesOf};
 ghost use Rattle.lookup.specs.declared.Looked.{Looked};
 ghost use Rattle.lookup.specs.declared.groups.GroupSeen.{GroupSeen};
-ghost use Rattle.lookup.specs.Lookup.{partnersAt, logsFrom, marksFrom, lookGroup, lookIn};
+ghost use Rattle.lookup.specs.Lookup.{partnersAt, logsFrom, marksFrom, short, lookGroup, lookIn};
 ghost use Rattle.lookup.specs.Calls.{lent, group, Whole};
 ghost use Rattle.lookup.specs.Groups.{Fills};
 ghost use Rattle.lookup.specs.Record.{Holds};
@@ -70,6 +70,19 @@ fn misplaced(i: u64) -> Looked
     }
 }
 
+// Some output is too short for d edges: n partner bytes, l log numbers or m dead marks.
+fn short_of(n: usize, l: usize, m: usize, d: u64) -> bool
+    ensures { λ r. ⌜ r ≡ short true (lent n l m) d ⌝ }
+{
+    if ((n / 16) as u64) < d {
+        return true;
+    }
+    if (l as u64) < d {
+        return true;
+    }
+    (m as u64) < d
+}
+
 // The edges of group i, which is good and has `degree` partners.
 fn group_edges(
     file: &[u8],
@@ -90,16 +103,7 @@ fn group_edges(
             if o.edgecount - edges < degree {
                 return misplaced(i);
             }
-            let room = (out.len() / 16) as u64;
-            if room < degree {
-                return too_short(degree);
-            }
-            let numbers = logs.len() as u64;
-            if numbers < degree {
-                return too_short(degree);
-            }
-            let dead = marks.len() as u64;
-            if dead < degree {
+            if short_of(out.len(), logs.len(), marks.len(), degree) {
                 return too_short(degree);
             }
             give_partners(file, o, i, out);

@@ -23,6 +23,24 @@ pub varint-from : (s : List ℕ) (i : ℕ) → varintAt s i ≡ varFrom 10 s i 0
 unfolding varintAt
 varint-from s i = refl
 
+module _ (b i x m : ℕ) where
+  pub last-long : b ≡ 0 → 1 < m → lastByte b i x m ≡ Bad Long
+  unfolding lastByte
+  last-long e g = simp (eq-eqb b 0 e, lt-ltb 1 m g)
+
+  pub last-zero : b ≡ 0 → m ≤ 1 → lastByte b i x m ≡ Value x (i + 1)
+  unfolding lastByte
+  last-zero e g = simp (eq-eqb b 0 e, le-ltb 1 m g)
+
+  module _ (ne : b ≡ 0 → ⊥) where
+    pub last-value : x + b * m < 2 ^ 64 → lastByte b i x m ≡ Value (x + b * m) (i + 1)
+    unfolding lastByte
+    last-value h = simp (ne-eqb b 0 ne, lt-ltb (x + b * m) (2 ^ 64) h)
+
+    pub last-large : 2 ^ 64 ≤ x + b * m → lastByte b i x m ≡ Bad Large
+    unfolding lastByte
+    last-large h = simp (ne-eqb b 0 ne, le-ltb (x + b * m) (2 ^ 64) h)
+
 module _ (s : List ℕ) (i x m : ℕ) where
   pub from-none : varFrom 0 s i x m ≡ Bad Large
   unfolding varFrom
@@ -37,26 +55,30 @@ module _ (s : List ℕ) (i x m : ℕ) where
     unfolding varFrom
     from-more g = simp (lt-ltb i (length s) h, le-ltb (getD s i 0) 128 g)
 
-    from-last : getD s i 0 < 128 → varFrom (suc f) s i x m ≡ lastByte (getD s i 0) i x m
+    pub from-last : getD s i 0 < 128 → varFrom (suc f) s i x m ≡ lastByte (getD s i 0) i x m
     unfolding varFrom
     from-last g = simp (lt-ltb i (length s) h, lt-ltb (getD s i 0) 128 g)
 
     pub from-long : getD s i 0 ≡ 0 → 1 < m → varFrom (suc f) s i x m ≡ Bad Long
-    unfolding lastByte
-    from-long e g = from-last (omega arith) ∙ simp (eq-eqb (getD s i 0) 0 e, lt-ltb 1 m g)
+    from-long e g = from-last (omega arith) ∙ last-long (getD s i 0) i x m e g
 
     pub from-zero : getD s i 0 ≡ 0 → m ≤ 1 → varFrom (suc f) s i x m ≡ Value x (i + 1)
-    unfolding lastByte
-    from-zero e g = from-last (omega arith) ∙ simp (eq-eqb (getD s i 0) 0 e, le-ltb 1 m g)
+    from-zero e g = from-last (omega arith) ∙ last-zero (getD s i 0) i x m e g
 
     module _ (g : getD s i 0 < 128) (ne : getD s i 0 ≡ 0 → ⊥) where
       pub from-value : x + getD s i 0 * m < 2 ^ 64 → varFrom (suc f) s i x m ≡ Value (x + getD s i 0 * m) (i + 1)
-      unfolding lastByte
-      from-value b = from-last g ∙ simp (ne-eqb (getD s i 0) 0 ne, lt-ltb (x + getD s i 0 * m) (2 ^ 64) b)
+      from-value b = from-last g ∙ last-value (getD s i 0) i x m ne b
 
       pub from-large : 2 ^ 64 ≤ x + getD s i 0 * m → varFrom (suc f) s i x m ≡ Bad Large
-      unfolding lastByte
-      from-large b = from-last g ∙ simp (ne-eqb (getD s i 0) 0 ne, le-ltb (x + getD s i 0 * m) (2 ^ 64) b)
+      from-large b = from-last g ∙ last-large (getD s i 0) i x m ne b
+
+-- ---- the weight of byte k, from 0: a digit more over it stays below the next weight
+
+pub digit-lt : (d x m : ℕ) → d < 128 → x < m → x + d * m < m * 128
+digit-lt d x m g h = omega (arith, digits-lt g h)
+
+pub weight-le : (m k : ℕ) → m ≡ 128 ^ k → k ≤ 8 → m ≤ 2 ^ 56
+weight-le m k e h = rw e (pow-le-pow-right (zero-lt-suc 127) h)
 
 -- ---- a number of one byte, and of two
 

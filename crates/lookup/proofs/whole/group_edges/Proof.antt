@@ -5,7 +5,7 @@ use lib.ListN.{length}
 use Rattle.frame.specs.Open.{knownOf, bytesAt}
 use Rattle.lookup.specs.Lookup.{partnersAt}
 use Rattle.lookup.specs.Groups.{seen-fills, seen-degree}
-use Rattle.lookup.specs.Calls.{lent, capped-le, whole-lost, whole-over, whole-short, whole-found, whole-refused, whole-given, short-bytes, short-logs, short-marks, short-none, begins, ends}
+use Rattle.lookup.specs.Calls.{lent, capped-le, whole-lost, whole-over, whole-short, whole-found, whole-refused, whole-given, none-short, begins, ends}
 use native.Mathlib.Omega.{arith}
 use borrow.Author.Needs.{needs}
 use Rattle.lookup.proofs.whole.group_edges.Statement.{statement}
@@ -41,27 +41,14 @@ returns c = let a = c .before .before .before .before .before .before .before .b
     let h0 = c .before .if1 .taken in
     rw (c .misplaced2 .ensures) (whole-refused _ _ (a .out .now) (a .logs .now) (a .marks .now) (whole-over f o (a .i) (a .degree) g rooms (a .compared) s e (omega arith)))
 
+short-of-requires : tie.Need-short-of-requires
+short-of-requires c κs = search needs
+
 too-short-requires : tie.Need-too-short-requires
 too-short-requires c κs = search needs
 
 returns-2 : tie.Need-returns-2
-returns-2 c = let a = c .before .before .before .before .before .before .before .before .before .before .before .before .args in
-    let f = a .file .now in
-    let o = a .o in
-    let g = c .before .before .before .before .before .before .before .before .before .before .before .before .pre .2 in
-    let rooms = lent (length (a .out .now)) (length (a .logs .now)) (length (a .marks .now)) in
-    let s = c .before .before .before .before .before .edges .given .0 .0 in
-    let e = sym (c .before .before .before .before .before .before .before .edges-of .ensures) ∙ c .before .before .before .before .before .edges .given .1 in
-    let most = capped-le (o .edgecount) _ s e in
-    let h0 = c .before .before .if1 .left in
-    let h1 = c .before .if2 .taken in
-    rw (c .too-short .ensures) (whole-refused _ _ (a .out .now) (a .logs .now) (a .marks .now) (whole-short f o (a .i) (a .degree) g rooms (a .compared) s e (omega arith) (short-bytes rooms (a .degree) (omega arith))))
-
-too-short-requires-2 : tie.Need-too-short-requires-2
-too-short-requires-2 c κs = search needs
-
-returns-3 : tie.Need-returns-3
-returns-3 c = let a = c .before .before .before .before .before .before .before .before .before .before .before .before .before .args in
+returns-2 c = let a = c .before .before .before .before .before .before .before .before .before .before .before .before .before .args in
     let f = a .file .now in
     let o = a .o in
     let g = c .before .before .before .before .before .before .before .before .before .before .before .before .before .pre .2 in
@@ -70,65 +57,46 @@ returns-3 c = let a = c .before .before .before .before .before .before .before 
     let e = sym (c .before .before .before .before .before .before .before .before .edges-of .ensures) ∙ c .before .before .before .before .before .before .edges .given .1 in
     let most = capped-le (o .edgecount) _ s e in
     let h0 = c .before .before .before .if1 .left in
-    let h1 = c .before .before .if2 .left in
-    let h2 = c .before .if3 .taken in
-    rw (c .too-short2 .ensures) (whole-refused _ _ (a .out .now) (a .logs .now) (a .marks .now) (whole-short f o (a .i) (a .degree) g rooms (a .compared) s e (omega arith) (short-logs rooms (a .degree) (omega arith) (omega arith))))
-
-too-short-requires-3 : tie.Need-too-short-requires-3
-too-short-requires-3 c κs = search needs
-
-returns-4 : tie.Need-returns-4
-returns-4 c = let a = c .before .before .before .before .before .before .before .before .before .before .before .before .before .before .args in
-    let f = a .file .now in
-    let o = a .o in
-    let g = c .before .before .before .before .before .before .before .before .before .before .before .before .before .before .pre .2 in
-    let rooms = lent (length (a .out .now)) (length (a .logs .now)) (length (a .marks .now)) in
-    let s = c .before .before .before .before .before .before .before .edges .given .0 .0 in
-    let e = sym (c .before .before .before .before .before .before .before .before .before .edges-of .ensures) ∙ c .before .before .before .before .before .before .before .edges .given .1 in
-    let most = capped-le (o .edgecount) _ s e in
-    let h0 = c .before .before .before .before .if1 .left in
-    let h1 = c .before .before .before .if2 .left in
-    let h2 = c .before .before .if3 .left in
-    let h3 = c .before .if4 .taken in
-    rw (c .too-short3 .ensures) (whole-refused _ _ (a .out .now) (a .logs .now) (a .marks .now) (whole-short f o (a .i) (a .degree) g rooms (a .compared) s e (omega arith) (short-marks rooms (a .degree) (omega arith) (omega arith) (omega arith))))
+    let q = sym (c .before .before .short-of .ensures) ∙ c .before .if2 .taken in
+    rw (c .too-short .ensures) (whole-refused _ _ (a .out .now) (a .logs .now) (a .marks .now) (whole-short f o (a .i) (a .degree) g rooms (a .compared) s e (omega arith) q))
 
 give-partners-requires : tie.Need-give-partners-requires
-give-partners-requires c κs = let a = c .before .before .before .before .before .before .before .before .before .before .before .before .before .before .args in
+give-partners-requires c κs = let a = c .before .before .before .before .before .before .before .before .before .before .before .before .before .args in
     let f = a .file .now in
     let o = a .o in
-    let g = c .before .before .before .before .before .before .before .before .before .before .before .before .before .before .pre .2 in
+    let g = c .before .before .before .before .before .before .before .before .before .before .before .before .before .pre .2 in
     let rooms = lent (length (a .out .now)) (length (a .logs .now)) (length (a .marks .now)) in
-    let h0 = c .before .before .before .if2 .left in
-    (c .before .before .before .before .before .before .before .before .before .before .before .before .before .before .pre .0, c .before .before .before .before .before .before .before .before .before .before .before .before .before .before .pre .1, seen-fills (bytesAt f (o .partners)) (begins f o (a .i)) (ends f o (a .i)) (a .i) _ g _ (omega arith))
+    let room = none-short rooms (a .degree) (sym (c .before .before .short-of .ensures) ∙ c .before .if2 .left) in
+    (c .before .before .before .before .before .before .before .before .before .before .before .before .before .pre .0, c .before .before .before .before .before .before .before .before .before .before .before .before .before .pre .1, seen-fills (bytesAt f (o .partners)) (begins f o (a .i)) (ends f o (a .i)) (a .i) _ g _ (room .0))
 
 give-logs-requires : tie.Need-give-logs-requires
-give-logs-requires c κs = let a = c .before .before .before .before .before .before .before .before .before .before .before .before .before .before .before .before .before .before .args in
+give-logs-requires c κs = let a = c .before .before .before .before .before .before .before .before .before .before .before .before .before .before .before .before .before .args in
     let f = a .file .now in
     let o = a .o in
-    let g = c .before .before .before .before .before .before .before .before .before .before .before .before .before .before .before .before .before .before .pre .2 in
+    let g = c .before .before .before .before .before .before .before .before .before .before .before .before .before .before .before .before .before .pre .2 in
     let rooms = lent (length (a .out .now)) (length (a .logs .now)) (length (a .marks .now)) in
-    let s = c .before .before .before .before .before .before .before .before .before .before .before .edges .given .0 .0 in
-    let e = sym (c .before .before .before .before .before .before .before .before .before .before .before .before .before .edges-of .ensures) ∙ c .before .before .before .before .before .before .before .before .before .before .before .edges .given .1 in
+    let s = c .before .before .before .before .before .before .before .before .before .before .edges .given .0 .0 in
+    let e = sym (c .before .before .before .before .before .before .before .before .before .before .before .before .edges-of .ensures) ∙ c .before .before .before .before .before .before .before .before .before .before .edges .given .1 in
     let most = capped-le (o .edgecount) _ s e in
-    let h0 = c .before .before .before .before .before .before .before .before .if1 .left in
-    let h1 = c .before .before .before .before .before .before .if3 .left in
-    (c .before .before .before .before .before .before .before .before .before .before .before .before .before .before .before .before .before .before .pre .0, omega arith, omega arith)
+    let h0 = c .before .before .before .before .before .before .before .if1 .left in
+    let room = none-short rooms (a .degree) (sym (c .before .before .before .before .before .before .short-of .ensures) ∙ c .before .before .before .before .before .if2 .left) in
+    (c .before .before .before .before .before .before .before .before .before .before .before .before .before .before .before .before .before .pre .0, omega arith, room .1)
 
 give-marks-requires : tie.Need-give-marks-requires
-give-marks-requires c κs = let a = c .before .before .before .before .before .before .before .before .before .before .before .before .before .before .before .before .before .before .before .before .before .before .args in
+give-marks-requires c κs = let a = c .before .before .before .before .before .before .before .before .before .before .before .before .before .before .before .before .before .before .before .before .before .args in
     let f = a .file .now in
     let o = a .o in
-    let g = c .before .before .before .before .before .before .before .before .before .before .before .before .before .before .before .before .before .before .before .before .before .before .pre .2 in
+    let g = c .before .before .before .before .before .before .before .before .before .before .before .before .before .before .before .before .before .before .before .before .before .pre .2 in
     let rooms = lent (length (a .out .now)) (length (a .logs .now)) (length (a .marks .now)) in
-    let s = c .before .before .before .before .before .before .before .before .before .before .before .before .before .before .before .edges .given .0 .0 in
-    let e = sym (c .before .before .before .before .before .before .before .before .before .before .before .before .before .before .before .before .before .edges-of .ensures) ∙ c .before .before .before .before .before .before .before .before .before .before .before .before .before .before .before .edges .given .1 in
+    let s = c .before .before .before .before .before .before .before .before .before .before .before .before .before .before .edges .given .0 .0 in
+    let e = sym (c .before .before .before .before .before .before .before .before .before .before .before .before .before .before .before .before .edges-of .ensures) ∙ c .before .before .before .before .before .before .before .before .before .before .before .before .before .before .edges .given .1 in
     let most = capped-le (o .edgecount) _ s e in
-    let h0 = c .before .before .before .before .before .before .before .before .before .before .before .before .if1 .left in
-    let h1 = c .before .before .before .before .before .before .before .before .before .if4 .left in
-    (c .before .before .before .before .before .before .before .before .before .before .before .before .before .before .before .before .before .before .before .before .before .before .pre .0, omega arith, omega arith)
+    let h0 = c .before .before .before .before .before .before .before .before .before .before .before .if1 .left in
+    let room = none-short rooms (a .degree) (sym (c .before .before .before .before .before .before .before .before .before .before .short-of .ensures) ∙ c .before .before .before .before .before .before .before .before .before .if2 .left) in
+    (c .before .before .before .before .before .before .before .before .before .before .before .before .before .before .before .before .before .before .before .before .before .pre .0, omega arith, room .2)
 
-returns-5 : tie.Need-returns-5
-returns-5 c = let a = c .before .before .before .before .before .before .before .before .args in
+returns-3 : tie.Need-returns-3
+returns-3 c = let a = c .before .before .before .before .before .before .before .before .args in
     let f = a .file .now in
     let o = a .o in
     let g = c .before .before .before .before .before .before .before .before .pre .2 in
@@ -144,21 +112,19 @@ same-length-2 c = search needs
 same-length-3 : tie.Need-same-length-3
 same-length-3 c = search needs
 
-returns-6 : tie.Need-returns-6
+returns-4 : tie.Need-returns-4
 unfolding knownOf
-returns-6 c = let a = c .before .before .before .before .before .before .before .before .before .before .before .before .before .before .before .before .before .before .before .before .before .before .before .before .before .args in
+returns-4 c = let a = c .before .before .before .before .before .before .before .before .before .before .before .before .before .before .before .before .before .before .before .before .before .before .before .before .args in
     let f = a .file .now in
     let o = a .o in
-    let g = c .before .before .before .before .before .before .before .before .before .before .before .before .before .before .before .before .before .before .before .before .before .before .before .before .before .pre .2 in
+    let g = c .before .before .before .before .before .before .before .before .before .before .before .before .before .before .before .before .before .before .before .before .before .before .before .before .pre .2 in
     let rooms = lent (length (a .out .now)) (length (a .logs .now)) (length (a .marks .now)) in
-    let s = c .before .before .before .before .before .before .before .before .before .before .before .before .before .before .before .before .before .before .edges .given .0 .0 in
-    let e = sym (c .before .before .before .before .before .before .before .before .before .before .before .before .before .before .before .before .before .before .before .before .edges-of .ensures) ∙ c .before .before .before .before .before .before .before .before .before .before .before .before .before .before .before .before .before .before .edges .given .1 in
+    let s = c .before .before .before .before .before .before .before .before .before .before .before .before .before .before .before .before .before .edges .given .0 .0 in
+    let e = sym (c .before .before .before .before .before .before .before .before .before .before .before .before .before .before .before .before .before .before .before .edges-of .ensures) ∙ c .before .before .before .before .before .before .before .before .before .before .before .before .before .before .before .before .before .edges .given .1 in
     let most = capped-le (o .edgecount) _ s e in
-    let h0 = c .before .before .before .before .before .before .before .before .before .before .before .before .before .before .before .if1 .left in
-    let h1 = c .before .before .before .before .before .before .before .before .before .before .before .before .before .before .if2 .left in
-    let h2 = c .before .before .before .before .before .before .before .before .before .before .before .before .before .if3 .left in
-    let h3 = c .before .before .before .before .before .before .before .before .before .before .before .before .if4 .left in
-    whole-given _ (a .i) (a .compared) (a .degree) _ _ _ (a .out .now) _ (a .logs .now) _ (a .marks .now) _ (whole-found f o (a .i) (a .degree) g rooms (a .compared) s e (omega arith) (short-none rooms (a .degree) (omega arith) (omega arith) (omega arith))) (seen-degree (bytesAt f (o .partners)) (begins f o (a .i)) (ends f o (a .i)) (a .i) _ g) (c .before .before .before .before .before .before .before .before .before .before .give-partners .ensures) (c .before .before .before .before .before .before .give-logs .ensures) (c .before .before .give-marks .ensures)
+    let h0 = c .before .before .before .before .before .before .before .before .before .before .before .before .before .before .if1 .left in
+    let q = sym (c .before .before .before .before .before .before .before .before .before .before .before .before .before .short-of .ensures) ∙ c .before .before .before .before .before .before .before .before .before .before .before .before .if2 .left in
+    whole-given _ (a .i) (a .compared) (a .degree) _ _ _ (a .out .now) _ (a .logs .now) _ (a .marks .now) _ (whole-found f o (a .i) (a .degree) g rooms (a .compared) s e (omega arith) q) (seen-degree (bytesAt f (o .partners)) (begins f o (a .i)) (ends f o (a .i)) (a .i) _ g) (c .before .before .before .before .before .before .before .before .before .before .give-partners .ensures) (c .before .before .before .before .before .before .give-logs .ensures) (c .before .before .give-marks .ensures)
 
 pub group-edges-spec : {M : Type 1} → statement M
 group-edges-spec =
@@ -171,17 +137,14 @@ group-edges-spec =
     sub-if1
     misplaced-requires-2
     returns
+    short-of-requires
     too-short-requires
     returns-2
-    too-short-requires-2
-    returns-3
-    too-short-requires-3
-    returns-4
     give-partners-requires
     give-logs-requires
     give-marks-requires
-    returns-5
+    returns-3
     same-length
     same-length-2
     same-length-3
-    returns-6)
+    returns-4)
