@@ -120,7 +120,7 @@ static void change(const plan *w, uint64_t told[NUMBERS]) {
 }
 
 void compare(void) {
-    bytes corpus = read_all("crates/check_corpus/stdin"), answers = read_all("crates/check_corpus/stdout"), f;
+    bytes corpus = read_all("crates/test_check/stdin"), answers = read_all("crates/test_check/stdout"), f;
     char name[256];
     uint64_t told[NUMBERS] = {0};
     int all = 0, fine = 0;

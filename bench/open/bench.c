@@ -15,7 +15,7 @@ typedef struct {
 
 enum { LARGE = 65536 };
 #define PLAIN (function *)plain_open
-#define CORPUS "crates/open_corpus/stdin"
+#define CORPUS "crates/test_open/stdin"
 
 const row rows[] = {
     {"heading-only", &(plan){"heading-only", 0}, PLAIN, 8000, 0},

@@ -57,7 +57,7 @@ static void given_back(const row *r) {
 }
 
 void compare(void) {
-    bytes corpus = read_all("crates/check_corpus/stdin"), f;
+    bytes corpus = read_all("crates/test_check/stdin"), f;
     char name[256];
     uint64_t told[NUMBERS] = {0};
     int all = 0, fine = 0;

@@ -55,7 +55,7 @@ static void change(uint64_t told[NUMBERS]) {
 }
 
 void compare(void) {
-    bytes corpus = read_all("crates/write_corpus/stdin"), batch;
+    bytes corpus = read_all("crates/test_write/stdin"), batch;
     char name[256];
     uint64_t told[NUMBERS] = {0};
     int all = 0, written = 0;

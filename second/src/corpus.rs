@@ -1,18 +1,18 @@
 //! The vector files: inputs and expected outputs for the programs under test.
 
 pub mod check_files;
-mod codes_vectors;
+mod test_codes;
 pub mod list_files;
 pub mod lookup_calls;
 pub mod open_files;
 pub mod print_files;
 mod record;
 pub mod write_batches;
-mod xxh3_vectors;
+mod test_xxh3;
 
 use crate::print::print;
 
-pub use codes_vectors::records as code_records;
+pub use test_codes::records as code_records;
 pub use record::Record;
 
 pub struct VectorFile {
@@ -35,22 +35,22 @@ fn code_vectors() -> Vec<VectorFile> {
     vec![
         VectorFile {
             path: "xxh3_sum/stdin",
-            bytes: xxh3_vectors::sum_input(),
+            bytes: test_xxh3::sum_input(),
         },
         VectorFile {
             path: "xxh3_sum/stdout",
-            bytes: xxh3_vectors::sum_line().into_bytes(),
+            bytes: test_xxh3::sum_line().into_bytes(),
         },
         VectorFile {
-            path: "xxh3_vectors/stdout",
-            bytes: xxh3_vectors::lines().into_bytes(),
+            path: "test_xxh3/stdout",
+            bytes: test_xxh3::lines().into_bytes(),
         },
         VectorFile {
-            path: "codes_vectors/stdin",
+            path: "test_codes/stdin",
             bytes: records.iter().flat_map(Record::bytes).collect(),
         },
         VectorFile {
-            path: "codes_vectors/stdout",
+            path: "test_codes/stdout",
             bytes: records
                 .iter()
                 .flat_map(|record| format!("{}\n", record.line()).into_bytes())
@@ -65,27 +65,27 @@ fn reader_vectors() -> Vec<VectorFile> {
     let looked_up = lookup_calls::files();
     vec![
         VectorFile {
-            path: "open_corpus/stdin",
+            path: "test_open/stdin",
             bytes: open_files::stdin(&opened),
         },
         VectorFile {
-            path: "open_corpus/stdout",
+            path: "test_open/stdout",
             bytes: open_files::stdout(&opened),
         },
         VectorFile {
-            path: "list_corpus/stdin",
+            path: "test_list/stdin",
             bytes: open_files::stdin(&listed),
         },
         VectorFile {
-            path: "list_corpus/stdout",
+            path: "test_list/stdout",
             bytes: list_files::stdout(&listed),
         },
         VectorFile {
-            path: "lookup_corpus/stdin",
+            path: "test_lookup/stdin",
             bytes: lookup_calls::stdin(&looked_up),
         },
         VectorFile {
-            path: "lookup_corpus/stdout",
+            path: "test_lookup/stdout",
             bytes: lookup_calls::stdout(&looked_up),
         },
     ]
@@ -96,19 +96,19 @@ fn check_vectors() -> Vec<VectorFile> {
     let printed = print_files::files();
     vec![
         VectorFile {
-            path: "check_corpus/stdin",
+            path: "test_check/stdin",
             bytes: check_files::stdin(&checked),
         },
         VectorFile {
-            path: "check_corpus/stdout",
+            path: "test_check/stdout",
             bytes: check_files::stdout(&checked),
         },
         VectorFile {
-            path: "print_corpus/stdin",
+            path: "test_print/stdin",
             bytes: check_files::stdin(&printed),
         },
         VectorFile {
-            path: "print_corpus/stdout",
+            path: "test_print/stdout",
             bytes: print_files::stdout(&printed),
         },
     ]
@@ -142,11 +142,11 @@ fn write_vectors() -> Vec<VectorFile> {
     let batches = write_batches::small();
     vec![
         VectorFile {
-            path: "write_corpus/stdin",
+            path: "test_write/stdin",
             bytes: write_batches::stdin(&batches),
         },
         VectorFile {
-            path: "write_corpus/stdout",
+            path: "test_write/stdout",
             bytes: write_batches::stdout(&batches),
         },
     ]
@@ -173,19 +173,19 @@ pub fn large_files() -> Vec<VectorFile> {
     let batches = write_batches::large();
     vec![
         VectorFile {
-            path: "open_large/stdin",
+            path: "test_open_large/stdin",
             bytes: open_files::stdin(&opened),
         },
         VectorFile {
-            path: "open_large/stdout",
+            path: "test_open_large/stdout",
             bytes: open_files::stdout(&opened),
         },
         VectorFile {
-            path: "write_large/stdin",
+            path: "test_write_large/stdin",
             bytes: write_batches::stdin(&batches),
         },
         VectorFile {
-            path: "write_large/stdout",
+            path: "test_write_large/stdout",
             bytes: write_batches::large_stdout(&batches),
         },
     ]

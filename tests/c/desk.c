@@ -131,7 +131,7 @@ static void each_item(const char *dir, const char *corpus, void (*test)(const ch
         differ("a line more than there are items: %s", line);
 }
 
-void test_checks(const char *dir) { each_item(dir, "check_corpus", check_file); }
+void test_checks(const char *dir) { each_item(dir, "test_check", check_file); }
 
 static EdgeSstDone needed(Bytes batch) {
     calls++;
@@ -208,4 +208,4 @@ static void write_batch(const char *name, Bytes batch, Lines *lines) {
     take_back(out);
 }
 
-void test_writes(const char *dir) { each_item(dir, "write_corpus", write_batch); }
+void test_writes(const char *dir) { each_item(dir, "test_write", write_batch); }

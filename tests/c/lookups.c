@@ -306,8 +306,8 @@ static void keys_of(Bytes file) {
 }
 
 void test_lookups(const char *dir) {
-    Bytes input = read_all(dir, "lookup_corpus/stdin"), file = {NULL, 0};
-    Lines lines = lines_of(dir, "lookup_corpus/stdout");
+    Bytes input = read_all(dir, "test_lookup/stdin"), file = {NULL, 0};
+    Lines lines = lines_of(dir, "test_lookup/stdout");
     char line[LINE];
     while (input.n > 0) {
         uint64_t kind = take_number(&input, 1);

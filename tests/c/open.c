@@ -21,7 +21,7 @@ static uint8_t *family(size_t n) {
 
 void test_sums(const char *dir) {
     enum { MOST = 65536 };
-    Lines lines = lines_of(dir, "xxh3_vectors/stdout");
+    Lines lines = lines_of(dir, "test_xxh3/stdout");
     char line[LINE];
     uint8_t *bytes = family(MOST);
     while (next_line(&lines, line)) {
@@ -113,8 +113,8 @@ static void hold_sections(const char *name, Bytes file, const EdgeSstOpened *o, 
 }
 
 void test_opening(const char *dir) {
-    Bytes input = read_all(dir, "open_corpus/stdin");
-    Lines lines = lines_of(dir, "open_corpus/stdout");
+    Bytes input = read_all(dir, "test_open/stdin");
+    Lines lines = lines_of(dir, "test_open/stdout");
     char name[256], line[LINE];
     while (input.n > 0) {
         Bytes file;

@@ -23,9 +23,9 @@ fn samples_are_fine() {
 /// Every file of the corpus is told as the second program tells it, and in order.
 #[test]
 fn the_corpus_is_told_as_by_the_second_program() {
-    let folder = folder("check_corpus");
-    let files = inputs("check_corpus");
-    let expected = refusals("check_corpus", "check");
+    let folder = folder("test_check");
+    let files = inputs("test_check");
+    let expected = refusals("test_check", "check");
     assert!(files.len() > 2000 && expected.len() > 2000);
     let mut arguments = vec![
         "check".to_string(),
@@ -63,7 +63,7 @@ fn the_corpus_is_told_as_by_the_second_program() {
 #[test]
 fn lines_come_in_the_order_given() {
     let folder = folder("check_order");
-    let mut files: Vec<Named> = inputs("check_corpus").into_iter().take(120).collect();
+    let mut files: Vec<Named> = inputs("test_check").into_iter().take(120).collect();
     files.sort_by_key(|file| std::cmp::Reverse(file.bytes.len()));
     let paths = put_all(&folder, &files);
     let told = |options: &[&str]| {

@@ -41,8 +41,8 @@ fn the_example_is_made_of_its_text() {
 /// file read out again; and goes to text and back.
 #[test]
 fn the_corpus_is_written_as_by_the_second_program() {
-    let refusals = refusals("write_corpus", "needed");
-    let batches = inputs("write_corpus");
+    let refusals = refusals("test_write", "needed");
+    let batches = inputs("test_write");
     let mut written = 0;
     for batch in batches {
         let wrote = run_on(&["write", "-", "-o", "-"], &batch.bytes);
@@ -81,14 +81,14 @@ fn the_corpus_is_written_as_by_the_second_program() {
 /// which has the batch's length and sum; others are refused.
 #[test]
 fn the_corpus_is_read_out_as_by_the_second_program() {
-    let refusals = refusals("check_corpus", "read-out");
-    let answers = lines("check_corpus");
+    let refusals = refusals("test_check", "read-out");
+    let answers = lines("test_check");
     let length = |name: &str| {
         let begin = format!("{name}: read-out ");
         let line = answers.iter().find_map(|line| line.strip_prefix(&begin));
         line.unwrap().split(' ').next().unwrap().parse::<usize>()
     };
-    for (i, file) in inputs("check_corpus").iter().enumerate() {
+    for (i, file) in inputs("test_check").iter().enumerate() {
         // Every sound file, and of the many damaged ones each fifth.
         match refusals.get(&file.name) {
             Some(_) if i % 5 != 0 => {}

@@ -64,7 +64,7 @@ pub struct Call {
 
 /// The files and calls of the corpus of lookups; calls by a record are left out.
 pub fn lookups() -> (Vec<Vec<u8>>, Vec<Call>) {
-    let bytes = fs::read(top("crates/lookup_corpus/stdin")).expect("a corpus");
+    let bytes = fs::read(top("crates/test_lookup/stdin")).expect("a corpus");
     let mut reader = Reader { rest: &bytes };
     let (mut files, mut calls) = (Vec::new(), Vec::new());
     while !reader.rest.is_empty() {

@@ -68,7 +68,7 @@ fn partners_alone() {
 fn expected() -> HashMap<String, (String, Vec<String>)> {
     let mut expected = HashMap::new();
     let mut last = String::new();
-    for line in lines("lookup_corpus") {
+    for line in lines("test_lookup") {
         match line.strip_prefix("  partner ") {
             None => {
                 let (name, told) = line.split_once(": ").unwrap();
@@ -88,7 +88,7 @@ fn expected() -> HashMap<String, (String, Vec<String>)> {
 /// a call was lent there is not asked for here, so refusal 20 is left out.
 #[test]
 fn the_corpus_is_answered_as_by_the_second_program() {
-    let folder = folder("lookup_corpus");
+    let folder = folder("test_lookup");
     let (files, calls) = lookups();
     let expected = expected();
     let mut asked = 0;

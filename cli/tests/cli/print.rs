@@ -23,7 +23,7 @@ fn the_example_is_printed() {
 fn printed() -> HashMap<String, String> {
     let mut printed: HashMap<String, String> = HashMap::new();
     let mut name = String::new();
-    for line in lines("print_corpus") {
+    for line in lines("test_print") {
         match line.strip_prefix("== ") {
             Some(next) => name = next.to_string(),
             None => *printed.entry(name.clone()).or_default() += &format!("{line}\n"),
@@ -37,7 +37,7 @@ fn printed() -> HashMap<String, String> {
 #[test]
 fn the_corpus_is_printed_as_by_the_second_program() {
     let printed = printed();
-    let files = inputs("print_corpus");
+    let files = inputs("test_print");
     assert!(files.len() >= 80);
     for file in files {
         let expected = &printed[&file.name];

@@ -9,7 +9,7 @@ use std::collections::HashMap;
 fn expected() -> HashMap<String, (String, Vec<String>)> {
     let mut expected = HashMap::new();
     let mut last = String::new();
-    for line in lines("list_corpus") {
+    for line in lines("test_list") {
         if let Some(row) = line.strip_prefix("  section ") {
             let listed: &mut (String, Vec<String>) = expected.get_mut(&last).unwrap();
             listed.1.push(row.to_string());
@@ -26,7 +26,7 @@ fn expected() -> HashMap<String, (String, Vec<String>)> {
 #[test]
 fn the_corpus_is_listed_as_by_the_second_program() {
     let expected = expected();
-    let files = inputs("list_corpus");
+    let files = inputs("test_list");
     assert!(files.len() > 100);
     for file in files {
         let (told, rows) = &expected[&file.name];

@@ -63,7 +63,7 @@ fn sections_are_named_by_kind_and_name() {
         (5, "tombstones", "tombstones"),
         (6, "weight", "property stream 'weight'"),
     ];
-    let files = inputs("check_corpus");
+    let files = inputs("test_check");
     for (entry, _, words) in expected {
         let begin = format!("check-sum-board-entry-{entry}-");
         let file = files.iter().find(|file| file.name.starts_with(&begin));
@@ -74,9 +74,9 @@ fn sections_are_named_by_kind_and_name() {
 
 /// Some file of the corpus that the second program refuses so, and that fits.
 fn refused_so(number: u64, place: u64, fits: fn(&[u8]) -> bool) -> Vec<u8> {
-    let refusals = refusals("check_corpus", "check");
+    let refusals = refusals("test_check", "check");
     let so = |file: &Named| refusals.get(&file.name) == Some(&(number, place));
-    let found = inputs("check_corpus")
+    let found = inputs("test_check")
         .into_iter()
         .find(|file| so(file) && fits(&file.bytes));
     found.expect("such a file").bytes

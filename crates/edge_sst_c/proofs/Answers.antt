@@ -15,8 +15,8 @@ use Rattle.lookup.specs.Calls.{alone, lent, Alone, Whole}
 use Rattle.full_check.specs.Full.{fullCheck}
 use Rattle.readout.specs.declared.ReadOut.{ReadOut}
 use Rattle.readout.specs.ReadOut.{readOutOf, readOutLeaves}
-use Rattle.writer.specs.declared.Written.{Written}
-use Rattle.writer.specs.Written.{neededOf, writtenOf, Wrote}
+use Rattle.write_file.specs.declared.Written.{Written}
+use Rattle.write_file.specs.Written.{neededOf, writtenOf, Wrote}
 use Rattle.listing.specs.declared.Listed.{Listed}
 use Rattle.listing.specs.List as list
 use Rattle.edge_sst_c.specs.Look.{recordFrom}

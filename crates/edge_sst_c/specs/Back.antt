@@ -23,7 +23,7 @@ use Rattle.lookup.specs.Lookup.{Outcome, Rooms, refused, lookWith, lookOf, answ
 use Rattle.lookup.specs.Calls.{alone, lent}
 use Rattle.reader.specs.Look.{with-bad, with-record, opened-holds}
 use Rattle.readout.specs.declared.ReadOut.{ReadOut}
-use Rattle.writer.specs.declared.Written.{Written}
+use Rattle.write_file.specs.declared.Written.{Written}
 use Rattle.listing.specs.declared.Listed.{Listed}
 use Rattle.edge_sst_c.specs.declared.EdgeSstOpened.{EdgeSstOpened}
 use Rattle.edge_sst_c.specs.declared.look.EdgeSstLooked.{EdgeSstLooked}

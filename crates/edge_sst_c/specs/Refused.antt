@@ -19,9 +19,9 @@ use Rattle.lookup.specs.Lookup.Laws.{unfound-leaves}
 use Rattle.readout.specs.declared.ReadOut.{ReadOut}
 use Rattle.readout.specs.ReadOut.{readOutOf, readOutLeaves}
 use Rattle.readout.specs.ReadOut.Laws as read-out
-use Rattle.writer.specs.declared.Written.{Written}
-use Rattle.writer.specs.Written.{writtenOf}
-use Rattle.writer.specs.Written.Laws as writer
+use Rattle.write_file.specs.declared.Written.{Written}
+use Rattle.write_file.specs.Written.{writtenOf}
+use Rattle.write_file.specs.Written.Laws as writer
 use Rattle.listing.specs.declared.Listed.{Listed}
 use Rattle.listing.specs.List as list
 use Rattle.listing.specs.List.{planOf}

@@ -5,8 +5,8 @@ use mathlib.Core.List.{List}
 use lib.ListN.{length}
 use Rattle.refusal.specs.declared.Refusal.{Refusal}
 use Rattle.refusal.specs.Refusal.{numberOf, placeOf, besideOf}
-use Rattle.writer.specs.declared.Written.{Written}
-use Rattle.writer.specs.Written.{leaves, writtenOf, fileIn, Wrote}
+use Rattle.write_file.specs.declared.Written.{Written}
+use Rattle.write_file.specs.Written.{leaves, writtenOf, fileIn, Wrote}
 use Rattle.edge_sst_c.specs.declared.desk.EdgeSstDone.{EdgeSstDone}
 
 unfoldable pub writtenTold : Written → EdgeSstDone

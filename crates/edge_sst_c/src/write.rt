@@ -2,13 +2,13 @@
 ghost use mathlib.Core.Path.{_≡_};
 ghost use lib.ListN.{length};
 ghost use Rattle.xxh3_spec.specs.Xxh3.{xxh3};
-ghost use Rattle.writer.specs.Written.{neededOf};
+ghost use Rattle.write_file.specs.Written.{neededOf};
 ghost use Rattle.edge_sst_c.specs.Write.{writtenTold, WroteTold};
 use super::desk::EdgeSstDone;
 use refusal::told_of;
-use writer::Written;
-use writer::needed;
-use writer::write;
+use write_file::Written;
+use write_file::needed;
+use write_file::write;
 use xxh3::xxh3;
 
 fn written_told(w: Written) -> EdgeSstDone

@@ -17,7 +17,7 @@ use frame::bytes_of;
 use frame::ends::body_of;
 use refusal::Check;
 use refusal::Refusal;
-use table::row_at;
+use open_table::row_at;
 use xxh3::xxh3;
 
 // The sum of the bytes from `start` on.

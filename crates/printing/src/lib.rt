@@ -12,8 +12,8 @@ use frame::Opening;
 use reader::open::open;
 use readout::ReadOut;
 use readout::read_out;
-use verdict::number;
-use verdict::refused;
+use test_verdict::number;
+use test_verdict::refused;
 
 const OUT: i32 = 1;
 

@@ -24,13 +24,13 @@ use Rattle.full_check.specs.Full.{fullCheck}
 use Rattle.readout.specs.declared.ReadOut.{ReadOut}
 use Rattle.readout.specs.ReadOut.{readOutOf, readOutLeaves}
 use Rattle.agreement.specs.SameEdges.{ofKey, Enough}
-use Rattle.writer.specs.declared.Written.{Written}
-use Rattle.back.specs.Demand2.{fileFor, Lawful, demand-2}
+use Rattle.write_file.specs.declared.Written.{Written}
+use Rattle.demand2.specs.Demand2.{fileFor, Lawful, demand-2}
 use Rattle.promises.specs.Calls.{needs, writes, reads, PartnersGiven, EdgesGiven, partners-given, edges-given}
-use Rattle.writer.proofs.needed as c-needed
-use Rattle.writer.proofs.needed.Reads as c-needed-reads
-use Rattle.writer.proofs.write as c-write
-use Rattle.writer.proofs.write.Reads as c-write-reads
+use Rattle.write_file.proofs.needed as c-needed
+use Rattle.write_file.proofs.needed.Reads as c-needed-reads
+use Rattle.write_file.proofs.write as c-write
+use Rattle.write_file.proofs.write.Reads as c-write-reads
 use Rattle.full_check.proofs.check as c-check
 use Rattle.full_check.proofs.check.Reads as c-check-reads
 use Rattle.readout.proofs.read_out as c-read-out

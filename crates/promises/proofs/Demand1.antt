@@ -26,12 +26,12 @@ use Rattle.full_check.proofs.checked as c-checked
 use Rattle.full_check.proofs.checked.Reads as c-checked-reads
 use Rattle.readout.proofs.read_out as c-read-out
 use Rattle.readout.proofs.read_out.Reads as c-read-out-reads
-use Rattle.writer.proofs.needed as c-needed
-use Rattle.writer.proofs.needed.Reads as c-needed-reads
-use Rattle.writer.proofs.write as c-write
-use Rattle.writer.proofs.write.Reads as c-write-reads
-use Rattle.faults.proofs.check_batch as c-check-batch
-use Rattle.faults.proofs.check_batch.Reads as c-check-batch-reads
+use Rattle.write_file.proofs.needed as c-needed
+use Rattle.write_file.proofs.needed.Reads as c-needed-reads
+use Rattle.write_file.proofs.write as c-write
+use Rattle.write_file.proofs.write.Reads as c-write-reads
+use Rattle.batch_faults.proofs.check_batch as c-check-batch
+use Rattle.batch_faults.proofs.check_batch.Reads as c-check-batch-reads
 use Rattle.refusal.proofs.told_of as c-told
 use Rattle.refusal.proofs.told_of.Reads as c-told-reads
 use Rattle.listing.proofs.list_sections as c-sections
@@ -66,8 +66,8 @@ use Rattle.xxh3.proofs.One.{xxh3-determined, saffron-xxh3-64-determined}
 use Rattle.reader.proofs.One.{open-determined, section-at-determined, partners-determined, partners-with-determined, lookup-determined, lookup-with-determined}
 use Rattle.full_check.proofs.One.{check-determined, checked-determined}
 use Rattle.readout.proofs.One.{read-out-determined}
-use Rattle.writer.proofs.One.{needed-determined, write-determined}
-use Rattle.faults.proofs.One.{check-batch-determined}
+use Rattle.write_file.proofs.One.{needed-determined, write-determined}
+use Rattle.batch_faults.proofs.One.{check-batch-determined}
 use Rattle.refusal.proofs.One.{told-of-determined}
 use Rattle.listing.proofs.One.{Listed-post, Table-post, list-sections-determined, plan-for-determined, row-of-determined, table-of-determined}
 use Rattle.edge_sst_c.proofs.One.{edge-sst-open-determined, edge-sst-partners-determined, edge-sst-partners-with-determined, edge-sst-lookup-determined, edge-sst-lookup-with-determined, edge-sst-check-determined, edge-sst-read-out-determined, edge-sst-needed-determined, edge-sst-write-determined, edge-sst-sections-determined, edge-sst-sum-determined}

@@ -22,9 +22,9 @@ use Rattle.listing.specs.List.Laws.{refused-leaves}
 use Rattle.readout.specs.declared.ReadOut.{ReadOut}
 use Rattle.readout.specs.ReadOut as out
 use Rattle.readout.specs.ReadOut.{readCheck, neededFor, batchIn, leaves, readOutOf, readOutLeaves}
-use Rattle.writer.specs.declared.Written.{Written}
-use Rattle.writer.specs.Written as writer
-use Rattle.writer.specs.Written.{Wrote, fileIn}
+use Rattle.write_file.specs.declared.Written.{Written}
+use Rattle.write_file.specs.Written as writer
+use Rattle.write_file.specs.Written.{Wrote, fileIn}
 use Rattle.reader.proofs.look.partners as c-partners
 use Rattle.reader.proofs.look.partners.Reads as c-partners-reads
 use Rattle.reader.proofs.look.partners_with as c-partners-with
@@ -35,8 +35,8 @@ use Rattle.reader.proofs.look.lookup_with as c-lookup-with
 use Rattle.reader.proofs.look.lookup_with.Reads as c-lookup-with-reads
 use Rattle.readout.proofs.read_out as c-read-out
 use Rattle.readout.proofs.read_out.Reads as c-read-out-reads
-use Rattle.writer.proofs.write as c-write
-use Rattle.writer.proofs.write.Reads as c-write-reads
+use Rattle.write_file.proofs.write as c-write
+use Rattle.write_file.proofs.write.Reads as c-write-reads
 use Rattle.listing.proofs.list_sections as c-sections
 use Rattle.listing.proofs.One.{Listed-post}
 

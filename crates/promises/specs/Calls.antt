@@ -29,10 +29,10 @@ use Rattle.lookup.specs.Calls.{Alone, Whole, alone-as, whole-as}
 use Rattle.batch.specs.declared.Edge.{Edge}
 use Rattle.batch.specs.Batch.{headingOf, edgeAt, edgesAt, edgesOf, headingBytes, recordsOf, batchBytes, batchCheck}
 use Rattle.index.specs.Find.{turn, findFrom, findIn, comparedOf}
-use Rattle.groups.specs.Groups.{join, groupsOf}
-use Rattle.image.specs.Image.{keysIn}
-use Rattle.image.specs.Cases.{mixed}
-use Rattle.plan.specs.Bounds.{tooMany, few}
+use Rattle.batch_groups.specs.Groups.{join, groupsOf}
+use Rattle.write_image.specs.Image.{keysIn}
+use Rattle.write_image.specs.Cases.{mixed}
+use Rattle.write_plan.specs.Bounds.{tooMany, few}
 use Rattle.full_check.specs.Full.{checkedOf}
 use Rattle.full_check.specs.Checked.{fine-checked}
 use Rattle.readout.specs.declared.ReadOut.{ReadOut}
@@ -40,11 +40,11 @@ use Rattle.readout.specs.Edges.{edgesIn}
 use Rattle.readout.specs.ReadOut.{headingIn, batchIn, readOutOf, readOutLeaves}
 use Rattle.readout.specs.ReadOut.Laws.{checked-records, checked-size, length-heading, reads-all}
 use Rattle.agreement.specs.SameEdges.{ofKey, partnersIn, logsIn, marksIn}
-use Rattle.writer.specs.declared.Written.{Written}
-use Rattle.writer.specs.Written.{neededCheck, neededOf, writtenOf, leaves, fileIn, answerOf}
-use Rattle.writer.specs.Written.Laws.{needed-done, wrote-all}
-use Rattle.back.specs.Answers.{indexIn, comparisonsIn, outcomeBy, outcomeFor}
-use Rattle.back.specs.Demand2.{fileFor, Lawful, lawful-is, demand-2}
+use Rattle.write_file.specs.declared.Written.{Written}
+use Rattle.write_file.specs.Written.{neededCheck, neededOf, writtenOf, leaves, fileIn, answerOf}
+use Rattle.write_file.specs.Written.Laws.{needed-done, wrote-all}
+use Rattle.demand2.specs.Answers.{indexIn, comparisonsIn, outcomeBy, outcomeFor}
+use Rattle.demand2.specs.Demand2.{fileFor, Lawful, lawful-is, demand-2}
 
 -- ---- the writer
 

@@ -17,14 +17,14 @@ use Rattle.frame.specs.Cases.{headingOnly}
 use Rattle.lookup.specs.Lookup.{Outcome, found, absent, refused, Rooms, lookOf, lookWith}
 use Rattle.batch.specs.declared.Edge.{Edge}
 use Rattle.batch.specs.Batch.{edgeAt, edgesAt, edgesOf}
-use Rattle.image.specs.Cases.{mixed, mixed-edges}
+use Rattle.write_image.specs.Cases.{mixed, mixed-edges}
 use Rattle.agreement.specs.SameEdges.{ofKey, partnersIn, Says, shownBy, Enough}
 use Rattle.agreement.specs.OutBytes.{byted, bytes-are}
 use Rattle.full_check.specs.Full.{fullCheck}
-use Rattle.writer.specs.declared.Written.{Written}
-use Rattle.writer.specs.Written.{writtenOf, fileIn, leaves}
-use Rattle.back.specs.Demand2.{fileFor, Lawful, demand-2}
-use Rattle.back.specs.Cases.{mixed-lawful}
+use Rattle.write_file.specs.declared.Written.{Written}
+use Rattle.write_file.specs.Written.{writtenOf, fileIn, leaves}
+use Rattle.demand2.specs.Demand2.{fileFor, Lawful, demand-2}
+use Rattle.demand2.specs.Cases.{mixed-lawful}
 use Rattle.promises.specs.Calls.{takes, writes}
 use Rattle.promises.specs.Marked.{empty, live, one, marked}
 

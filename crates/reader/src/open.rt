@@ -15,7 +15,7 @@ use frame::bytes_of;
 use index::fences::fences_good;
 use index::keys::keys_check;
 use index::offsets::offsets_check;
-use opening::frames::frame_of;
+use open_file::frames::frame_of;
 use refusal::Check;
 use refusal::Refusal;
 

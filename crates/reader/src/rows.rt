@@ -15,7 +15,7 @@ use frame::ends::Trailer;
 use frame::ends::body_of;
 use frame::ends::foot_at;
 use frame::ends::foot_len;
-use table::row_at;
+use open_table::row_at;
 
 // An entry, or none of that number.
 pub enum Section {

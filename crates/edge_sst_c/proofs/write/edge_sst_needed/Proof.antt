@@ -8,7 +8,7 @@ use Rattle.edge_sst_c.proofs.write.edge_sst_needed.Tie as tie
 use Rattle.edge_sst_c.proofs.write.edge_sst_needed.Reads as reads
 use Rattle.edge_sst_c.proofs.write.edge_sst_needed.Lts as lts
 use Rattle.edge_sst_c.proofs.write.written_told.Reads as written-told-reads
-use Rattle.writer.proofs.needed.Reads as needed-reads
+use Rattle.write_file.proofs.needed.Reads as needed-reads
 
 needed-requires : tie.Need-needed-requires
 needed-requires c κs = search needs

@@ -7,7 +7,7 @@ use Rattle.edge_sst_c.proofs.write.edge_sst_write.Tie as tie
 use Rattle.edge_sst_c.proofs.write.edge_sst_write.Reads as reads
 use Rattle.edge_sst_c.proofs.write.edge_sst_write.Lts as lts
 use Rattle.edge_sst_c.proofs.write.written_told.Reads as written-told-reads
-use Rattle.writer.proofs.write.Reads as write-reads
+use Rattle.write_file.proofs.write.Reads as write-reads
 
 write-requires : tie.Need-write-requires
 write-requires c κs = search needs

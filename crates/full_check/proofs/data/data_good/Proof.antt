@@ -8,8 +8,8 @@ use Rattle.full_check.proofs.data.data_good.Statement.{statement}
 use Rattle.full_check.proofs.data.data_good.Tie as tie
 use Rattle.full_check.proofs.data.data_good.Reads as reads
 use Rattle.full_check.proofs.data.data_good.Lts as lts
-use Rattle.counts.proofs.alike.Reads as alike-reads
-use Rattle.counts.proofs.flag_of.Reads as flag-of-reads
+use Rattle.open_counts.proofs.alike.Reads as alike-reads
+use Rattle.open_counts.proofs.flag_of.Reads as flag-of-reads
 
 returns : tie.Need-returns
 returns c = let a = c .before .args in simp (ne-eqb (a .sum) (a .count) (λ q. omega arith))

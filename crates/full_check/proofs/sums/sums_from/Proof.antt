@@ -10,7 +10,7 @@ use Rattle.full_check.proofs.sums.sums_from.Tie as tie
 use Rattle.full_check.proofs.sums.sums_from.Reads as reads
 use Rattle.full_check.proofs.sums.sums_from.Lts as lts
 use Rattle.full_check.proofs.sums.sum_of.Reads as sum-of-reads
-use Rattle.table.proofs.row_at.Reads as row-at-reads
+use Rattle.open_table.proofs.row_at.Reads as row-at-reads
 
 abbrev Inv-loop : tie.InvT-loop
 Inv-loop file b count at₀ k₀ at k = Summed file b count at k

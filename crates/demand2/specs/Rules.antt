@@ -1,0 +1,129 @@
+-- Rules 14, 15 and 23 of the writer's sections: offsets, fences, marks.
+use mathlib.Core.Path.{_≡_, refl, sym, ap, ap₂, _∙_}
+use Prim.Native.Nat.{ℕ, zero, suc, _+_, _-_, _*_, _/_, _%_, _^_, _≤_, _<_}
+use native.Mathlib.Nat.{zero-add, add-zero}
+use native.Mathlib.Omega.{arith}
+use native.Mathlib.Decide.{ℕ-discrete, decLt}
+use mathlib.Core.List.{List, [], _∷_, _++_, append-assoc}
+use mathlib.Core.Bool.{Bool, true, false, not, _&&_, _||_}
+use lib.ListN.{length, getD, drop, take, length-append, List·getD-eq-default}
+use lib.Seq.{drop-cons, getD-append-add, append-snoc}
+use lib.Dec.{ltb, leb, eqb, lit<}
+use borrow.Author.Tests.{lt-ltb, eq-eqb, ne-eqb, le-leb, eqb-true}
+use Rattle.base.specs.Pick.{pick}
+use Rattle.codes.specs.declared.ids.Id.{Id}
+use Rattle.codes.specs.Little.{leAt, leBytes}
+use Rattle.codes.specs.Little.Laws.{leAt-back, length-leBytes}
+use Rattle.codes.specs.Ids.{idAt, numberOf, idBytes, halvesAt}
+use Rattle.codes.specs.Ids.Laws.{number-halves, halves-back, length-idBytes}
+use Rattle.refusal.specs.declared.Refusal.{Refusal}
+use Rattle.refusal.specs.declared.Check.{Check}
+use Rattle.refusal.specs.Check.Laws.{fine-pick, and-both}
+use Rattle.frame.specs.Kind as kind
+use Rattle.frame.specs.Open.{keyAt, offsetAt, offsetGood, offsetsFrom, fenceGood, fencesFrom, fencesGood, strideOf, fenceCount}
+use Rattle.lookup.specs.Lookup.{markAt}
+use Rattle.batch.specs.declared.Edge.{Edge}
+use Rattle.batch_groups.specs.Groups.{none, Group, Fits, Grouped}
+use Rattle.write_image.specs.Image.{marksIn, keysIn, anyDead, keyBytes, partnerBytes, offsetBytes, tombBytes, stride, fenceBytes, fencesOf}
+use Rattle.write_image.specs.Image as image
+use Rattle.write_image.specs.Image.Laws.{length-keysIn, length-fence, length-fences, fences-are, fence-is, length-tombs}
+use Rattle.laid_out.specs.Rows.{leAt-at, leAt-past}
+use Rattle.full_check.specs.Full.{deadFrom}
+use Rattle.demand2.specs.Rows.{length-marksIn, marks-at}
+use Rattle.demand2.specs.Contents.{offset-is, offset-rises, offset-first, offset-last, key-number, tombs, mark-is}
+
+-- ---- groups by their number
+
+pub cut-at : (l : List Group) (i : ℕ) → i < length l → (gs : List Group) × (g : Group) × (hs : List Group) × (l ≡ gs ++ g ∷ hs) × (length gs ≡ i)
+cut-at [] i h = absurd (omega arith)
+cut-at (x ∷ l) zero h = ([], x, l, refl, refl)
+cut-at (x ∷ l) (suc i) h = let (gs, g, hs, e, q) = cut-at l i (omega arith) in (x ∷ gs, g, hs, ap (λ (t : List Group). x ∷ t) e, ap suc q)
+
+-- ---- rule 14
+
+module _ (all : List Group) (w : ℕ) (small : length (partnerBytes (length all) all) < 2 ^ (8 * w)) where
+  abbrev os : List ℕ
+  os = offsetBytes w (length all) 0 all
+
+  abbrev len : ℕ
+  len = length (partnerBytes (length all) all)
+
+  rises : (i : ℕ) → i < length all → offsetAt os w i < offsetAt os w (i + 1)
+  rises i h =
+      let (gs, g, hs, e, q) = cut-at all i h in
+      let up = offset-rises all w small gs g hs e in
+      rw (← q) up
+
+  good : (i : ℕ) → i ≤ length all → offsetGood os w (length all) len i ≡ true
+  unfolding offsetGood
+  good i h = and-both (first i h) (last (eqb i (length all)) refl)
+    where
+      first : (i : ℕ) → i ≤ length all → pick (eqb i 0) (eqb (offsetAt os w i) 0) (ltb (offsetAt os w (i - 1)) (offsetAt os w i)) ≡ true
+      first zero h = eq-eqb (offsetAt os w 0) 0 (offset-first all w small)
+      first (suc i) h =
+          let back : suc i - 1 ≡ i = omega arith in
+          let next : i + 1 ≡ suc i = omega arith in
+          let up : offsetAt os w i < offsetAt os w (suc i) = rw next at (rises i (omega arith)) in
+          ap₂ (λ (x : Bool) (y : ℕ). pick x (eqb (offsetAt os w (suc i)) 0) (ltb (offsetAt os w y) (offsetAt os w (suc i)))) (ne-eqb (suc i) 0 (λ q. omega arith)) back
+          ∙ lt-ltb (offsetAt os w i) (offsetAt os w (suc i)) up
+
+      last : (b : Bool) → eqb i (length all) ≡ b → (not b || eqb (offsetAt os w i) len) ≡ true
+      last true q =
+          let z : i ≡ length all = eqb-true i (length all) q in
+          eq-eqb (offsetAt os w i) len (ap (offsetAt os w) z ∙ offset-last all w small)
+      last false q = refl
+
+  fine-from : (d i : ℕ) → i + d ≡ length all + 1 → offsetsFrom d os w (length all) len i ≡ Check.Fine
+  unfolding offsetsFrom
+  fine-from zero i h = refl
+  fine-from (suc d) i h = fine-pick (Check.Bad (Refusal.Offset i)) (good i (omega arith)) (fine-from d (i + 1) (omega arith))
+
+  pub offsets-fine : offsetsFrom (length all + 1) os w (length all) len 0 ≡ Check.Fine
+  offsets-fine = fine-from (length all + 1) 0 (zero-add (length all + 1))
+
+-- ---- rule 23: marks
+
+module _ (es : List Edge) where
+  -- one of d marks from mark e on
+  someFrom : ℕ → List Bool → ℕ → Bool
+  someFrom zero ds e = false
+  someFrom (suc d) ds e = getD ds e false || someFrom d ds (e + 1)
+
+  dead-some : (d e : ℕ) → e + d ≤ 8 * ((length es + 7) / 8) → deadFrom d (tombs es) e ≡ someFrom d (marksIn es) e
+  unfolding deadFrom someFrom
+  dead-some zero e h = refl
+  dead-some (suc d) e h = ap₂ (λ (x y : Bool). x || y) (mark-is es e (omega arith)) (dead-some d (e + 1) (omega arith))
+
+  -- past the last edge there is no mark
+  some-past : (d e : ℕ) → length es ≤ e → someFrom d (marksIn es) e ≡ false
+  unfolding someFrom
+  some-past zero e h = refl
+  some-past (suc d) e h =
+      let l = length-marksIn es in
+      ap₂ (λ (x y : Bool). x || y) (List·getD-eq-default (marksIn es) false {n = e} (omega arith)) (some-past d (e + 1) (omega arith))
+
+-- the marks of all edges, from the edges xs on
+some-all : (es xs ys : List Edge) → es ≡ xs ++ ys → someFrom es (length ys) (marksIn es) (length xs) ≡ anyDead ys
+unfolding someFrom anyDead
+some-all es xs [] e = refl
+some-all es xs (y ∷ ys) e =
+    let e′ : es ≡ (xs ++ (y ∷ [])) ++ ys = e ∙ sym (append-snoc xs y ys) in
+    let i : length (xs ++ (y ∷ [])) ≡ length xs + 1 = length-append xs (y ∷ []) in
+    let m : getD (marksIn es) (length xs) false ≡ y .dead = ap (λ (t : List Edge). getD (marksIn t) (length xs) false) e ∙ marks-at xs y ys in
+    ap₂ (λ (x z : Bool). x || z) m (ap (someFrom es (length ys) (marksIn es)) (sym i) ∙ some-all es (xs ++ (y ∷ [])) ys e′)
+
+pub dead-back : (es : List Edge) → deadFrom (length es) (tombs es) 0 ≡ anyDead es
+dead-back es = dead-some es (length es) 0 (omega arith) ∙ some-all es [] es refl
+
+pub unused-back : (es : List Edge) → deadFrom (8 * length (tombs es) - length es) (tombs es) (length es) ≡ false
+unused-back es = go (anyDead es) refl
+  where
+    go : (b : Bool) → anyDead es ≡ b → deadFrom (8 * length (tombs es) - length es) (tombs es) (length es) ≡ false
+    go true q =
+        let t : tombs es ≡ tombBytes es = ap (λ (x : Bool). pick x (tombBytes es) []) q in
+        let l : length (tombs es) ≡ (length es + 7) / 8 = ap length t ∙ length-tombs es in
+        dead-some es (8 * length (tombs es) - length es) (length es) (omega arith) ∙ some-past es (8 * length (tombs es) - length es) (length es) (omega arith)
+    go false q =
+        let t : tombs es ≡ [] = ap (λ (x : Bool). pick x (tombBytes es) []) q in
+        let l : 8 * length (tombs es) - length es ≡ 0 = let z : length (tombs es) ≡ 0 = ap length t in omega arith in
+        dead-some es (8 * length (tombs es) - length es) (length es) (omega arith) ∙ some-past es (8 * length (tombs es) - length es) (length es) (omega arith)

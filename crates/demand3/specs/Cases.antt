@@ -1,0 +1,45 @@
+-- A later writer's file, by computation: minor 200, and a section of an unknown kind with a name, a codec and a checksum of its
+-- own. It opens, and its stripped copy is the file of 218 bytes that has no keys.
+use mathlib.Core.Path.{_≡_, refl}
+use Prim.Native.Nat.{ℕ}
+use mathlib.Core.List.{List, [], _∷_}
+use mathlib.Core.Bool.{false}
+use Rattle.codes.specs.Little.{leAt, leBytes}
+use Rattle.codes.specs.Ids.{beAt, idAt}
+use Rattle.xxh3_spec.specs.Xxh3.{mul, fold, xorshift, rotl, swap, rrmxmx, secret, of1to3, of4to8, of9to16, small, pair, mixStep, inward, of17to128, onward, of129to240, lane, accumulate, stir, scramble, turn, run, start, twice, merge, large, xxh3}
+use Rattle.frame.specs.declared.Opened.{Opened}
+use Rattle.frame.specs.declared.Opening.{Opening}
+use Rattle.frame.specs.Kind as kind
+use Rattle.frame.specs.Frame.{rowAt, rowsFrom, endFrom, rowsOf, endOf, has, twice as doubled, sectionOf, all, kindsGood, tableGood, codecs, ranges, sizesGood, presenceGood, countsGood, bodyOf, sizeCheck, headCheck, tailCheck, sumCheck, frameCheck, recordFrom, recordOf, framedFrom, framedOf, shapeCheck, endsCheck, footerCheck, rowsCheck}
+use Rattle.frame.specs.Open.{knownOf, keysFrom, offsetGood, offsetsFrom, fenceGood, fencesFrom, fencesGood, contentCheck, fileCheck, opening, openOf}
+use Rattle.frame.specs.Layout.{Layout, rawSection, headBytes, payload, entry, entries, bodyBytes, trailer, layOut}
+use Rattle.frame.specs.Cases.{ids, headingOnly}
+use Rattle.demand3.specs.Strip.{sectionAt, keptOf, stripped, strip}
+
+unfoldable pub laterFile : List ℕ
+laterFile = layOut (record {
+  head = headBytes 200 0 ids;
+  sections = rawSection kind.keys []
+      ∷ rawSection kind.offsets (0 ∷ 0 ∷ 0 ∷ [])
+      ∷ record { kind = 0x7001; codec = 9; sum = 5; name = 104 ∷ 105 ∷ []; bytes = 1 ∷ 2 ∷ 3 ∷ 4 ∷ [] }
+      ∷ rawSection kind.partners [] ∷ rawSection kind.logs [] ∷ [];
+  keycount = 0;
+  edgecount = 0;
+  bits = 24;
+})
+
+pub opens-later :
+    (openOf laterFile ≡ Opening.Good (record {
+      keys = record { start = 64; len = 0 };
+      offsets = record { start = 64; len = 3 };
+      partners = record { start = 71; len = 0 };
+      logs = record { start = 71; len = 0 };
+      marked = false;
+      dead = record { start = 0; len = 0 };
+      keycount = 0;
+      edgecount = 0;
+      bits = 24;
+    }))
+    × (strip laterFile ≡ headingOnly)
+unfolding laterFile headingOnly leAt leBytes beAt idAt mul fold xorshift rotl swap rrmxmx secret of1to3 of4to8 of9to16 small pair mixStep inward of17to128 onward of129to240 lane accumulate stir scramble turn run start twice merge large xxh3 rowAt rowsFrom endFrom rowsOf endOf has doubled sectionOf all kindsGood tableGood codecs ranges sizesGood presenceGood countsGood bodyOf sizeCheck headCheck tailCheck sumCheck frameCheck recordFrom recordOf framedFrom framedOf knownOf keysFrom offsetGood offsetsFrom fenceGood fencesFrom fencesGood contentCheck fileCheck opening openOf headBytes payload entry entries bodyBytes trailer layOut sectionAt keptOf stripped strip shapeCheck endsCheck footerCheck rowsCheck
+opens-later = (refl, refl)

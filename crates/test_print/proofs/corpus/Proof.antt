@@ -1,0 +1,67 @@
+-- `test_print::corpus` meets its contract.
+use mathlib.Core.Path.{_≡_}
+use lib.ListN.{length}
+use borrow.Author.Needs.{needs}
+use native.Mathlib.Omega.{arith}
+use Rattle.test_print.proofs.corpus.Statement.{statement}
+use Rattle.test_print.proofs.corpus.Tie as tie
+use Rattle.test_print.proofs.corpus.Reads as reads
+use Rattle.test_print.proofs.corpus.Lts as lts
+use Rattle.test_print.proofs.next_file.Reads as next-file-reads
+
+abbrev Inv-loop : tie.InvT-loop
+Inv-loop space₀ room₀ left₀ space room left = (length space ≡ length space₀) × (length room ≡ length room₀)
+
+abbrev μ-loop : tie.MeasureT-loop
+μ-loop space₀ room₀ left₀ space room left = left
+
+loop-holds : tie.Need-loop-holds Inv-loop μ-loop
+loop-holds c = search needs
+
+next-file-requires : tie.Need-next-file-requires Inv-loop μ-loop
+next-file-requires c κs = search needs
+
+same-length : tie.Need-same-length Inv-loop μ-loop
+same-length c = search needs
+
+same-length-2 : tie.Need-same-length-2 Inv-loop μ-loop
+same-length-2 c = search needs
+
+returns : tie.Need-returns Inv-loop μ-loop
+returns c = search needs
+
+sub-left : tie.Need-sub-left Inv-loop μ-loop
+sub-left c = search needs
+
+loop-less : tie.Need-loop-less Inv-loop μ-loop
+loop-less c = search needs
+
+loop-again : tie.Need-loop-again Inv-loop μ-loop
+loop-again c = search needs
+
+same-length-3 : tie.Need-same-length-3 Inv-loop μ-loop
+same-length-3 c = search needs
+
+same-length-4 : tie.Need-same-length-4 Inv-loop μ-loop
+same-length-4 c = search needs
+
+returns-2 : tie.Need-returns-2 Inv-loop μ-loop
+returns-2 c = search needs
+
+pub corpus-spec : {M : Type 1} → statement M
+corpus-spec =
+    tie.close
+    (tie.spec
+    Inv-loop
+    μ-loop
+    loop-holds
+    next-file-requires
+    same-length
+    same-length-2
+    returns
+    sub-left
+    loop-less
+    loop-again
+    same-length-3
+    same-length-4
+    returns-2)

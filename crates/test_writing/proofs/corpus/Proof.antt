@@ -1,0 +1,70 @@
+use lib.ListN.{length}
+use mathlib.Core.Path.{_≡_}
+use borrow.Author.Needs.{needs}
+use Rattle.test_writing.proofs.corpus.Statement.{statement}
+use Rattle.test_writing.proofs.corpus.Tie as tie
+
+abbrev Inv-loop : tie.InvT-loop
+Inv-loop space₀ whole out₀ less₀ left₀ space out less left = (length space ≡ length space₀) × (length out ≡ length out₀) × (length less ≡ length less₀)
+
+abbrev μ-loop : tie.MeasureT-loop
+μ-loop space₀ whole out₀ less₀ left₀ space out less left = left
+
+loop-holds : tie.Need-loop-holds Inv-loop μ-loop
+loop-holds c = search needs
+
+next-batch-requires : tie.Need-next-batch-requires Inv-loop μ-loop
+next-batch-requires c κs = search needs
+
+same-length : tie.Need-same-length Inv-loop μ-loop
+same-length c = search needs
+
+same-length-2 : tie.Need-same-length-2 Inv-loop μ-loop
+same-length-2 c = search needs
+
+same-length-3 : tie.Need-same-length-3 Inv-loop μ-loop
+same-length-3 c = search needs
+
+returns : tie.Need-returns Inv-loop μ-loop
+returns c = search needs
+
+sub-left : tie.Need-sub-left Inv-loop μ-loop
+sub-left c = search needs
+
+loop-less : tie.Need-loop-less Inv-loop μ-loop
+loop-less c = search needs
+
+loop-again : tie.Need-loop-again Inv-loop μ-loop
+loop-again c = search needs
+
+same-length-4 : tie.Need-same-length-4 Inv-loop μ-loop
+same-length-4 c = search needs
+
+same-length-5 : tie.Need-same-length-5 Inv-loop μ-loop
+same-length-5 c = search needs
+
+same-length-6 : tie.Need-same-length-6 Inv-loop μ-loop
+same-length-6 c = search needs
+
+returns-2 : tie.Need-returns-2 Inv-loop μ-loop
+returns-2 c = search needs
+
+pub corpus-spec : {M : Type 1} → statement M
+corpus-spec =
+    tie.close
+    (tie.spec
+    Inv-loop
+    μ-loop
+    loop-holds
+    next-batch-requires
+    same-length
+    same-length-2
+    same-length-3
+    returns
+    sub-left
+    loop-less
+    loop-again
+    same-length-4
+    same-length-5
+    same-length-6
+    returns-2)

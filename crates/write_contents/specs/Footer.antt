@@ -1,0 +1,88 @@
+-- The footer body over sections that stand in the output.
+use mathlib.Core.Path.{_≡_, refl, sym, ap, ap₂, subst, _∙_}
+use Prim.Native.Nat.{ℕ, _+_, _*_, _/_, _≤_}
+use native.Mathlib.Omega.{arith}
+use native.Mathlib.Nat.{add-zero}
+use mathlib.Core.List.{List, [], _∷_, _++_, append-nil, append-assoc}
+use mathlib.Core.Bool.{Bool, true, false}
+use lib.ListN.{length, length-append}
+use Rattle.base.specs.Pick.{pick}
+use Rattle.base.specs.Over.{part}
+use Rattle.base.specs.Put as P
+use Rattle.base.specs.Put.{Put, Left}
+use Rattle.codes.specs.Little.{leBytes}
+use Rattle.frame.specs.Kind as kind
+use Rattle.frame.specs.Layout.{Section, rawSection, payload, entry, entries, bodyBytes}
+use Rattle.batch.specs.declared.Edge.{Edge}
+use Rattle.batch_groups.specs.Groups.{groupsOf}
+use Rattle.write_image.specs.Image.{bit, fenceCount, fenced, sectionsBy}
+use Rattle.write_frame.specs.Standing.{Extent, entryIn, entriesIn, entries-on, entries-none, total, entries-append, extents, length-extents, part-below, entries-standing}
+use Rattle.write_frame.specs.Runs.{countBytes}
+use Rattle.write_plan.specs.Size.{tombSize, fencesSize, sectionCount, Fitting}
+use Rattle.write_plan.specs.Parts.{four, four-is, lastBy, extents-are, sections-raw, count-sections, body-parts}
+
+unfoldable pub bodyIn : List ℕ → ℕ → ℕ → ℕ → ℕ → Bool → List ℕ
+bodyIn s keys w partners n dead =
+    leBytes 2 (sectionCount keys dead) ++ (entriesIn s 64 (four keys w partners n ++ lastBy n dead keys) ++ countBytes keys n (8 * w))
+
+-- the same in the order of writing
+pub body-run : (s : List ℕ) (keys w partners n : ℕ) (dead : Bool) → bodyIn s keys w partners n dead
+    ≡ leBytes 2 (sectionCount keys dead)
+    ++ (entriesIn s 64 (four keys w partners n) ++ (entriesIn s (64 + total (four keys w partners n)) (lastBy n dead keys) ++ countBytes keys n (8 * w)))
+unfolding bodyIn
+body-run s keys w partners n dead =
+    ap (λ (t : List ℕ). leBytes 2 (sectionCount keys dead) ++ t)
+    (ap (λ (t : List ℕ). t ++ countBytes keys n (8 * w)) (entries-append s 64 (four keys w partners n) (lastBy n dead keys))
+    ∙ append-assoc (entriesIn s 64 (four keys w partners n)) (entriesIn s (64 + total (four keys w partners n)) (lastBy n dead keys)) (countBytes keys n (8 * w)))
+
+-- where the sections stand after q, it is their body
+pub body-standing : (es : List Edge) (n keys w partners : ℕ) (dense dead : Bool) → Fitting es n keys w partners dense dead → (q r : List ℕ) → length q ≡ 64
+    → bodyIn (q ++ (payload (sectionsBy keys w dead es (groupsOf es)) ++ r)) keys w partners n dead ≡ bodyBytes (sectionsBy keys w dead es (groupsOf es)) keys (length es) (8 * w)
+unfolding bodyIn
+body-standing es n keys w partners dense dead f q r l =
+    let ss : List Section = sectionsBy keys w dead es (groupsOf es) in
+    let s : List ℕ = q ++ (payload ss ++ r) in
+    let stand : entriesIn s 64 (four keys w partners n ++ lastBy n dead keys) ≡ entries 64 ss =
+    ap (entriesIn s 64) (sym (extents-are es n keys w partners dense dead f)) ∙ entries-standing ss q r 64 (sym l) (sections-raw keys w dead es (groupsOf es)) in
+    let count : sectionCount keys dead ≡ length ss = sym (count-sections keys w dead es (groupsOf es)) in
+    (λ j. leBytes 2 (count j) ++ (stand j ++ countBytes keys (f .edges-is j) (8 * w)))
+    ∙ sym (body-parts ss keys (length es) (8 * w))
+
+-- ---- entries, one after the other
+
+pub length-entry : (s : List ℕ) (k start len : ℕ) → length (entryIn s k start len) ≡ 28
+unfolding entry leBytes
+length-entry s k start len = refl
+
+-- an entry of a section below `at` is written
+pub entry-put : {out : List ℕ} {to : ℕ} {xs : List ℕ} {o : List ℕ} {at : ℕ} {ys : List ℕ} {out′ : List ℕ} {r : ℕ} (k start len : ℕ)
+    → Left out to (entryIn o k start len ++ xs) o at ys → start + len ≤ at → at ≤ to → Put out out′ to r (entryIn out k start len) → Left out′ r xs o at ys
+entry-put {out} {to} {out′ = out′} {r = r} k start len l h g p =
+    P.put l (subst (λ (t : List ℕ). Put out out′ to r (entry start (rawSection k t))) (part-below l start (start + len) h g) p)
+
+pub four-entries : (s : List ℕ) (keys w partners n : ℕ) → entriesIn s 64 (four keys w partners n)
+    ≡ entryIn s kind.keys 64 (16 * keys)
+    ++ (entryIn s kind.offsets (64 + 16 * keys) ((keys + 1) * w)
+    ++ (entryIn s kind.partners (64 + 16 * keys + (keys + 1) * w) partners ++ (entryIn s kind.logs (64 + 16 * keys + (keys + 1) * w + partners) (8 * n) ++ [])))
+unfolding entriesIn four
+four-entries s keys w partners n = refl
+
+pub length-four : (s : List ℕ) (keys w partners n : ℕ) → length (entriesIn s 64 (four keys w partners n)) ≡ 112
+unfolding entriesIn four entry leBytes
+length-four s keys w partners n = refl
+
+-- the last two, each there or not
+last-of : (s : List ℕ) (start : ℕ) (d e : Bool) (t f : ℕ)
+    → entriesIn s start (pick d (record { kind = kind.tombstones; len = pick d t 0 } ∷ []) [] ++ pick e (record { kind = kind.fences; len = f } ∷ []) [])
+    ≡ pick d (entryIn s kind.tombstones start (pick d t 0)) [] ++ pick e (entryIn s kind.fences (start + pick d t 0) f) []
+unfolding entriesIn
+last-of s start true true t f = ap (λ (x : List ℕ). entryIn s kind.tombstones start t ++ x) (append-nil (entryIn s kind.fences (start + t) f))
+last-of s start true false t f = refl
+last-of s start false true t f =
+    append-nil (entryIn s kind.fences start f) ∙ ap (λ (x : ℕ). entryIn s kind.fences x f) (sym (add-zero start))
+last-of s start false false t f = refl
+
+pub last-entries : (s : List ℕ) (start n : ℕ) (dead : Bool) (keys : ℕ) → entriesIn s start (lastBy n dead keys)
+    ≡ pick dead (entryIn s kind.tombstones start (tombSize n dead)) [] ++ pick (fenced keys) (entryIn s kind.fences (start + tombSize n dead) (fencesSize keys)) []
+unfolding lastBy
+last-entries s start n dead keys = last-of s start dead (fenced keys) ((n + 7) / 8) (fencesSize keys)

@@ -1,0 +1,37 @@
+-- The sections as they are written, and the keys that stand in the output while the fences are.
+use mathlib.Core.Path.{_≡_, refl, sym, ap, ap₂, subst, _∙_}
+use Prim.Native.Nat.{ℕ, suc, _+_, _*_, _≤_}
+use native.Mathlib.Omega.{arith}
+use mathlib.Core.List.{List, [], _∷_, _++_, append-assoc}
+use lib.ListN.{length, take, drop, length-append}
+use lib.Seq.{length-take-le}
+use Rattle.base.specs.Put.{Left}
+use Rattle.codes.specs.declared.ids.Id.{Id}
+use Rattle.codes.specs.Ids.{numberOf}
+use Rattle.group.specs.Group.{bytesOf}
+use Rattle.group.specs.Written.{Halves}
+use Rattle.batch_groups.specs.Groups.{Group, groupsOf, Grouped}
+use Rattle.write_image.specs.Image.{keysIn, keyBytes}
+use Rattle.write_image.specs.Image.Laws.{length-keysIn}
+use Rattle.write_sections.specs.Ids.{idsAt, ids-back}
+use Rattle.write_frame.specs.Standing.{stands}
+
+keys-fit : (floor : ℕ) (gs : List Group) → Grouped floor gs → Halves (keysIn gs)
+unfolding Grouped Halves keysIn
+keys-fit floor [] g = tt
+keys-fit floor (x ∷ gs) g = (g .1 .0, g .1 .1, keys-fit (suc (numberOf (x .key))) gs (g .4))
+
+-- the keys stand at `at` once they are written and more, ms, after them
+pub keys-stand : {out : List ℕ} {to : ℕ} {o : List ℕ} {at : ℕ} {whole : List ℕ} (gs : List Group) (ms xs : List ℕ) → Grouped 0 gs → whole ≡ (keyBytes gs ++ ms) ++ xs
+    → Left out to xs o at whole → to ≡ at + length (keyBytes gs ++ ms) → at + length whole ≤ length o → (keys : ℕ) → keys ≡ length gs → idsAt keys out at ≡ keysIn gs
+keys-stand {out} {to} {o} {at} gs ms xs g e l p h keys k =
+    let room : at + length ((keyBytes gs ++ ms) ++ xs) ≤ length o = subst (λ (t : List ℕ). at + length t ≤ length o) e h in
+    let stand = stands (keyBytes gs ++ ms) xs (subst (Left out to xs o at) e l) p room in
+    let n = length-append (keyBytes gs ++ ms) xs in
+    let old : length (take at o) ≡ at = length-take-le at o (omega arith) in
+    let split : out ≡ take at o ++ (bytesOf (keysIn gs) ++ (ms ++ drop to out)) =
+    stand ∙ ap (λ (t : List ℕ). take at o ++ t) (append-assoc (keyBytes gs) ms (drop to out)) in
+    let place : at ≡ length (take at o) = sym old in
+    let many : keys ≡ length (keysIn gs) = k ∙ sym (length-keysIn gs) in
+    (λ j. idsAt (many j) (split j) (place j))
+    ∙ ids-back (keysIn gs) (take at o) (ms ++ drop to out) (keys-fit 0 gs g)

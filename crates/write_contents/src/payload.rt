@@ -1,0 +1,65 @@
+// The sections, one after the other.
+ghost use mathlib.Core.Path.{_≡_};
+ghost use Prim.Native.Nat.{_+_, _*_, _≤_};
+ghost use mathlib.Core.List.{[]};
+ghost use lib.ListN.{length};
+ghost use Rattle.base.specs.Pick.{pick};
+ghost use Rattle.base.specs.Put.{Put};
+ghost use Rattle.frame.specs.Layout.{payload};
+ghost use Rattle.batch_groups.specs.Groups.{groupsOf, Grouped};
+ghost use Rattle.write_image.specs.Image.{tombBytes, fencesOf, fenced, sectionsBy};
+ghost use Rattle.write_sections.specs.Ids.{idsAt};
+ghost use Rattle.write_source.specs.Source.{edgesIn};
+use write_sections::by_edge::put_logs;
+use write_sections::by_edge::put_tombs;
+use write_sections::by_key::put_groups;
+use write_sections::fences::put_fences;
+
+fn put_tombs_if(
+    dead: bool,
+    kind: u8,
+    a: &[u8],
+    b: &[u8],
+    n: usize,
+    out: &mut [u8],
+    at: usize,
+) -> usize
+    requires { ⌜ (n ≡ length (edgesIn kind (now a) (now b))) × (n ≤ 67108864) × (at + length (pick dead (tombBytes (edgesIn kind (now a) (now b))) []) ≤ length (now out)) ⌝ }
+    ensures { λ r. ⌜ Put (now (out .entry)) (now (out .exit)) at r (pick dead (tombBytes (edgesIn kind (now (a .entry)) (now (b .entry)))) []) ⌝ }
+{
+    if dead {
+        return put_tombs(kind, a, b, n, out, at);
+    }
+    at
+}
+
+fn put_fences_if(out: &mut [u8], first: usize, keys: usize, at: usize) -> usize
+    requires { ⌜ (keys ≤ 67108864) × (first + 16 * keys ≤ at) × (at + length (pick (fenced keys) (fencesOf (idsAt keys (now out) first)) []) ≤ length (now out)) ⌝ }
+    ensures { λ r. ⌜ Put (now (out .entry)) (now (out .exit)) at r (pick (fenced keys) (fencesOf (idsAt keys (now (out .entry)) first)) []) ⌝ }
+{
+    if 65536 < keys {
+        return put_fences(out, first, keys, at);
+    }
+    at
+}
+
+// From `at` on. Answers the place after them.
+pub fn put_payload(
+    kind: u8,
+    a: &[u8],
+    b: &[u8],
+    n: usize,
+    keys: usize,
+    w: usize,
+    dead: bool,
+    out: &mut [u8],
+    at: usize,
+) -> usize
+    requires { ⌜ (n ≡ length (edgesIn kind (now a) (now b))) × (n ≤ 67108864) × (keys ≡ length (groupsOf (edgesIn kind (now a) (now b)))) × (keys ≤ 67108864) × Grouped 0 (groupsOf (edgesIn kind (now a) (now b))) × (at + length (payload (sectionsBy keys w dead (edgesIn kind (now a) (now b)) (groupsOf (edgesIn kind (now a) (now b))))) ≤ length (now out)) ⌝ }
+    ensures { λ r. ⌜ Put (now (out .entry)) (now (out .exit)) at r (payload (sectionsBy keys w dead (edgesIn kind (now (a .entry)) (now (b .entry))) (groupsOf (edgesIn kind (now (a .entry)) (now (b .entry)))))) ⌝ }
+{
+    let p = put_groups(kind, a, b, n, keys, w, out, at);
+    let q = put_logs(kind, a, b, n, out, p);
+    let r = put_tombs_if(dead, kind, a, b, n, out, q);
+    put_fences_if(out, at, keys, r)
+}

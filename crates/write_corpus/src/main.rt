@@ -1,7 +1,0 @@
-// Writes every batch of a corpus and prints the answers. Corpus and expected lines are made by second/.
-fn main() {
-    let mut space = [0u8; 262144];
-    let mut out = [0u8; 262144];
-    let mut less = [0u8; 262144];
-    writing::corpus(&mut space, true, &mut out, &mut less);
-}

@@ -1,0 +1,34 @@
+use mathlib.Core.Path.{sym, _∙_}
+use Rattle.write_file.specs.Written.Laws.{needed-bad}
+use borrow.Author.Needs.{needs}
+use Rattle.write_file.proofs.needed.Statement.{statement}
+use Rattle.write_file.proofs.needed.Tie as tie
+
+check-batch-requires : tie.Need-check-batch-requires
+check-batch-requires c κs = search needs
+
+enum-known-refusal : tie.Need-enum-known-refusal
+enum-known-refusal c = search needs
+
+enum-told : tie.Need-enum-told
+enum-told c = search needs
+
+needed-fine-requires : tie.Need-needed-fine-requires
+needed-fine-requires c κs = sym (c .before .before .check-batch .ensures) ∙ c .enum-told .given .1
+
+returns : tie.Need-returns
+returns c = let a = c .before .before .before .before .before .args in needed-bad (a .batch .now) _ (sym (c .before .before .before .check-batch .ensures) ∙ c .before .refusal .given .1)
+
+returns-2 : tie.Need-returns-2
+returns-2 c = search needs
+
+pub needed-spec : {M : Type 1} → statement M
+needed-spec =
+    tie.close
+    (tie.spec
+    check-batch-requires
+    enum-known-refusal
+    enum-told
+    needed-fine-requires
+    returns
+    returns-2)

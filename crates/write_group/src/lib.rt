@@ -1,0 +1,157 @@
+// One group of a file, from the edges i up to j of a source: its split cost, whether it is dense, its size, its bytes.
+ghost use mathlib.Core.Path.{_≡_};
+ghost use Prim.Native.Nat.{_+_, _*_, _-_, _≤_};
+ghost use mathlib.Core.List.{[], _∷_, _++_};
+ghost use lib.ListN.{length};
+ghost use Rattle.base.specs.Over.{part};
+ghost use Rattle.base.specs.Put.{Put};
+ghost use Rattle.codes.specs.Little.{leBytes};
+ghost use Rattle.codes.specs.Varint.{varBytes};
+ghost use Rattle.group.specs.Group.{bytesOf};
+ghost use Rattle.group.specs.Written.{splitFrom, writtenAs};
+ghost use Rattle.write_image.specs.Image.{partnersIn, splitCost, denseBy, isDense, groupBytes};
+ghost use Rattle.write_image.specs.Image.Laws.{Rise};
+ghost use Rattle.write_source.specs.Source.{edgesIn};
+use codes::ids::put_id;
+use codes::little::put_le;
+use codes::varint::put_varint;
+use codes::varint::varint_len;
+use write_source::edge_of;
+
+// "Each upper varint's length plus 8, summed".
+fn split_cost(kind: u8, a: &[u8], b: &[u8], i: usize, j: usize) -> usize
+    requires { ⌜ (i ≤ j) × (j ≤ length (edgesIn kind (now a) (now b))) × (j ≤ 67108864) × Rise 0 (partnersIn (part (edgesIn kind (now a) (now b)) i j)) ⌝ }
+    ensures { λ r. ⌜ r ≡ splitCost 0 (partnersIn (part (edgesIn kind (now (a .entry)) (now (b .entry))) i j)) ⌝ }
+{
+    let mut k = i;
+    let mut hi: u64 = 0;
+    let mut cost: usize = 0;
+    while k < j {
+        let e = edge_of(kind, a, b, k);
+        let p = e.partner;
+        let upper = p.hi;
+        let n = varint_len(upper - hi);
+        cost = cost + n + 8;
+        hi = upper;
+        k = k + 1;
+    }
+    cost
+}
+
+// The rule that makes a group dense.
+fn dense_by(keys: usize, degree: usize, cost: usize) -> bool
+    requires { ⌜ (keys ≤ 67108864) × (degree ≤ 67108864) ⌝ }
+    ensures { λ r. ⌜ r ≡ denseBy keys degree cost ⌝ }
+{
+    if 16 * degree <= cost {
+        return true;
+    }
+    if degree <= 1024 {
+        return false;
+    }
+    16 * keys < degree * degree
+}
+
+// The bytes that a group takes, and whether it is dense.
+pub struct Size {
+    pub bytes: usize,
+    pub dense: bool,
+}
+
+// In a file of that many keys.
+pub fn block_size(kind: u8, a: &[u8], b: &[u8], i: usize, j: usize, keys: usize) -> Size
+    requires { ⌜ (i ≤ j) × (j ≤ length (edgesIn kind (now a) (now b))) × (j ≤ 67108864) × Rise 0 (partnersIn (part (edgesIn kind (now a) (now b)) i j)) × (keys ≤ 67108864) ⌝ }
+    ensures { λ r. ⌜ (r .dense ≡ isDense keys (partnersIn (part (edgesIn kind (now (a .entry)) (now (b .entry))) i j))) × (r .bytes ≡ length (groupBytes keys (partnersIn (part (edgesIn kind (now (a .entry)) (now (b .entry))) i j)))) × (r .bytes ≤ 11 + 18 * (j - i)) ⌝ }
+{
+    let degree = j - i;
+    let cost = split_cost(kind, a, b, i, j);
+    let head = varint_len(degree as u64) + 1;
+    if dense_by(keys, degree, cost) {
+        return Size {
+            bytes: head + 16 * degree,
+            dense: true,
+        };
+    }
+    Size {
+        bytes: head + cost,
+        dense: false,
+    }
+}
+
+// Writes an upper half's difference and a lower half.
+fn put_partner(out: &mut [u8], at: usize, up: u64, lo: u64) -> usize
+    requires { ⌜ at + length (varBytes up) + 8 ≤ length (now out) ⌝ }
+    ensures { λ r. ⌜ Put (now (out .entry)) (now (out .exit)) at r (varBytes up ++ leBytes 8 lo) ⌝ }
+{
+    let mid = put_varint(out, at, up);
+    put_le(out, mid, 8, lo);
+    mid + 8
+}
+
+// Writes the partners, split.
+fn put_split(kind: u8, a: &[u8], b: &[u8], i: usize, j: usize, out: &mut [u8], at: usize) -> usize
+    requires { ⌜ (i ≤ j) × (j ≤ length (edgesIn kind (now a) (now b))) × Rise 0 (partnersIn (part (edgesIn kind (now a) (now b)) i j)) × (at + length (splitFrom 0 (partnersIn (part (edgesIn kind (now a) (now b)) i j))) ≤ length (now out)) ⌝ }
+    ensures { λ r. ⌜ Put (now (out .entry)) (now (out .exit)) at r (splitFrom 0 (partnersIn (part (edgesIn kind (now (a .entry)) (now (b .entry))) i j))) ⌝ }
+{
+    let mut k = i;
+    let mut to = at;
+    let mut hi: u64 = 0;
+    while k < j {
+        let e = edge_of(kind, a, b, k);
+        let p = e.partner;
+        let upper = p.hi;
+        to = put_partner(out, to, upper - hi, p.lo);
+        hi = upper;
+        k = k + 1;
+    }
+    to
+}
+
+// Writes the partners, dense.
+fn put_dense(kind: u8, a: &[u8], b: &[u8], i: usize, j: usize, out: &mut [u8], at: usize) -> usize
+    requires { ⌜ (i ≤ j) × (j ≤ length (edgesIn kind (now a) (now b))) × (at + length (bytesOf (partnersIn (part (edgesIn kind (now a) (now b)) i j))) ≤ length (now out)) ⌝ }
+    ensures { λ r. ⌜ Put (now (out .entry)) (now (out .exit)) at r (bytesOf (partnersIn (part (edgesIn kind (now (a .entry)) (now (b .entry))) i j))) ⌝ }
+{
+    let mut k = i;
+    let mut to = at;
+    while k < j {
+        let e = edge_of(kind, a, b, k);
+        let p = e.partner;
+        put_id(out, to, p);
+        to = to + 16;
+        k = k + 1;
+    }
+    to
+}
+
+// Writes a group's degree and tag.
+fn put_head(out: &mut [u8], at: usize, degree: u64, tag: u8) -> usize
+    requires { ⌜ at + length (varBytes degree) + 1 ≤ length (now out) ⌝ }
+    ensures { λ r. ⌜ Put (now (out .entry)) (now (out .exit)) at r (varBytes degree ++ (tag ∷ [])) ⌝ }
+{
+    let mid = put_varint(out, at, degree);
+    out[mid] = tag;
+    mid + 1
+}
+
+// Writes the group.
+pub fn put_block(
+    kind: u8,
+    a: &[u8],
+    b: &[u8],
+    i: usize,
+    j: usize,
+    dense: bool,
+    out: &mut [u8],
+    at: usize,
+) -> usize
+    requires { ⌜ (i ≤ j) × (j ≤ length (edgesIn kind (now a) (now b))) × Rise 0 (partnersIn (part (edgesIn kind (now a) (now b)) i j)) × (at + length (writtenAs dense (partnersIn (part (edgesIn kind (now a) (now b)) i j))) ≤ length (now out)) ⌝ }
+    ensures { λ r. ⌜ Put (now (out .entry)) (now (out .exit)) at r (writtenAs dense (partnersIn (part (edgesIn kind (now (a .entry)) (now (b .entry))) i j))) ⌝ }
+{
+    if dense {
+        let mid = put_head(out, at, (j - i) as u64, 16);
+        return put_dense(kind, a, b, i, j, out, mid);
+    }
+    let mid = put_head(out, at, (j - i) as u64, 1);
+    put_split(kind, a, b, i, j, out, mid)
+}

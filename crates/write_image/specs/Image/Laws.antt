@@ -1,0 +1,406 @@
+-- The laws of the writer's sections: each an edge or a group further, at its end, and its length.
+use mathlib.Core.Path.{_≡_, refl, sym, ap, ap₂, subst, _∙_}
+use Prim.Native.Nat.{ℕ, zero, suc, _+_, _-_, _*_, _/_, _%_, _^_, _≤_, _<_}
+use native.Mathlib.Omega.{arith}
+use native.Mathlib.Nat.{sub-self, add-zero, add-assoc, pow-suc, pow-le-pow-right, lt-of-lt-of-le, zero-lt-suc}
+use native.Mathlib.Numerals.{add-one}
+use native.Mathlib.Decide.{decLt}
+use mathlib.Core.List.{List, [], _∷_, _++_, append-nil}
+use mathlib.Core.Bool.{Bool, true, false, _&&_, _||_}
+use lib.ListN.{length, getD, take, drop, length-append, length-drop, drop-of-length-le}
+use lib.Seq.{drop-cons, drop-length, drop-drop, take-nil}
+use lib.Dec.{ltb, leb}
+use borrow.Author.Tests.{lt-ltb, le-ltb, le-leb, lt-leb}
+use Rattle.base.specs.Pick.{pick}
+use Rattle.base.specs.Over.{part, length-part}
+use Rattle.codes.specs.declared.ids.Id.{Id}
+use Rattle.codes.specs.Little.{leBytes}
+use Rattle.codes.specs.Little.Laws.{length-leBytes}
+use Rattle.codes.specs.Ids.{idBytes, numberOf}
+use Rattle.codes.specs.Ids.Laws.{length-idBytes}
+use Rattle.codes.specs.Varint.{varBytes}
+use Rattle.codes.specs.Varint.Laws.{varBytes-length}
+use Rattle.frame.specs.Kind as kind
+use Rattle.group.specs.Group.{bytesOf}
+use Rattle.group.specs.Group.Laws.{tagOf, length-bytesOf}
+use Rattle.group.specs.Written.{Halves, Above, splitFrom, payloadOf, writtenAs, written-is}
+use Rattle.batch.specs.declared.Edge.{Edge}
+use Rattle.batch_groups.specs.Groups.{none, Group, groupsOf, GroupEnd, Run, Grouped}
+use Rattle.batch_groups.specs.Groups.Laws.{grouped-step, groups-end}
+use Rattle.write_image.specs.Image.{partnersIn, logsIn, marksIn, keysIn, anyDead, splitCost, denseBy, isDense, groupBytes, bytesIn, anyDense, keyBytes, numbers, partnerBytes, startsFrom, offsetBytes, widthOf, logBytes, bit, octet, octets, tombBytes, stride, fenceBytes, fencesFrom, fenceCount, fencesOf}
+
+-- ---- a part of the edges, one edge further
+
+module _ (es : List Edge) (k j : ℕ) where
+  pub part-step : k < j → k < length es → part es k j ≡ getD es k none ∷ part es (k + 1) j
+  part-step h l =
+      let d : drop k es ≡ getD es k none ∷ drop (k + 1) es = drop-cons es k none l ∙ ap (λ (t : ℕ). getD es k none ∷ drop t es) (sym (add-one k)) in
+      let m : j - k ≡ suc (j - (k + 1)) = omega arith in
+      ap₂ take m d
+
+  pub partners-on : k < j → k < length es → partnersIn (part es k j) ≡ getD es k none .partner ∷ partnersIn (part es (k + 1) j)
+  unfolding partnersIn
+  partners-on h l = ap partnersIn (part-step h l)
+
+  pub partners-out : j ≤ k → partnersIn (part es k j) ≡ []
+  unfolding partnersIn
+  partners-out h = let z : j - k ≡ 0 = omega arith in ap (λ (t : ℕ). partnersIn (take t (drop k es))) z
+
+pub length-partners : (es : List Edge) → length (partnersIn es) ≡ length es
+unfolding partnersIn
+length-partners [] = refl
+length-partners (e ∷ es) = ap suc (length-partners es)
+
+pub length-partners-in : (es : List Edge) (i j : ℕ) → j ≤ length es → length (partnersIn (part es i j)) ≡ j - i
+length-partners-in es i j h = length-partners (part es i j) ∙ length-part es i j h
+
+-- ---- upper halves
+
+-- that do not fall from hi on
+unfoldable pub Rise : ℕ → List Id → Type 0
+Rise hi [] = Unit {0}
+Rise hi (p ∷ ps) = (hi ≤ p .hi) × Rise (p .hi) ps
+
+pub rise-on : (hi : ℕ) (p : Id) (ps : List Id) → Rise hi (p ∷ ps) → (hi ≤ p .hi) × Rise (p .hi) ps
+unfolding Rise
+rise-on hi p ps r = r
+
+-- edge k, the first of a part
+module _ (es : List Edge) (k j : ℕ) (h : k < j) (l : k < length es) (x : Edge) (e : x ≡ getD es k none) where
+  pub partner-first : partnersIn (part es k j) ≡ x .partner ∷ partnersIn (part es (k + 1) j)
+  partner-first = partners-on es k j h l ∙ ap (λ (t : Edge). t .partner ∷ partnersIn (part es (k + 1) j)) (sym e)
+
+  pub rise-first : (hi : ℕ) → Rise hi (partnersIn (part es k j)) → (hi ≤ x .partner .hi) × Rise (x .partner .hi) (partnersIn (part es (k + 1) j))
+  rise-first hi r = rise-on hi (x .partner) (partnersIn (part es (k + 1) j)) (subst (Rise hi) partner-first r)
+
+upper-from : (hi up lo floor : ℕ) → hi * 2 ^ 64 ≤ floor → floor ≤ up * 2 ^ 64 + lo → lo < 2 ^ 64 → hi ≤ up
+upper-from hi up lo floor a b c = omega arith
+
+rise-of : (ps : List Id) (hi floor : ℕ) → hi * 2 ^ 64 ≤ floor → Halves ps → Above floor ps → Rise hi ps
+unfolding Rise Halves Above
+rise-of [] hi floor l h a = tt
+rise-of (p ∷ ps) hi floor l h a =
+    (upper-from hi (p .hi) (p .lo) floor l (a .0) (h .1), rise-of ps (p .hi) (suc (numberOf p)) (omega arith) (h .2) (a .1))
+
+pub run-partners : (k : Id) (floor : ℕ) (es : List Edge) → Run k floor es → Halves (partnersIn es) × Above floor (partnersIn es)
+unfolding Run Halves Above partnersIn
+run-partners k floor [] r = (tt, tt)
+run-partners k floor (e ∷ es) r =
+    let ih = run-partners k (suc (numberOf (e .partner))) es (r .4) in ((r .1 .0, r .1 .1, ih .0), (r .3, ih .1))
+
+pub run-rises : (k : Id) (es : List Edge) → Run k 0 es → Rise 0 (partnersIn es)
+run-rises k es r = let h = run-partners k 0 es r in rise-of (partnersIn es) 0 0 (omega arith) (h .0) (h .1)
+
+-- ---- a group
+
+pub cost-none : (hi : ℕ) → splitCost hi [] ≡ 0
+unfolding splitCost
+cost-none hi = refl
+
+pub cost-on : (hi : ℕ) (p : Id) (ps : List Id) → splitCost hi (p ∷ ps) ≡ length (varBytes (p .hi - hi)) + 8 + splitCost (p .hi) ps
+unfolding splitCost
+cost-on hi p ps = refl
+
+-- the split cost is the length of the split payload
+pub cost-is : (hi : ℕ) (ps : List Id) → length (splitFrom hi ps) ≡ splitCost hi ps
+unfolding splitFrom splitCost
+cost-is hi [] = refl
+cost-is hi (p ∷ ps) =
+    let lower = length-leBytes 8 (p .lo) in
+    let others = cost-is (p .hi) ps in
+    length-append (varBytes (p .hi - hi)) (leBytes 8 (p .lo) ++ splitFrom (p .hi) ps)
+    ∙ ap (λ (t : ℕ). length (varBytes (p .hi - hi)) + t) (length-append (leBytes 8 (p .lo)) (splitFrom (p .hi) ps))
+    ∙ omega arith
+
+pub cost-most : (hi : ℕ) (ps : List Id) → splitCost hi ps ≤ 18 * length ps
+unfolding splitCost
+cost-most hi [] = omega arith
+cost-most hi (p ∷ ps) = let first = varBytes-length (p .hi - hi) in let others = cost-most (p .hi) ps in omega arith
+
+pub split-none : (hi : ℕ) → splitFrom hi [] ≡ []
+unfolding splitFrom
+split-none hi = refl
+
+pub split-on : (hi : ℕ) (p : Id) (ps : List Id) → splitFrom hi (p ∷ ps) ≡ varBytes (p .hi - hi) ++ (leBytes 8 (p .lo) ++ splitFrom (p .hi) ps)
+unfolding splitFrom
+split-on hi p ps = refl
+
+pub dense-none : bytesOf [] ≡ []
+unfolding bytesOf
+dense-none = refl
+
+pub dense-on : (p : Id) (ps : List Id) → bytesOf (p ∷ ps) ≡ idBytes p ++ bytesOf ps
+unfolding bytesOf
+dense-on p ps = refl
+
+module _ (n d c : ℕ) where
+  pub dense-dear : 16 * d ≤ c → denseBy n d c ≡ true
+  unfolding denseBy
+  dense-dear h = simp (le-leb (16 * d) c h)
+
+  module _ (h : c < 16 * d) where
+    pub dense-small : d ≤ 1024 → denseBy n d c ≡ false
+    unfolding denseBy
+    dense-small g = simp (lt-leb (16 * d) c h, le-ltb 1024 d g)
+
+    pub dense-large : 1024 < d → denseBy n d c ≡ ltb (16 * n) (d * d)
+    unfolding denseBy
+    dense-large g = simp (lt-leb (16 * d) c h, lt-ltb 1024 d g)
+
+pub dense-is : (n : ℕ) (ps : List Id) → isDense n ps ≡ denseBy n (length ps) (splitCost 0 ps)
+unfolding isDense
+dense-is n ps = refl
+
+pub group-is : (n : ℕ) (ps : List Id) → groupBytes n ps ≡ writtenAs (isDense n ps) ps
+unfolding groupBytes
+group-is n ps = refl
+
+-- degree, tag and payload
+pub length-written : (dense : Bool) (ps : List Id)
+    → length (writtenAs dense ps) ≡ length (varBytes (length ps)) + 1 + pick dense (16 * length ps) (splitCost 0 ps)
+length-written dense ps =
+    ap length (written-is dense ps)
+    ∙ length-append (varBytes (length ps)) (tagOf dense ∷ payloadOf dense 0 ps)
+    ∙ ap (λ (t : ℕ). length (varBytes (length ps)) + suc t) (payload dense)
+    ∙ omega arith
+  where
+    payload : (b : Bool) → length (payloadOf b 0 ps) ≡ pick b (16 * length ps) (splitCost 0 ps)
+    payload true = length-bytesOf ps
+    payload false = cost-is 0 ps
+
+pub length-group : (n : ℕ) (ps : List Id)
+    → length (groupBytes n ps) ≡ length (varBytes (length ps)) + 1 + pick (isDense n ps) (16 * length ps) (splitCost 0 ps)
+length-group n ps = ap length (group-is n ps) ∙ length-written (isDense n ps) ps
+
+pub group-some : (n : ℕ) (ps : List Id) → 1 ≤ length (groupBytes n ps)
+group-some n ps = omega (arith, length-group n ps)
+
+-- ---- the sections, a group further
+
+module _ (es : List Edge) (i j : ℕ) (e : GroupEnd es i j) where
+  pub keys-step : keyBytes (groupsOf (drop i es)) ≡ idBytes (getD es i none .key) ++ keyBytes (groupsOf (drop j es))
+  unfolding bytesOf keysIn
+  keys-step = ap (λ (t : List Group). keyBytes t) (e .groups)
+
+  pub rises : Grouped 0 (groupsOf (drop i es)) → Rise 0 (partnersIn (part es i j))
+  rises o = run-rises (getD es i none .key) (part es i j) (grouped-step es i j e o .0)
+
+  module _ (n : ℕ) where
+    pub partners-step : partnerBytes n (groupsOf (drop i es)) ≡ groupBytes n (partnersIn (part es i j)) ++ partnerBytes n (groupsOf (drop j es))
+    unfolding partnerBytes
+    partners-step = ap (partnerBytes n) (e .groups)
+
+    pub any-step : anyDense n (groupsOf (drop i es)) ≡ (isDense n (partnersIn (part es i j)) || anyDense n (groupsOf (drop j es)))
+    unfolding anyDense
+    any-step = ap (anyDense n) (e .groups)
+
+    pub offsets-step : (w at : ℕ) → offsetBytes w n at (groupsOf (drop i es))
+        ≡ leBytes w at ++ offsetBytes w n (at + length (groupBytes n (partnersIn (part es i j)))) (groupsOf (drop j es))
+    unfolding numbers startsFrom
+    offsets-step w at = ap (λ (t : List Group). offsetBytes w n at t) (e .groups)
+
+module _ (es : List Edge) (i : ℕ) (e : i ≡ length es) where
+  pub keys-end : keyBytes (groupsOf (drop i es)) ≡ []
+  unfolding bytesOf keysIn
+  keys-end = ap (λ (t : List Group). keyBytes t) (groups-end es i e)
+
+  module _ (n : ℕ) where
+    pub partners-end : partnerBytes n (groupsOf (drop i es)) ≡ []
+    unfolding partnerBytes
+    partners-end = ap (partnerBytes n) (groups-end es i e)
+
+    pub any-end : anyDense n (groupsOf (drop i es)) ≡ false
+    unfolding anyDense
+    any-end = ap (anyDense n) (groups-end es i e)
+
+    pub offsets-end : (w at : ℕ) → offsetBytes w n at (groupsOf (drop i es)) ≡ leBytes w at
+    unfolding numbers startsFrom
+    offsets-end w at = ap (λ (t : List Group). offsetBytes w n at t) (groups-end es i e) ∙ append-nil (leBytes w at)
+
+-- ---- the sections, an edge further
+
+module _ (es : List Edge) (k : ℕ) where
+  edge-on : k < length es → drop k es ≡ getD es k none ∷ drop (k + 1) es
+  edge-on h = drop-cons es k none h ∙ ap (λ (t : ℕ). getD es k none ∷ drop t es) (sym (add-one k))
+
+  pub logs-step : k < length es → logBytes (drop k es) ≡ leBytes 8 (getD es k none .log) ++ logBytes (drop (k + 1) es)
+  unfolding numbers logsIn
+  logs-step h = ap (λ (t : List Edge). logBytes t) (edge-on h)
+
+  pub logs-end : k ≡ length es → logBytes (drop k es) ≡ []
+  unfolding numbers logsIn
+  logs-end e = rw (e, drop-length es)
+
+  pub dead-step : k < length es → anyDead (drop k es) ≡ (getD es k none .dead || anyDead (drop (k + 1) es))
+  unfolding anyDead
+  dead-step h = ap anyDead (edge-on h)
+
+  pub dead-end : k ≡ length es → anyDead (drop k es) ≡ false
+  unfolding anyDead
+  dead-end e = rw (e, drop-length es)
+
+  -- the mark of edge k, 0 past the last
+  octet-nil : (m : ℕ) → octet m [] ≡ 0
+  unfolding octet
+  octet-nil zero = refl
+  octet-nil (suc m) = refl
+
+  pub mark-past : (m : ℕ) → length es ≤ k → octet m (marksIn (drop k es)) ≡ 0
+  unfolding marksIn
+  mark-past m h = ap (λ (t : List Edge). octet m (marksIn t)) (drop-of-length-le es {i = k} h) ∙ octet-nil m
+
+  pub mark-here : (m : ℕ) → k < length es → octet (suc m) (marksIn (drop k es)) ≡ bit (getD es k none .dead) + 2 * octet m (marksIn (drop (k + 1) es))
+  unfolding marksIn octet
+  mark-here m h = ap (λ (t : List Edge). octet (suc m) (marksIn t)) (edge-on h)
+
+octet-none : (ds : List Bool) → octet 0 ds ≡ 0
+unfolding octet
+octet-none ds = refl
+
+octet-lt : (m : ℕ) (ds : List Bool) → octet m ds < 2 ^ m
+unfolding octet
+octet-lt zero ds = omega arith
+octet-lt (suc m) [] = let p : 0 < 2 ^ m = rw (octet-nil [] 0 m) at (octet-lt m []) in rw pow-suc (omega arith)
+octet-lt (suc m) (true ∷ ds) = let ih = octet-lt m ds in rw pow-suc (omega arith)
+octet-lt (suc m) (false ∷ ds) = let ih = octet-lt m ds in rw pow-suc (omega arith)
+
+pub octet-byte : (m : ℕ) (ds : List Bool) → m ≤ 8 → octet m ds < 2 ^ 8
+octet-byte m ds h = lt-of-lt-of-le (octet-lt m ds) (pow-le-pow-right (zero-lt-suc 1) h)
+
+pub mark-step : (es : List Edge) (k m : ℕ) → octet (suc m) (marksIn (drop k es)) ≡ octet 1 (marksIn (drop k es)) + 2 * octet m (marksIn (drop (k + 1) es))
+mark-step es k m = elim (decLt k (length es)) [
+  | yes h ↦
+      let one : octet 1 (marksIn (drop k es)) ≡ bit (getD es k none .dead) + 2 * octet 0 (marksIn (drop (k + 1) es)) = mark-here es k 0 h in
+      let rest = octet-none (marksIn (drop (k + 1) es)) in
+      mark-here es k m h ∙ omega arith
+  | no h ↦
+      let a = mark-past es k (suc m) (omega arith) in
+      let b = mark-past es k 1 (omega arith) in
+      let c = mark-past es (k + 1) m (omega arith) in
+      omega arith
+]
+
+drop-marks : (k : ℕ) (es : List Edge) → drop k (marksIn es) ≡ marksIn (drop k es)
+unfolding marksIn
+drop-marks zero es = refl
+drop-marks (suc k) [] = refl
+drop-marks (suc k) (e ∷ es) = drop-marks k es
+
+-- byte b of m, one byte further
+pub octets-step : (es : List Edge) (m b : ℕ) → b < m → octets (m - b) (marksIn (drop (8 * b) es))
+    ≡ octet 8 (marksIn (drop (8 * b) es)) ∷ octets (m - (b + 1)) (marksIn (drop (8 * (b + 1)) es))
+unfolding octets
+octets-step es m b h =
+    let n : m - b ≡ suc (m - (b + 1)) = omega arith in
+    let p : 8 * b + 8 ≡ 8 * (b + 1) = omega arith in
+    let d : drop 8 (marksIn (drop (8 * b) es)) ≡ marksIn (drop (8 * (b + 1)) es) =
+    drop-marks 8 (drop (8 * b) es) ∙ ap marksIn (drop-drop 8 (8 * b) es ∙ ap (λ (t : ℕ). drop t es) p) in
+    ap (λ (t : ℕ). octets t (marksIn (drop (8 * b) es))) n ∙ ap (λ (t : List Bool). octet 8 (marksIn (drop (8 * b) es)) ∷ octets (m - (b + 1)) t) d
+
+pub octets-end : (ds : List Bool) (m b : ℕ) → m ≤ b → octets (m - b) ds ≡ []
+unfolding octets
+octets-end ds m b h = let z : m - b ≡ 0 = omega arith in rw z
+
+-- ---- fences
+
+pub fence-is : (k : Id) (i : ℕ) → fenceBytes k i ≡ idBytes k ++ leBytes 8 (kind.keySize * (i * stride))
+unfolding fenceBytes
+fence-is k i = refl
+
+pub length-fence : (k : Id) (i : ℕ) → length (fenceBytes k i) ≡ kind.fenceSize
+unfolding fenceBytes
+length-fence k i =
+    let a = length-idBytes k in
+    let b = length-leBytes 8 (kind.keySize * (i * stride)) in
+    length-append (idBytes k) (leBytes 8 (kind.keySize * (i * stride))) ∙ omega arith
+
+pub fences-step : (ks : List Id) (m i : ℕ) → i < m → fencesFrom (m - i) ks i ≡ fenceBytes (getD ks (i * stride) (none .key)) i ++ fencesFrom (m - (i + 1)) ks (i + 1)
+unfolding fencesFrom
+fences-step ks m i h = let n : m - i ≡ suc (m - (i + 1)) = omega arith in ap (λ (t : ℕ). fencesFrom t ks i) n
+
+pub fences-end : (ks : List Id) (m i : ℕ) → m ≤ i → fencesFrom (m - i) ks i ≡ []
+unfolding fencesFrom
+fences-end ks m i h = let z : m - i ≡ 0 = omega arith in rw z
+
+pub fences-are : (ks : List Id) → fencesOf ks ≡ leBytes 4 stride ++ (leBytes 4 (fenceCount (length ks)) ++ fencesFrom (fenceCount (length ks)) ks 0)
+unfolding fencesOf
+fences-are ks = refl
+
+-- ---- lengths
+
+pub length-keysIn : (gs : List Group) → length (keysIn gs) ≡ length gs
+unfolding keysIn
+length-keysIn [] = refl
+length-keysIn (g ∷ gs) = ap suc (length-keysIn gs)
+
+pub length-keys : (gs : List Group) → length (keyBytes gs) ≡ 16 * length gs
+length-keys gs = length-bytesOf (keysIn gs) ∙ ap (λ (t : ℕ). 16 * t) (length-keysIn gs)
+
+pub length-numbers : (w : ℕ) (xs : List ℕ) → length (numbers w xs) ≡ length xs * w
+unfolding numbers
+length-numbers w [] = omega arith
+length-numbers w (x ∷ xs) =
+    let a = length-leBytes w x in
+    let b = length-numbers w xs in
+    let c : suc (length xs) * w ≡ w + length xs * w = omega arith in
+    length-append (leBytes w x) (numbers w xs) ∙ omega arith
+
+length-starts : (n at : ℕ) (gs : List Group) → length (startsFrom n at gs) ≡ suc (length gs)
+unfolding startsFrom
+length-starts n at [] = refl
+length-starts n at (g ∷ gs) = ap suc (length-starts n (at + length (bytesIn n g)) gs)
+
+pub length-offsets : (w n at : ℕ) (gs : List Group) → length (offsetBytes w n at gs) ≡ (length gs + 1) * w
+length-offsets w n at gs =
+    length-numbers w (startsFrom n at gs) ∙ ap (λ (t : ℕ). t * w) (length-starts n at gs ∙ sym (add-one (length gs)))
+
+length-logsIn : (es : List Edge) → length (logsIn es) ≡ length es
+unfolding logsIn
+length-logsIn [] = refl
+length-logsIn (e ∷ es) = ap suc (length-logsIn es)
+
+pub length-logs : (es : List Edge) → length (logBytes es) ≡ length es * 8
+length-logs es = length-numbers 8 (logsIn es) ∙ ap (λ (t : ℕ). t * 8) (length-logsIn es)
+
+length-octets : (m : ℕ) (ds : List Bool) → length (octets m ds) ≡ m
+unfolding octets
+length-octets zero ds = refl
+length-octets (suc m) ds = ap suc (length-octets m (drop 8 ds))
+
+pub length-tombs : (es : List Edge) → length (tombBytes es) ≡ (length es + 7) / 8
+length-tombs es = length-octets ((length es + 7) / 8) (marksIn es)
+
+length-fencesFrom : (m : ℕ) (ks : List Id) (i : ℕ) → length (fencesFrom m ks i) ≡ 24 * m
+unfolding fencesFrom
+length-fencesFrom zero ks i = refl
+length-fencesFrom (suc m) ks i =
+    let a = length-fence (getD ks (i * stride) (none .key)) i in
+    let b = length-fencesFrom m ks (i + 1) in
+    length-append (fenceBytes (getD ks (i * stride) (none .key)) i) (fencesFrom m ks (i + 1)) ∙ omega arith
+
+pub length-fences : (ks : List Id) → length (fencesOf ks) ≡ 8 + 24 * fenceCount (length ks)
+length-fences ks =
+    let m : ℕ = fenceCount (length ks) in
+    let a = length-leBytes 4 stride in
+    let b = length-leBytes 4 m in
+    let c = length-fencesFrom m ks 0 in
+    ap length (fences-are ks)
+    ∙ length-append (leBytes 4 stride) (leBytes 4 m ++ fencesFrom m ks 0)
+    ∙ ap (λ (t : ℕ). length (leBytes 4 stride) + t) (length-append (leBytes 4 m) (fencesFrom m ks 0))
+    ∙ omega arith
+
+pub width-small : (size : ℕ) → size < 2 ^ 24 → widthOf size ≡ 3
+unfolding widthOf
+width-small size h = simp (lt-ltb size (2 ^ 24) h)
+
+pub width-large : (size : ℕ) → 2 ^ 24 ≤ size → widthOf size ≡ 4
+unfolding widthOf
+width-large size h = simp (le-ltb size (2 ^ 24) h)
+
+pub width-most : (size : ℕ) → widthOf size ≤ 4
+unfolding widthOf
+width-most size = go (ltb size (2 ^ 24))
+  where
+    go : (b : Bool) → pick b 3 4 ≤ 4
+    go true = omega arith
+    go false = omega arith

@@ -1,0 +1,31 @@
+use mathlib.Core.Path.{_≡_, refl}
+use native.Mathlib.Omega.{arith}
+use mathlib.Core.Bool.{Bool, true, false}
+use Rattle.base.specs.Pick.{pick}
+use Rattle.write_image.specs.Image.{bit, fenced}
+use borrow.Author.Needs.{needs}
+use Rattle.write_plan.proofs.section_count.Statement.{statement}
+use Rattle.write_plan.proofs.section_count.Tie as tie
+
+one : (b : Bool) → pick b 1 0 ≡ bit b
+one true = refl
+one false = refl
+
+number-requires : tie.Need-number-requires
+number-requires c κs = search needs
+
+number-requires-2 : tie.Need-number-requires-2
+number-requires-2 c κs = search needs
+
+add-result : tie.Need-add-result
+add-result c = search needs
+
+add-result-2 : tie.Need-add-result-2
+add-result-2 c = search needs
+
+returns : tie.Need-returns
+returns c = let a = c .before .before .args in let t = c .before .number .ensures in let f = c .number2 .ensures in (omega (arith, t .0, f .0, one (a .dead), one (fenced (a .keys))), omega (arith, t .1, f .1))
+
+pub section-count-spec : {M : Type 1} → statement M
+section-count-spec =
+    tie.close (tie.spec number-requires number-requires-2 add-result add-result-2 returns)

@@ -1,0 +1,39 @@
+-- What is counted of the edges before anything is written, and the size of the file that these counts give.
+use mathlib.Core.Path.{_≡_}
+use Prim.Native.Nat.{ℕ, _+_, _*_, _/_, _≤_, _<_}
+use mathlib.Core.Logic.{_⊎_}
+use mathlib.Core.Bool.{Bool}
+use mathlib.Core.List.{List}
+use lib.ListN.{length}
+use Rattle.base.specs.Pick.{pick}
+use Rattle.frame.specs.Kind as kind
+use Rattle.batch.specs.declared.Edge.{Edge}
+use Rattle.batch_groups.specs.Groups.{groupsOf}
+use Rattle.write_image.specs.Image.{anyDead, anyDense, partnerBytes, widthOf, bit, fenceCount, fenced}
+
+-- tombstones and fences; a section that is not there takes nothing
+abbrev pub tombSize : ℕ → Bool → ℕ
+tombSize n dead = pick dead ((n + 7) / 8) 0
+
+abbrev pub fencesSize : ℕ → ℕ
+fencesSize keys = pick (fenced keys) (kind.fencesHead + kind.fenceSize * fenceCount keys) 0
+
+-- of n edges with that many keys, offsets of w bytes and a partner section of that many bytes
+unfoldable pub sectionsSize : ℕ → ℕ → ℕ → ℕ → Bool → ℕ
+sectionsSize keys w bytes n dead = 16 * keys + ((keys + 1) * w + (bytes + (8 * n + (tombSize n dead + fencesSize keys))))
+
+abbrev pub sectionCount : ℕ → Bool → ℕ
+sectionCount keys dead = 4 + (bit dead + bit (fenced keys))
+
+-- header, sections, footer body, trailer
+unfoldable pub fileSize : ℕ → ℕ → ℕ → ℕ → Bool → ℕ
+fileSize keys w bytes n dead = 64 + (sectionsSize keys w bytes n dead + (19 + 28 * sectionCount keys dead + 20))
+
+-- the numbers are those of the edges
+pub record Fitting (es : List Edge) (n keys w bytes : ℕ) (dense dead : Bool) : Type 0 where
+  pub edges-is : n ≡ length es
+  pub keys-is : keys ≡ length (groupsOf es)
+  pub bytes-is : bytes ≡ length (partnerBytes keys (groupsOf es))
+  pub width-is : w ≡ widthOf bytes
+  pub dense-is : dense ≡ anyDense keys (groupsOf es)
+  pub dead-is : dead ≡ anyDead es

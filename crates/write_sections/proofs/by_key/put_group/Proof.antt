@@ -1,0 +1,68 @@
+use mathlib.Core.Path.{_≡_, sym, ap, _∙_}
+use Prim.Native.Nat.{ℕ, _+_}
+use native.Mathlib.Omega.{arith}
+use mathlib.Core.List.{List}
+use mathlib.Core.Bool.{Bool}
+use lib.ListN.{length}
+use lib.Seq.{sets}
+use Rattle.base.specs.Over.{part}
+use Rattle.base.specs.Put.{Put}
+use Rattle.codes.specs.declared.ids.Id.{Id}
+use Rattle.codes.specs.Little.{leBytes}
+use Rattle.codes.specs.Ids.{idBytes}
+use Rattle.batch.specs.declared.Edge.{Edge}
+use Rattle.group.specs.Written.{writtenAs}
+use Rattle.write_image.specs.Image.{partnersIn, isDense, groupBytes}
+use Rattle.write_image.specs.Image.Laws.{group-is}
+use Rattle.write_source.specs.Source.{edgesIn}
+use borrow.Author.Needs.{needs}
+use Rattle.write_sections.proofs.by_key.put_group.Statement.{statement}
+use Rattle.write_sections.proofs.by_key.put_group.Tie as tie
+
+module _ (keys : ℕ) (ps : List Id) (dense : Bool) (e : dense ≡ isDense keys ps) where
+  written : writtenAs dense ps ≡ groupBytes keys ps
+  written = ap (λ (t : Bool). writtenAs t ps) e ∙ sym (group-is keys ps)
+
+  done : {o o₁ : List ℕ} {p r : ℕ} → Put o o₁ p r (writtenAs dense ps) → (r ≡ p + length (groupBytes keys ps)) × (o₁ ≡ sets o p (groupBytes keys ps))
+  done {o} {p = p} q = (q .place ∙ ap (λ (t : List ℕ). p + length t) written, q .bytes ∙ ap (sets o p) written)
+
+edge-of-requires : tie.Need-edge-of-requires
+edge-of-requires c κs = search needs
+
+put-id-requires : tie.Need-put-id-requires
+put-id-requires c κs = search needs
+
+put-le-requires : tie.Need-put-le-requires
+put-le-requires c κs = search needs
+
+block-size-requires : tie.Need-block-size-requires
+block-size-requires c κs = (omega arith, c .before .before .before .before .before .before .before .before .before .before .before .before .before .pre .1, c .before .before .before .before .before .before .before .before .before .before .before .before .before .pre .2, c .before .before .before .before .before .before .before .before .before .before .before .before .before .pre .4, c .before .before .before .before .before .before .before .before .before .before .before .before .before .pre .3)
+
+put-block-requires : tie.Need-put-block-requires
+put-block-requires c κs = let a = c .before .before .before .before .before .before .before .before .before .before .before .before .before .before .before .args in let es = edgesIn (a .kind) (a .a .now) (a .b .now) in
+    let ps = partnersIn (part es (a .i) (a .j)) in
+    let w = ap length (written (a .keys) ps _ (c .before .block-size .ensures .0)) in
+    (omega arith, c .before .before .before .before .before .before .before .before .before .before .before .before .before .before .before .pre .1, c .before .before .before .before .before .before .before .before .before .before .before .before .before .before .before .pre .4, omega (arith, w, c .before .before .before .before .before .before .before .before .before .before .before .before .before .before .before .pre .7))
+
+same-length : tie.Need-same-length
+same-length c = search needs
+
+returns : tie.Need-returns
+returns c = let a = c .before .before .before .before .before .before .before .before .before .before .before .before .before .before .before .before .before .before .args in let es = edgesIn (a .kind) (a .a .now) (a .b .now) in
+    let ps = partnersIn (part es (a .i) (a .j)) in
+    let q = done (a .keys) ps _ (c .before .before .before .before .block-size .ensures .0) (c .before .before .put-block .ensures) in
+    let key = ap (λ (t : Edge). idBytes (t .key)) (c .before .before .before .before .before .before .before .before .before .before .before .before .before .before .edge-of .ensures) in
+    let stored = c .before .before .before .before .before .before .before .put-le .ensures ∙ ap (λ (t : List ℕ). sets t (a .o) (leBytes (a .w) (a .start))) (c .before .before .before .before .before .before .before .before .before .before .before .put-id .ensures ∙ ap (sets (a .out .now) (a .k)) key) in
+    (q .0, q .1 ∙ ap (λ (t : List ℕ). sets t (a .p) (groupBytes (a .keys) ps)) stored)
+
+pub put-group-spec : {M : Type 1} → statement M
+put-group-spec =
+    tie.close
+    (tie.spec
+    edge-of-requires
+    put-id-requires
+    put-le-requires
+    block-size-requires
+    put-block-requires
+    same-length
+    returns)
