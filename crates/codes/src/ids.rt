@@ -4,7 +4,7 @@ ghost use Prim.Native.Nat.{_+_, _≤_, _<_};
 ghost use lib.Dec.{ltb};
 ghost use lib.ListN.{length};
 ghost use lib.Seq.{sets};
-ghost use Rattle.codes.specs.Ids.{beAt, beBytes, turned, idAt, numberOf, idBytes, halvesAt, order};
+ghost use Rattle.codes.specs.Ids.{beAt, beBytes, turned, idAt, idNumber, idBytes, halvesAt, order};
 use super::little::le64;
 use super::little::put_le;
 
@@ -57,7 +57,7 @@ pub fn id_at(s: &[u8], at: usize) -> Id
 
 // Which of two ids comes first: the upper halves decide, and where they are equal the lower.
 pub fn compare(a: Id, b: Id) -> Order
-    ensures { λ r. ⌜ r ≡ order (numberOf a) (numberOf b) ⌝ }
+    ensures { λ r. ⌜ r ≡ order (idNumber a) (idNumber b) ⌝ }
 {
     if a.hi < b.hi {
         return Order::Less;

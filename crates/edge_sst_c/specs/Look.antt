@@ -12,7 +12,7 @@ use Rattle.refusal.specs.Refusal.{numberOf, placeOf, besideOf}
 use Rattle.frame.specs.declared.Opened.{Opened}
 use Rattle.frame.specs.declared.Range.{Range}
 use Rattle.lookup.specs.declared.Looked.{Looked}
-use Rattle.lookup.specs.Lookup.{Outcome, answerOf, partnersLeft, logsLeft, marksLeft}
+use Rattle.lookup.specs.Lookup.{Outcome, lookedOf, partnersLeft, logsLeft, marksLeft}
 use Rattle.lookup.specs.Calls.{Alone, Whole}
 use Rattle.edge_sst_c.specs.declared.look.EdgeSstLooked.{EdgeSstLooked}
 
@@ -73,17 +73,17 @@ recordWithBits c b = record {
   bits = b;
 }
 
-abbrev pub recordFrom : List ℕ → Opened
-recordFrom c = recordWithBits c (byteOr (getD c bitsPlace 0))
+abbrev pub recordLent : List ℕ → Opened
+recordLent c = recordWithBits c (byteOr (getD c bitsPlace 0))
 
 -- what a call of partners alone tells and leaves
 pub record PartnersTold (x : Outcome) (r : EdgeSstLooked) (o out : List ℕ) : Type 0 where
-  pub answer : r ≡ lookedTold (answerOf x)
+  pub answer : r ≡ lookedTold (lookedOf x)
   pub partners : out ≡ partnersLeft x o
 
 -- what a call with log numbers and dead marks tells and leaves
 pub record EdgesTold (x : Outcome) (r : EdgeSstLooked) (o out l logs m marks : List ℕ) : Type 0 where
-  pub answer : r ≡ lookedTold (answerOf x)
+  pub answer : r ≡ lookedTold (lookedOf x)
   pub partners : out ≡ partnersLeft x o
   pub numbers : logs ≡ logsLeft x l
   pub dead : marks ≡ marksLeft x m

@@ -10,6 +10,7 @@ use mathlib.Core.Bool.{Bool, true, false, not, _&&_, _||_}
 use lib.ListN.{length, getD}
 use lib.Dec.{ltb, eqb}
 use borrow.Author.Tests.{ltb-true, lt-ltb, eqb-true, eqb-false, eq-eqb, ne-eqb, not-true, not-false}
+use Rattle.base.specs.Bytes.{Bytes}
 use Rattle.codes.specs.Little.{leAt}
 use Rattle.codes.specs.Little.Laws.{leAt-lt}
 use Rattle.xxh3_spec.specs.Xxh3.{xxh3}
@@ -246,7 +247,7 @@ module _ (f : List ℕ) where
       )
 
   -- 5, exactly, of a file of bytes
-  pub flags-exactly : ((j : ℕ) → getD f j 0 < 2 ^ 8) → (fileCheck f ≡ Check.Bad Refusal.Flags) ↔ UnassignedFlag f
+  pub flags-exactly : Bytes f → (fileCheck f ≡ Check.Bad Refusal.Flags) ↔ UnassignedFlag f
   unfolding headCheck
   flags-exactly by =
       let first = head-first f Refusal.Flags (omega arith) (omega arith) in

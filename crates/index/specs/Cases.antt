@@ -13,7 +13,7 @@ use Rattle.base.specs.Pick.{pick}
 use Rattle.codes.specs.Little.{leAt}
 use Rattle.refusal.specs.declared.Refusal.{Refusal}
 use Rattle.refusal.specs.declared.Check.{Check}
-use Rattle.frame.specs.Open.{keyAt, keysFrom, offsetAt, offsetGood, offsetsFrom, fenceGood, fencesFrom, fencesGood, strideOf, fenceCount}
+use Rattle.frame.specs.Open.{keyAt, keysFrom, offsetAt, offsetGood, offsetsFrom, fenceGood, fencesFrom, fencesGood, strideOf, fencesTold}
 
 -- ---- rule 13: of n keys, k is the next
 
@@ -102,7 +102,7 @@ module _ (x keys : List ℕ) (n : ℕ) where
     unfolding fencesGood
     fences-stride h = rw (← es) (simp (le-leb 8 (length x) long, lt-leb 1 s h))
 
-    module _ (some : 1 ≤ s) (k : ℕ) (ek : k ≡ fenceCount x) where
+    module _ (some : 1 ≤ s) (k : ℕ) (ek : k ≡ fencesTold x) where
       fences-are : fencesGood x keys n ≡ (eqb k ((n + (s - 1)) / s) && (eqb (length x) (8 + 24 * k) && fencesFrom k x keys s 0))
       unfolding fencesGood
       fences-are = rw (← es, ← ek) (simp (le-leb 8 (length x) long, le-leb 1 s some))

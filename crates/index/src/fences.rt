@@ -3,7 +3,7 @@ ghost use mathlib.Core.Path.{_≡_};
 ghost use Prim.Native.Nat.{_+_, _*_, _≤_, _<_};
 ghost use lib.ListN.{length};
 ghost use lib.Dec.{eqb};
-ghost use Rattle.codes.specs.Ids.{numberOf};
+ghost use Rattle.codes.specs.Ids.{idNumber};
 ghost use Rattle.frame.specs.Kind as kind;
 ghost use Rattle.frame.specs.Open.{fenceGood, fencesFrom, fencesGood};
 use super::keys::key_at;
@@ -18,7 +18,7 @@ use frame::kind::Keys;
 
 // Are a and b one id?
 fn same(a: Id, b: Id) -> bool
-    ensures { λ r. ⌜ r ≡ eqb (numberOf a) (numberOf b) ⌝ }
+    ensures { λ r. ⌜ r ≡ eqb (idNumber a) (idNumber b) ⌝ }
 {
     match compare(a, b) {
         Order::Less => false,

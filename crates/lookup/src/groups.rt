@@ -11,7 +11,7 @@ ghost use Rattle.lookup.specs.Record.{Holds};
 use super::known::offset_of;
 use frame::Opened;
 use frame::bytes_of;
-use group::Group;
+use group::GroupVerdict;
 use group::check_group;
 use group::fault::refusal_of;
 use group::fill_group;
@@ -40,8 +40,8 @@ fn group_seen(partners: &[u8], a: usize, e: usize, i: u64) -> GroupSeen
         return refused(Refusal::Offset { index: i });
     }
     match check_group(&partners[a..e]) {
-        Group::Good { degree, dense: _ } => GroupSeen::Good { degree },
-        Group::Bad { fault } => refused(refusal_of(i, fault)),
+        GroupVerdict::Good { degree, dense: _ } => GroupSeen::Good { degree },
+        GroupVerdict::Bad { fault } => refused(refusal_of(i, fault)),
     }
 }
 

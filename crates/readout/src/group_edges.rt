@@ -50,7 +50,7 @@ fn step_at(dense: bool, g: &[u8], i: usize, hi: u64) -> Step
 }
 
 // Edge e of a file: a key and a partner, with its log number and dead mark.
-fn edge_of(logs: &[u8], dead: &[u8], key: Id, partner: Id, e: usize) -> Edge
+fn edge_with(logs: &[u8], dead: &[u8], key: Id, partner: Id, e: usize) -> Edge
     requires { ⌜ (e ≤ 67108864) × (8 * e + 8 ≤ length (now logs)) ⌝ }
     ensures { λ r. ⌜ r ≡ edgeOf (now (logs .entry)) (now (dead .entry)) key partner e ⌝ }
 {
@@ -85,7 +85,7 @@ fn put_edges(
     while k < d {
         match step_at(dense, g, i, hi) {
             Step::Partner { id, next } => {
-                let e = edge_of(logs, dead, key, id, first + k);
+                let e = edge_with(logs, dead, key, id, first + k);
                 put_edge(out, Edge::HEAD + Edge::RECORD * (first + k), e);
                 hi = id.hi;
                 i = next;
@@ -99,7 +99,14 @@ fn put_edges(
 }
 
 // Writes the edges of a key whose group g is good, and answers the number of the edge after them.
-pub fn put_group(g: &[u8], key: Id, logs: &[u8], dead: &[u8], first: usize, out: &mut [u8]) -> usize
+pub fn put_group_edges(
+    g: &[u8],
+    key: Id,
+    logs: &[u8],
+    dead: &[u8],
+    first: usize,
+    out: &mut [u8],
+) -> usize
     requires { ⌜ (isGood (groupOf (now g)) ≡ true) × (first + length (partnersOf (groupOf (now g))) ≤ 67108864) × (8 * (first + length (partnersOf (groupOf (now g)))) ≤ length (now logs)) × (place first + length (recordsOf (edgesFrom (now logs) (now dead) key first (partnersOf (groupOf (now g))))) ≤ length (now out)) ⌝ }
     ensures { λ r. ⌜ (r ≡ first + length (partnersOf (groupOf (now (g .entry))))) × (now (out .exit) ≡ sets (now (out .entry)) (place first) (recordsOf (edgesFrom (now (logs .entry)) (now (dead .entry)) key first (partnersOf (groupOf (now (g .entry))))))) ⌝ }
 {

@@ -4,7 +4,7 @@ use frame::Opening;
 use frame::Range;
 use frame::Row;
 use reader::open::open;
-use reader::rows::Section;
+use reader::rows::SectionAt;
 use reader::rows::section_at;
 use refusal::Refusal;
 use refusal::told_of;
@@ -78,8 +78,8 @@ pub fn row(r: Row) {
 // The line of entry i, or none.
 fn row_line(file: &[u8], i: usize) {
     match section_at(file, i) {
-        Section::Entry { row: r } => row(r),
-        Section::Missing => {}
+        SectionAt::Entry { row: r } => row(r),
+        SectionAt::Missing => {}
     }
 }
 

@@ -9,7 +9,7 @@ ghost use Rattle.frame.specs.Layout.{payload};
 ghost use Rattle.batch_groups.specs.Groups.{groupsOf, Grouped};
 ghost use Rattle.write_image.specs.Image.{tombBytes, fencesOf, fenced, sectionsBy};
 ghost use Rattle.write_sections.specs.Ids.{idsAt};
-ghost use Rattle.write_source.specs.Source.{edgesIn};
+ghost use Rattle.write_source.specs.Source.{sourceEdges};
 use write_sections::by_edge::put_logs;
 use write_sections::by_edge::put_tombs;
 use write_sections::by_key::put_groups;
@@ -24,8 +24,8 @@ fn put_tombs_if(
     out: &mut [u8],
     at: usize,
 ) -> usize
-    requires { ⌜ (n ≡ length (edgesIn kind (now a) (now b))) × (n ≤ 67108864) × (at + length (pick dead (tombBytes (edgesIn kind (now a) (now b))) []) ≤ length (now out)) ⌝ }
-    ensures { λ r. ⌜ Put (now (out .entry)) (now (out .exit)) at r (pick dead (tombBytes (edgesIn kind (now (a .entry)) (now (b .entry)))) []) ⌝ }
+    requires { ⌜ (n ≡ length (sourceEdges kind (now a) (now b))) × (n ≤ 67108864) × (at + length (pick dead (tombBytes (sourceEdges kind (now a) (now b))) []) ≤ length (now out)) ⌝ }
+    ensures { λ r. ⌜ Put (now (out .entry)) (now (out .exit)) at r (pick dead (tombBytes (sourceEdges kind (now (a .entry)) (now (b .entry)))) []) ⌝ }
 {
     if dead {
         return put_tombs(kind, a, b, n, out, at);
@@ -55,8 +55,8 @@ pub fn put_payload(
     out: &mut [u8],
     at: usize,
 ) -> usize
-    requires { ⌜ (n ≡ length (edgesIn kind (now a) (now b))) × (n ≤ 67108864) × (keys ≡ length (groupsOf (edgesIn kind (now a) (now b)))) × (keys ≤ 67108864) × Grouped 0 (groupsOf (edgesIn kind (now a) (now b))) × (at + length (payload (sectionsBy keys w dead (edgesIn kind (now a) (now b)) (groupsOf (edgesIn kind (now a) (now b))))) ≤ length (now out)) ⌝ }
-    ensures { λ r. ⌜ Put (now (out .entry)) (now (out .exit)) at r (payload (sectionsBy keys w dead (edgesIn kind (now (a .entry)) (now (b .entry))) (groupsOf (edgesIn kind (now (a .entry)) (now (b .entry)))))) ⌝ }
+    requires { ⌜ (n ≡ length (sourceEdges kind (now a) (now b))) × (n ≤ 67108864) × (keys ≡ length (groupsOf (sourceEdges kind (now a) (now b)))) × (keys ≤ 67108864) × Grouped 0 (groupsOf (sourceEdges kind (now a) (now b))) × (at + length (payload (sectionsBy keys w dead (sourceEdges kind (now a) (now b)) (groupsOf (sourceEdges kind (now a) (now b))))) ≤ length (now out)) ⌝ }
+    ensures { λ r. ⌜ Put (now (out .entry)) (now (out .exit)) at r (payload (sectionsBy keys w dead (sourceEdges kind (now (a .entry)) (now (b .entry))) (groupsOf (sourceEdges kind (now (a .entry)) (now (b .entry)))))) ⌝ }
 {
     let p = put_groups(kind, a, b, n, keys, w, out, at);
     let q = put_logs(kind, a, b, n, out, p);

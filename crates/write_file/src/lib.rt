@@ -5,16 +5,16 @@ ghost use lib.ListN.{length};
 ghost use Rattle.refusal.specs.declared.Check.{Check};
 ghost use Rattle.batch.specs.Batch.{edgesOf, batchCheck};
 ghost use Rattle.batch_groups.specs.Groups.{groupsOf, Grouped};
-ghost use Rattle.write_plan.specs.Bounds.{Fits};
+ghost use Rattle.write_plan.specs.Bounds.{PlanFits};
 ghost use Rattle.write_file.specs.Written.{neededOf, Wrote};
 use batch::Edge;
 use batch_faults::check_batch;
 use file::put_file;
+use refusal::Check;
+use refusal::Refusal;
 use write_plan::Counted;
 use write_plan::Plan;
 use write_plan::measure;
-use refusal::Check;
-use refusal::Refusal;
 
 pub mod file;
 
@@ -43,7 +43,7 @@ fn needed_fine(batch: &[u8]) -> Written
         Counted::TooMany => Written::Refused {
             refusal: Refusal::Bounds,
         },
-        Counted::Fits { plan } => Written::Done {
+        Counted::PlanFits { plan } => Written::Done {
             bytes: plan.bytes as u64,
         },
     }
@@ -68,12 +68,12 @@ fn write_fine(batch: &[u8], out: &mut [u8]) -> Written
         Counted::TooMany => Written::Refused {
             refusal: Refusal::Bounds,
         },
-        Counted::Fits { plan } => write_plan(batch, plan, out),
+        Counted::PlanFits { plan } => write_plan(batch, plan, out),
     }
 }
 
 fn write_plan(batch: &[u8], plan: Plan, out: &mut [u8]) -> Written
-    requires { ⌜ (batchCheck (now batch) ≡ Check.Fine) × Fits (edgesOf (now batch)) plan × Grouped 0 (groupsOf (edgesOf (now batch))) ⌝ }
+    requires { ⌜ (batchCheck (now batch) ≡ Check.Fine) × PlanFits (edgesOf (now batch)) plan × Grouped 0 (groupsOf (edgesOf (now batch))) ⌝ }
     ensures { λ r. ⌜ Wrote (now (batch .entry)) (now (out .entry)) r (now (out .exit)) ⌝ }
 {
     let bytes = plan.bytes;

@@ -3,15 +3,16 @@ ghost use mathlib.Core.Path.{_≡_};
 ghost use Prim.Native.Nat.{_+_, _*_, _-_, _≤_};
 ghost use mathlib.Core.List.{[], _∷_, _++_};
 ghost use lib.ListN.{length};
+ghost use Rattle.batch.specs.Batch.{partnersIn};
 ghost use Rattle.base.specs.Over.{part};
 ghost use Rattle.base.specs.Put.{Put};
 ghost use Rattle.codes.specs.Little.{leBytes};
 ghost use Rattle.codes.specs.Varint.{varBytes};
 ghost use Rattle.group.specs.Group.{bytesOf};
 ghost use Rattle.group.specs.Written.{splitFrom, writtenAs};
-ghost use Rattle.write_image.specs.Image.{partnersIn, splitCost, denseBy, isDense, groupBytes};
+ghost use Rattle.write_image.specs.Image.{splitCost, denseBy, isDense, groupBytes};
 ghost use Rattle.write_image.specs.Image.Laws.{Rise};
-ghost use Rattle.write_source.specs.Source.{edgesIn};
+ghost use Rattle.write_source.specs.Source.{sourceEdges};
 use codes::ids::put_id;
 use codes::little::put_le;
 use codes::varint::put_varint;
@@ -20,8 +21,8 @@ use write_source::edge_of;
 
 // "Each upper varint's length plus 8, summed".
 fn split_cost(kind: u8, a: &[u8], b: &[u8], i: usize, j: usize) -> usize
-    requires { ⌜ (i ≤ j) × (j ≤ length (edgesIn kind (now a) (now b))) × (j ≤ 67108864) × Rise 0 (partnersIn (part (edgesIn kind (now a) (now b)) i j)) ⌝ }
-    ensures { λ r. ⌜ r ≡ splitCost 0 (partnersIn (part (edgesIn kind (now (a .entry)) (now (b .entry))) i j)) ⌝ }
+    requires { ⌜ (i ≤ j) × (j ≤ length (sourceEdges kind (now a) (now b))) × (j ≤ 67108864) × Rise 0 (partnersIn (part (sourceEdges kind (now a) (now b)) i j)) ⌝ }
+    ensures { λ r. ⌜ r ≡ splitCost 0 (partnersIn (part (sourceEdges kind (now (a .entry)) (now (b .entry))) i j)) ⌝ }
 {
     let mut k = i;
     let mut hi: u64 = 0;
@@ -60,8 +61,8 @@ pub struct Size {
 
 // In a file of that many keys.
 pub fn block_size(kind: u8, a: &[u8], b: &[u8], i: usize, j: usize, keys: usize) -> Size
-    requires { ⌜ (i ≤ j) × (j ≤ length (edgesIn kind (now a) (now b))) × (j ≤ 67108864) × Rise 0 (partnersIn (part (edgesIn kind (now a) (now b)) i j)) × (keys ≤ 67108864) ⌝ }
-    ensures { λ r. ⌜ (r .dense ≡ isDense keys (partnersIn (part (edgesIn kind (now (a .entry)) (now (b .entry))) i j))) × (r .bytes ≡ length (groupBytes keys (partnersIn (part (edgesIn kind (now (a .entry)) (now (b .entry))) i j)))) × (r .bytes ≤ 11 + 18 * (j - i)) ⌝ }
+    requires { ⌜ (i ≤ j) × (j ≤ length (sourceEdges kind (now a) (now b))) × (j ≤ 67108864) × Rise 0 (partnersIn (part (sourceEdges kind (now a) (now b)) i j)) × (keys ≤ 67108864) ⌝ }
+    ensures { λ r. ⌜ (r .dense ≡ isDense keys (partnersIn (part (sourceEdges kind (now (a .entry)) (now (b .entry))) i j))) × (r .bytes ≡ length (groupBytes keys (partnersIn (part (sourceEdges kind (now (a .entry)) (now (b .entry))) i j)))) × (r .bytes ≤ 11 + 18 * (j - i)) ⌝ }
 {
     let degree = j - i;
     let cost = split_cost(kind, a, b, i, j);
@@ -90,8 +91,8 @@ fn put_partner(out: &mut [u8], at: usize, up: u64, lo: u64) -> usize
 
 // Writes the partners, split.
 fn put_split(kind: u8, a: &[u8], b: &[u8], i: usize, j: usize, out: &mut [u8], at: usize) -> usize
-    requires { ⌜ (i ≤ j) × (j ≤ length (edgesIn kind (now a) (now b))) × Rise 0 (partnersIn (part (edgesIn kind (now a) (now b)) i j)) × (at + length (splitFrom 0 (partnersIn (part (edgesIn kind (now a) (now b)) i j))) ≤ length (now out)) ⌝ }
-    ensures { λ r. ⌜ Put (now (out .entry)) (now (out .exit)) at r (splitFrom 0 (partnersIn (part (edgesIn kind (now (a .entry)) (now (b .entry))) i j))) ⌝ }
+    requires { ⌜ (i ≤ j) × (j ≤ length (sourceEdges kind (now a) (now b))) × Rise 0 (partnersIn (part (sourceEdges kind (now a) (now b)) i j)) × (at + length (splitFrom 0 (partnersIn (part (sourceEdges kind (now a) (now b)) i j))) ≤ length (now out)) ⌝ }
+    ensures { λ r. ⌜ Put (now (out .entry)) (now (out .exit)) at r (splitFrom 0 (partnersIn (part (sourceEdges kind (now (a .entry)) (now (b .entry))) i j))) ⌝ }
 {
     let mut k = i;
     let mut to = at;
@@ -109,8 +110,8 @@ fn put_split(kind: u8, a: &[u8], b: &[u8], i: usize, j: usize, out: &mut [u8], a
 
 // Writes the partners, dense.
 fn put_dense(kind: u8, a: &[u8], b: &[u8], i: usize, j: usize, out: &mut [u8], at: usize) -> usize
-    requires { ⌜ (i ≤ j) × (j ≤ length (edgesIn kind (now a) (now b))) × (at + length (bytesOf (partnersIn (part (edgesIn kind (now a) (now b)) i j))) ≤ length (now out)) ⌝ }
-    ensures { λ r. ⌜ Put (now (out .entry)) (now (out .exit)) at r (bytesOf (partnersIn (part (edgesIn kind (now (a .entry)) (now (b .entry))) i j))) ⌝ }
+    requires { ⌜ (i ≤ j) × (j ≤ length (sourceEdges kind (now a) (now b))) × (at + length (bytesOf (partnersIn (part (sourceEdges kind (now a) (now b)) i j))) ≤ length (now out)) ⌝ }
+    ensures { λ r. ⌜ Put (now (out .entry)) (now (out .exit)) at r (bytesOf (partnersIn (part (sourceEdges kind (now (a .entry)) (now (b .entry))) i j))) ⌝ }
 {
     let mut k = i;
     let mut to = at;
@@ -145,8 +146,8 @@ pub fn put_block(
     out: &mut [u8],
     at: usize,
 ) -> usize
-    requires { ⌜ (i ≤ j) × (j ≤ length (edgesIn kind (now a) (now b))) × Rise 0 (partnersIn (part (edgesIn kind (now a) (now b)) i j)) × (at + length (writtenAs dense (partnersIn (part (edgesIn kind (now a) (now b)) i j))) ≤ length (now out)) ⌝ }
-    ensures { λ r. ⌜ Put (now (out .entry)) (now (out .exit)) at r (writtenAs dense (partnersIn (part (edgesIn kind (now (a .entry)) (now (b .entry))) i j))) ⌝ }
+    requires { ⌜ (i ≤ j) × (j ≤ length (sourceEdges kind (now a) (now b))) × Rise 0 (partnersIn (part (sourceEdges kind (now a) (now b)) i j)) × (at + length (writtenAs dense (partnersIn (part (sourceEdges kind (now a) (now b)) i j))) ≤ length (now out)) ⌝ }
+    ensures { λ r. ⌜ Put (now (out .entry)) (now (out .exit)) at r (writtenAs dense (partnersIn (part (sourceEdges kind (now (a .entry)) (now (b .entry))) i j))) ⌝ }
 {
     if dense {
         let mid = put_head(out, at, (j - i) as u64, 16);

@@ -6,7 +6,7 @@ ghost use lib.ListN.{length};
 ghost use Rattle.base.specs.Pick.{pick};
 ghost use Rattle.batch_groups.specs.Groups.{groupsOf, Grouped};
 ghost use Rattle.write_image.specs.Image.{widthOf};
-ghost use Rattle.write_source.specs.Source.{edgesIn};
+ghost use Rattle.write_source.specs.Source.{sourceEdges};
 ghost use Rattle.write_plan.specs.Size.{tombSize, fencesSize, sectionCount, fileSize};
 ghost use Rattle.write_plan.specs.Bounds.{Measured};
 use write_sections::by_key::partners_size;
@@ -85,8 +85,8 @@ fn file_size(keys: usize, w: usize, bytes: usize, n: usize, dead: bool) -> usize
 
 // Counts the n edges.
 pub fn measure(kind: u8, a: &[u8], b: &[u8], n: usize) -> Counted
-    requires { ⌜ (n ≡ length (edgesIn kind (now a) (now b))) × Grouped 0 (groupsOf (edgesIn kind (now a) (now b))) ⌝ }
-    ensures { λ r. ⌜ Measured (edgesIn kind (now (a .entry)) (now (b .entry))) r ⌝ }
+    requires { ⌜ (n ≡ length (sourceEdges kind (now a) (now b))) × Grouped 0 (groupsOf (sourceEdges kind (now a) (now b))) ⌝ }
+    ensures { λ r. ⌜ Measured (sourceEdges kind (now (a .entry)) (now (b .entry))) r ⌝ }
 {
     if 67108864 < n {
         return Counted::TooMany;

@@ -2,17 +2,18 @@
 ghost use mathlib.Core.Path.{_≡_};
 ghost use Prim.Native.Nat.{_+_, _/_, _≤_};
 ghost use lib.ListN.{length, drop};
+ghost use Rattle.batch.specs.Batch.{marksIn};
 ghost use Rattle.base.specs.Put.{Put};
-ghost use Rattle.write_image.specs.Image.{marksIn, logBytes, octet, tombBytes};
-ghost use Rattle.write_source.specs.Source.{edgesIn};
+ghost use Rattle.write_image.specs.Image.{logBytes, octet, tombBytes};
+ghost use Rattle.write_source.specs.Source.{sourceEdges};
 use codes::little::put_le;
 use write_source::dead_of;
 use write_source::log_of;
 
 // Writes the log numbers of n edges.
 pub fn put_logs(kind: u8, a: &[u8], b: &[u8], n: usize, out: &mut [u8], at: usize) -> usize
-    requires { ⌜ (n ≡ length (edgesIn kind (now a) (now b))) × (at + length (logBytes (edgesIn kind (now a) (now b))) ≤ length (now out)) ⌝ }
-    ensures { λ r. ⌜ Put (now (out .entry)) (now (out .exit)) at r (logBytes (edgesIn kind (now (a .entry)) (now (b .entry)))) ⌝ }
+    requires { ⌜ (n ≡ length (sourceEdges kind (now a) (now b))) × (at + length (logBytes (sourceEdges kind (now a) (now b))) ≤ length (now out)) ⌝ }
+    ensures { λ r. ⌜ Put (now (out .entry)) (now (out .exit)) at r (logBytes (sourceEdges kind (now (a .entry)) (now (b .entry)))) ⌝ }
 {
     let mut k: usize = 0;
     let mut to = at;
@@ -27,8 +28,8 @@ pub fn put_logs(kind: u8, a: &[u8], b: &[u8], n: usize, out: &mut [u8], at: usiz
 
 // The mark of edge k, 0 past the last.
 fn mark_at(kind: u8, a: &[u8], b: &[u8], n: usize, k: usize) -> u64
-    requires { ⌜ n ≡ length (edgesIn kind (now a) (now b)) ⌝ }
-    ensures { λ r. ⌜ r ≡ octet 1 (marksIn (drop k (edgesIn kind (now (a .entry)) (now (b .entry))))) ⌝ }
+    requires { ⌜ n ≡ length (sourceEdges kind (now a) (now b)) ⌝ }
+    ensures { λ r. ⌜ r ≡ octet 1 (marksIn (drop k (sourceEdges kind (now (a .entry)) (now (b .entry))))) ⌝ }
 {
     if n <= k {
         return 0;
@@ -41,8 +42,8 @@ fn mark_at(kind: u8, a: &[u8], b: &[u8], n: usize, k: usize) -> u64
 
 // The marks of the eight edges from e on, as one byte.
 fn octet_at(kind: u8, a: &[u8], b: &[u8], n: usize, e: usize) -> u8
-    requires { ⌜ (n ≡ length (edgesIn kind (now a) (now b))) × (e ≤ n) × (n ≤ 67108864) ⌝ }
-    ensures { λ r. ⌜ r ≡ octet 8 (marksIn (drop e (edgesIn kind (now (a .entry)) (now (b .entry))))) ⌝ }
+    requires { ⌜ (n ≡ length (sourceEdges kind (now a) (now b))) × (e ≤ n) × (n ≤ 67108864) ⌝ }
+    ensures { λ r. ⌜ r ≡ octet 8 (marksIn (drop e (sourceEdges kind (now (a .entry)) (now (b .entry))))) ⌝ }
 {
     let mut t: usize = 8;
     let mut x: u64 = 0;
@@ -55,8 +56,8 @@ fn octet_at(kind: u8, a: &[u8], b: &[u8], n: usize, e: usize) -> u8
 
 // Writes the tombstones of n edges.
 pub fn put_tombs(kind: u8, a: &[u8], b: &[u8], n: usize, out: &mut [u8], at: usize) -> usize
-    requires { ⌜ (n ≡ length (edgesIn kind (now a) (now b))) × (n ≤ 67108864) × (at + length (tombBytes (edgesIn kind (now a) (now b))) ≤ length (now out)) ⌝ }
-    ensures { λ r. ⌜ Put (now (out .entry)) (now (out .exit)) at r (tombBytes (edgesIn kind (now (a .entry)) (now (b .entry)))) ⌝ }
+    requires { ⌜ (n ≡ length (sourceEdges kind (now a) (now b))) × (n ≤ 67108864) × (at + length (tombBytes (sourceEdges kind (now a) (now b))) ≤ length (now out)) ⌝ }
+    ensures { λ r. ⌜ Put (now (out .entry)) (now (out .exit)) at r (tombBytes (sourceEdges kind (now (a .entry)) (now (b .entry)))) ⌝ }
 {
     let m = (n + 7) / 8;
     let mut i: usize = 0;

@@ -5,18 +5,19 @@ ghost use mathlib.Core.List.{_++_};
 ghost use mathlib.Core.Bool.{_||_};
 ghost use lib.ListN.{length, getD};
 ghost use lib.Seq.{sets};
+ghost use Rattle.batch.specs.Batch.{partnersIn};
 ghost use Rattle.base.specs.Over.{part};
 ghost use Rattle.base.specs.Put.{Put};
 ghost use Rattle.codes.specs.Little.{leBytes};
 ghost use Rattle.codes.specs.Ids.{idBytes};
 ghost use Rattle.batch_groups.specs.Groups.{none, groupsOf, Grouped};
-ghost use Rattle.write_image.specs.Image.{partnersIn, groupBytes, anyDense, keyBytes, offsetBytes, partnerBytes};
+ghost use Rattle.write_image.specs.Image.{groupBytes, anyDense, keyBytes, offsetBytes, partnerBytes};
 ghost use Rattle.write_image.specs.Image.Laws.{Rise};
-ghost use Rattle.write_source.specs.Source.{edgesIn};
-use write_group::block_size;
-use write_group::put_block;
+ghost use Rattle.write_source.specs.Source.{sourceEdges};
 use codes::ids::put_id;
 use codes::little::put_le;
+use write_group::block_size;
+use write_group::put_block;
 use write_source::edge_of;
 use write_source::group_end;
 
@@ -33,8 +34,8 @@ fn either(a: bool, b: bool) -> bool
 }
 
 pub fn partners_size(kind: u8, a: &[u8], b: &[u8], n: usize, keys: usize) -> Total
-    requires { ⌜ (n ≡ length (edgesIn kind (now a) (now b))) × (n ≤ 67108864) × (keys ≤ 67108864) × Grouped 0 (groupsOf (edgesIn kind (now a) (now b))) ⌝ }
-    ensures { λ r. ⌜ (r .bytes ≡ length (partnerBytes keys (groupsOf (edgesIn kind (now (a .entry)) (now (b .entry)))))) × (r .dense ≡ anyDense keys (groupsOf (edgesIn kind (now (a .entry)) (now (b .entry))))) × (r .bytes ≤ 29 * n) ⌝ }
+    requires { ⌜ (n ≡ length (sourceEdges kind (now a) (now b))) × (n ≤ 67108864) × (keys ≤ 67108864) × Grouped 0 (groupsOf (sourceEdges kind (now a) (now b))) ⌝ }
+    ensures { λ r. ⌜ (r .bytes ≡ length (partnerBytes keys (groupsOf (sourceEdges kind (now (a .entry)) (now (b .entry)))))) × (r .dense ≡ anyDense keys (groupsOf (sourceEdges kind (now (a .entry)) (now (b .entry))))) × (r .bytes ≤ 29 * n) ⌝ }
 {
     let mut i: usize = 0;
     let mut bytes: usize = 0;
@@ -64,8 +65,8 @@ fn put_group(
     o: usize,
     p: usize,
 ) -> usize
-    requires { ⌜ (i < j) × (j ≤ length (edgesIn kind (now a) (now b))) × (j ≤ 67108864) × (keys ≤ 67108864) × Rise 0 (partnersIn (part (edgesIn kind (now a) (now b)) i j)) × (k + 16 ≤ length (now out)) × (o + w ≤ length (now out)) × (p + length (groupBytes keys (partnersIn (part (edgesIn kind (now a) (now b)) i j))) ≤ length (now out)) ⌝ }
-    ensures { λ r. ⌜ (r ≡ p + length (groupBytes keys (partnersIn (part (edgesIn kind (now (a .entry)) (now (b .entry))) i j)))) × (now (out .exit) ≡ sets (sets (sets (now (out .entry)) k (idBytes (getD (edgesIn kind (now (a .entry)) (now (b .entry))) i none .key))) o (leBytes w start)) p (groupBytes keys (partnersIn (part (edgesIn kind (now (a .entry)) (now (b .entry))) i j)))) ⌝ }
+    requires { ⌜ (i < j) × (j ≤ length (sourceEdges kind (now a) (now b))) × (j ≤ 67108864) × (keys ≤ 67108864) × Rise 0 (partnersIn (part (sourceEdges kind (now a) (now b)) i j)) × (k + 16 ≤ length (now out)) × (o + w ≤ length (now out)) × (p + length (groupBytes keys (partnersIn (part (sourceEdges kind (now a) (now b)) i j))) ≤ length (now out)) ⌝ }
+    ensures { λ r. ⌜ (r ≡ p + length (groupBytes keys (partnersIn (part (sourceEdges kind (now (a .entry)) (now (b .entry))) i j)))) × (now (out .exit) ≡ sets (sets (sets (now (out .entry)) k (idBytes (getD (sourceEdges kind (now (a .entry)) (now (b .entry))) i none .key))) o (leBytes w start)) p (groupBytes keys (partnersIn (part (sourceEdges kind (now (a .entry)) (now (b .entry))) i j)))) ⌝ }
 {
     let e = edge_of(kind, a, b, i);
     let key = e.key;
@@ -86,8 +87,8 @@ pub fn put_groups(
     out: &mut [u8],
     at: usize,
 ) -> usize
-    requires { ⌜ (n ≡ length (edgesIn kind (now a) (now b))) × (n ≤ 67108864) × (keys ≡ length (groupsOf (edgesIn kind (now a) (now b)))) × (keys ≤ 67108864) × Grouped 0 (groupsOf (edgesIn kind (now a) (now b))) × (at + length (keyBytes (groupsOf (edgesIn kind (now a) (now b))) ++ (offsetBytes w keys 0 (groupsOf (edgesIn kind (now a) (now b))) ++ partnerBytes keys (groupsOf (edgesIn kind (now a) (now b))))) ≤ length (now out)) ⌝ }
-    ensures { λ r. ⌜ Put (now (out .entry)) (now (out .exit)) at r (keyBytes (groupsOf (edgesIn kind (now (a .entry)) (now (b .entry)))) ++ (offsetBytes w keys 0 (groupsOf (edgesIn kind (now (a .entry)) (now (b .entry)))) ++ partnerBytes keys (groupsOf (edgesIn kind (now (a .entry)) (now (b .entry)))))) ⌝ }
+    requires { ⌜ (n ≡ length (sourceEdges kind (now a) (now b))) × (n ≤ 67108864) × (keys ≡ length (groupsOf (sourceEdges kind (now a) (now b)))) × (keys ≤ 67108864) × Grouped 0 (groupsOf (sourceEdges kind (now a) (now b))) × (at + length (keyBytes (groupsOf (sourceEdges kind (now a) (now b))) ++ (offsetBytes w keys 0 (groupsOf (sourceEdges kind (now a) (now b))) ++ partnerBytes keys (groupsOf (sourceEdges kind (now a) (now b))))) ≤ length (now out)) ⌝ }
+    ensures { λ r. ⌜ Put (now (out .entry)) (now (out .exit)) at r (keyBytes (groupsOf (sourceEdges kind (now (a .entry)) (now (b .entry)))) ++ (offsetBytes w keys 0 (groupsOf (sourceEdges kind (now (a .entry)) (now (b .entry)))) ++ partnerBytes keys (groupsOf (sourceEdges kind (now (a .entry)) (now (b .entry)))))) ⌝ }
 {
     let mut i: usize = 0;
     let mut k = at;

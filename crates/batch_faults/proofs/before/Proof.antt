@@ -7,7 +7,7 @@ use lib.Dec.{ltb}
 use borrow.Author.Tests.{lt-ltb, le-ltb}
 use Rattle.codes.specs.declared.ids.Id.{Id}
 use Rattle.codes.specs.declared.ids.Order.{Order}
-use Rattle.codes.specs.Ids.{numberOf, order, halvesAt}
+use Rattle.codes.specs.Ids.{idNumber, order, halvesAt}
 use Rattle.batch.specs.declared.Edge.{Edge}
 use Rattle.batch.specs.Batch.{edgeAt, before}
 use Rattle.batch_groups.specs.Order.{less-back, equal-back, greater-back, before-less, before-greater, before-equal}
@@ -16,38 +16,38 @@ use Rattle.batch_faults.proofs.before.Statement.{statement}
 use Rattle.batch_faults.proofs.before.Tie as tie
 
 module _ (a b : Edge) where
-  key-less : order (numberOf (a .key)) (numberOf (b .key)) ≡ Order.Less → true ≡ before a b
+  key-less : order (idNumber (a .key)) (idNumber (b .key)) ≡ Order.Less → true ≡ before a b
   key-less q = sym (before-less a b (less-back _ _ q))
 
-  key-greater : order (numberOf (a .key)) (numberOf (b .key)) ≡ Order.Greater → false ≡ before a b
+  key-greater : order (idNumber (a .key)) (idNumber (b .key)) ≡ Order.Greater → false ≡ before a b
   key-greater q = sym (before-greater a b (greater-back _ _ q))
 
-  module _ (q : order (numberOf (a .key)) (numberOf (b .key)) ≡ Order.Equal) where
-    equal : before a b ≡ ltb (numberOf (a .partner)) (numberOf (b .partner))
+  module _ (q : order (idNumber (a .key)) (idNumber (b .key)) ≡ Order.Equal) where
+    equal : before a b ≡ ltb (idNumber (a .partner)) (idNumber (b .partner))
     equal = before-equal a b (equal-back _ _ q)
 
-    partner-less : order (numberOf (a .partner)) (numberOf (b .partner)) ≡ Order.Less → true ≡ before a b
+    partner-less : order (idNumber (a .partner)) (idNumber (b .partner)) ≡ Order.Less → true ≡ before a b
     partner-less r = sym (equal ∙ lt-ltb _ _ (less-back _ _ r))
 
-    partner-equal : order (numberOf (a .partner)) (numberOf (b .partner)) ≡ Order.Equal → false ≡ before a b
+    partner-equal : order (idNumber (a .partner)) (idNumber (b .partner)) ≡ Order.Equal → false ≡ before a b
     partner-equal r =
-        let z : numberOf (a .partner) ≡ numberOf (b .partner) = equal-back _ _ r in
-        sym (equal ∙ le-ltb (numberOf (a .partner)) (numberOf (b .partner)) (omega arith))
+        let z : idNumber (a .partner) ≡ idNumber (b .partner) = equal-back _ _ r in
+        sym (equal ∙ le-ltb (idNumber (a .partner)) (idNumber (b .partner)) (omega arith))
 
-    partner-greater : order (numberOf (a .partner)) (numberOf (b .partner)) ≡ Order.Greater → false ≡ before a b
+    partner-greater : order (idNumber (a .partner)) (idNumber (b .partner)) ≡ Order.Greater → false ≡ before a b
     partner-greater r =
-        let z : numberOf (b .partner) < numberOf (a .partner) = greater-back _ _ r in
-        sym (equal ∙ le-ltb (numberOf (a .partner)) (numberOf (b .partner)) (omega arith))
+        let z : idNumber (b .partner) < idNumber (a .partner) = greater-back _ _ r in
+        sym (equal ∙ le-ltb (idNumber (a .partner)) (idNumber (b .partner)) (omega arith))
 
 -- the ids that are compared are those of the two edges
-module _ (s : List ℕ) (i j : ℕ) (x y : Id) (o : Order) (t : order (numberOf x) (numberOf y) ≡ o) where
-  keys : x ≡ halvesAt s (i + 1) → y ≡ halvesAt s (j + 1) → order (numberOf (edgeAt s i .key)) (numberOf (edgeAt s j .key)) ≡ o
+module _ (s : List ℕ) (i j : ℕ) (x y : Id) (o : Order) (t : order (idNumber x) (idNumber y) ≡ o) where
+  keys : x ≡ halvesAt s (i + 1) → y ≡ halvesAt s (j + 1) → order (idNumber (edgeAt s i .key)) (idNumber (edgeAt s j .key)) ≡ o
   unfolding edgeAt
-  keys p q = sym (ap₂ (λ (a b : Id). order (numberOf a) (numberOf b)) p q) ∙ t
+  keys p q = sym (ap₂ (λ (a b : Id). order (idNumber a) (idNumber b)) p q) ∙ t
 
-  partners : x ≡ halvesAt s (i + 17) → y ≡ halvesAt s (j + 17) → order (numberOf (edgeAt s i .partner)) (numberOf (edgeAt s j .partner)) ≡ o
+  partners : x ≡ halvesAt s (i + 17) → y ≡ halvesAt s (j + 17) → order (idNumber (edgeAt s i .partner)) (idNumber (edgeAt s j .partner)) ≡ o
   unfolding edgeAt
-  partners p q = sym (ap₂ (λ (a b : Id). order (numberOf a) (numberOf b)) p q) ∙ t
+  partners p q = sym (ap₂ (λ (a b : Id). order (idNumber a) (idNumber b)) p q) ∙ t
 
 add-id-at : tie.Need-add-id-at
 add-id-at c = search needs

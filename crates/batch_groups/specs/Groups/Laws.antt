@@ -12,16 +12,16 @@ use lib.Dec.{eqb}
 use borrow.Author.Tests.{eq-eqb, ne-eqb}
 use Rattle.base.specs.Pick.{pick}
 use Rattle.codes.specs.declared.ids.Id.{Id}
-use Rattle.codes.specs.Ids.{numberOf}
+use Rattle.codes.specs.Ids.{idNumber}
 use Rattle.batch.specs.declared.Edge.{Edge}
-use Rattle.batch_groups.specs.Groups.{none, Group, join, groupsOf, flat, GroupEnd, Fits, First, Ordered, Run, Grouped}
+use Rattle.batch_groups.specs.Groups.{none, Group, join, groupsOf, flat, GroupEnd, IdFits, First, Ordered, Run, Grouped}
 
 -- ---- ids and numbers
 
 halves-eq : {p q v w : ℕ} → v < 2 ^ 64 → w < 2 ^ 64 → p * 2 ^ 64 + v ≡ q * 2 ^ 64 + w → (p ≡ q) × (v ≡ w)
 halves-eq a b e = (omega arith, omega arith)
 
-pub number-inj : (a b : Id) → Fits a → Fits b → numberOf a ≡ numberOf b → a ≡ b
+pub number-inj : (a b : Id) → IdFits a → IdFits b → idNumber a ≡ idNumber b → a ≡ b
 number-inj a b f g e = let h = halves-eq (f .1) (g .1) e in (λ j. record { hi = h .0 j; lo = h .1 j })
 
 -- ---- groups hold the edges
@@ -34,7 +34,7 @@ flat-append (g ∷ gs) hs = rw (flat-append gs hs) (sym (append-assoc (g .edges)
 flat-join : (e : Edge) (gs : List Group) → flat (join e gs) ≡ e ∷ flat gs
 unfolding flat join
 flat-join e [] = refl
-flat-join e (g ∷ gs) = go (eqb (numberOf (e .key)) (numberOf (g .key)))
+flat-join e (g ∷ gs) = go (eqb (idNumber (e .key)) (idNumber (g .key)))
   where
     go : (b : Bool) → flat (pick b (record { key = e .key; edges = e ∷ (g .edges) } ∷ gs) (record { key = e .key; edges = e ∷ [] } ∷ g ∷ gs)) ≡ e ∷ flat (g ∷ gs)
     go true = refl
@@ -52,33 +52,33 @@ flat-groups (e ∷ es) = flat-join e (groupsOf es) ∙ ap (λ (t : List Edge). e
 join-head : (f : Edge) (gs : List Group) → (rest : List Edge) × (more : List Group) × (join f gs ≡ record { key = f .key; edges = f ∷ rest } ∷ more)
 unfolding join
 join-head f [] = ([], [], refl)
-join-head f (g ∷ gs) = go (eqb (numberOf (f .key)) (numberOf (g .key)))
+join-head f (g ∷ gs) = go (eqb (idNumber (f .key)) (idNumber (g .key)))
   where
     go : (b : Bool) → (rest : List Edge) × (more : List Group) × (pick b (record { key = f .key; edges = f ∷ (g .edges) } ∷ gs) (record { key = f .key; edges = f ∷ [] } ∷ g ∷ gs) ≡ record { key = f .key; edges = f ∷ rest } ∷ more)
     go true = (g .edges, gs, refl)
     go false = ([], g ∷ gs, refl)
 
 -- a floor of a run or of groups may be raised to the first
-raise : (k : Id) (fl fl′ : ℕ) (e : Edge) (es : List Edge) → fl′ ≤ numberOf (e .partner) → Run k fl (e ∷ es) → Run k fl′ (e ∷ es)
+raise : (k : Id) (fl fl′ : ℕ) (e : Edge) (es : List Edge) → fl′ ≤ idNumber (e .partner) → Run k fl (e ∷ es) → Run k fl′ (e ∷ es)
 unfolding Run
 raise k fl fl′ e es h r = (r .0, r .1, r .2, h, r .4)
 
 -- an edge before the first group's first edge
-module _ (e f : Edge) (rest : List Edge) (more : List Group) (fe : Fits (e .key)) (fp : Fits (e .partner)) (fl : e .log < 2 ^ 64)
+module _ (e f : Edge) (rest : List Edge) (more : List Group) (fe : IdFits (e .key)) (fp : IdFits (e .partner)) (fl : e .log < 2 ^ 64)
     (old : Grouped 0 (record { key = f .key; edges = f ∷ rest } ∷ more)) where
-  join-new : numberOf (e .key) < numberOf (f .key) → Grouped 0 (join e (record { key = f .key; edges = f ∷ rest } ∷ more))
+  join-new : idNumber (e .key) < idNumber (f .key) → Grouped 0 (join e (record { key = f .key; edges = f ∷ rest } ∷ more))
   unfolding Grouped Run join
   join-new h =
-      rw (ne-eqb (numberOf (e .key)) (numberOf (f .key)) (λ q. omega arith))
+      rw (ne-eqb (idNumber (e .key)) (idNumber (f .key)) (λ q. omega arith))
       (omega arith, fe, (λ z. omega arith), (refl, fp, fl, omega arith, tt), (h, old .1, old .2, old .3, old .4))
 
-  join-same : numberOf (e .key) ≡ numberOf (f .key) → numberOf (e .partner) < numberOf (f .partner) → Grouped 0 (join e (record { key = f .key; edges = f ∷ rest } ∷ more))
+  join-same : idNumber (e .key) ≡ idNumber (f .key) → idNumber (e .partner) < idNumber (f .partner) → Grouped 0 (join e (record { key = f .key; edges = f ∷ rest } ∷ more))
   unfolding Grouped Run join
   join-same q h =
       let k : f .key ≡ e .key = sym (number-inj (e .key) (f .key) fe (old .1) q) in
-      let r : Run (e .key) (suc (numberOf (e .partner))) (f ∷ rest) = raise (e .key) 0 (suc (numberOf (e .partner))) f rest h (subst (λ (t : Id). Run t 0 (f ∷ rest)) k (old .3)) in
-      rw (eq-eqb (numberOf (e .key)) (numberOf (f .key)) q)
-      (omega arith, fe, (λ z. omega arith), (refl, fp, fl, omega arith, r), subst (λ (t : Id). Grouped (suc (numberOf t)) more) k (old .4))
+      let r : Run (e .key) (suc (idNumber (e .partner))) (f ∷ rest) = raise (e .key) 0 (suc (idNumber (e .partner))) f rest h (subst (λ (t : Id). Run t 0 (f ∷ rest)) k (old .3)) in
+      rw (eq-eqb (idNumber (e .key)) (idNumber (f .key)) q)
+      (omega arith, fe, (λ z. omega arith), (refl, fp, fl, omega arith, r), subst (λ (t : Id). Grouped (suc (idNumber t)) more) k (old .4))
 
 pub grouped : (es : List Edge) → Ordered es → Grouped 0 (groupsOf es)
 unfolding groupsOf Ordered First Grouped Run join
@@ -95,42 +95,42 @@ grouped (e ∷ f ∷ es) o =
 
 unfoldable pub SameKey : ℕ → List Edge → Type 0
 SameKey k [] = Unit {0}
-SameKey k (e ∷ es) = (numberOf (e .key) ≡ k) × SameKey k es
+SameKey k (e ∷ es) = (idNumber (e .key) ≡ k) × SameKey k es
 
 unfoldable pub OtherKey : ℕ → List Edge → Type 0
 OtherKey k [] = Unit {0}
-OtherKey k (e ∷ es) = numberOf (e .key) ≡ k → ⊥
+OtherKey k (e ∷ es) = idNumber (e .key) ≡ k → ⊥
 
-pub same-snoc : (k : ℕ) (es : List Edge) (e : Edge) → SameKey k es → numberOf (e .key) ≡ k → SameKey k (es ++ (e ∷ []))
+pub same-snoc : (k : ℕ) (es : List Edge) (e : Edge) → SameKey k es → idNumber (e .key) ≡ k → SameKey k (es ++ (e ∷ []))
 unfolding SameKey
 same-snoc k [] e r h = (h, tt)
 same-snoc k (x ∷ es) e r h = (r .0, same-snoc k es e (r .1) h)
 
-pub groups-run : (e : Edge) (run rest : List Edge) → SameKey (numberOf (e .key)) run → OtherKey (numberOf (e .key)) rest
+pub groups-run : (e : Edge) (run rest : List Edge) → SameKey (idNumber (e .key)) run → OtherKey (idNumber (e .key)) rest
     → groupsOf (e ∷ run ++ rest) ≡ record { key = e .key; edges = e ∷ run } ∷ groupsOf rest
 unfolding groupsOf join SameKey OtherKey
 groups-run e [] [] r o = refl
 groups-run e [] (f ∷ rest) r o =
     let (fs, more, q) = join-head f (groupsOf rest) in
-    rw q (rw (ne-eqb (numberOf (e .key)) (numberOf (f .key)) (λ z. o (sym z))))
+    rw q (rw (ne-eqb (idNumber (e .key)) (idNumber (f .key)) (λ z. o (sym z))))
 groups-run e (x ∷ run) rest r o =
     let ih : groupsOf (x ∷ run ++ rest) ≡ record { key = x .key; edges = x ∷ run } ∷ groupsOf rest =
     groups-run x run rest (subst (λ (t : ℕ). SameKey t run) (sym (r .0)) (r .1)) (subst (λ (t : ℕ). OtherKey t rest) (sym (r .0)) o) in
-    ap (join e) ih ∙ (rw (eq-eqb (numberOf (e .key)) (numberOf (x .key)) (sym (r .0))))
+    ap (join e) ih ∙ (rw (eq-eqb (idNumber (e .key)) (idNumber (x .key)) (sym (r .0))))
 
 -- ---- the first group of what is left
 
 module _ (es : List Edge) (i : ℕ) where
   abbrev k : ℕ
-  k = numberOf (getD es i none .key)
+  k = idNumber (getD es i none .key)
 
-  pub same-none : SameKey (numberOf (getD es i none .key)) (take (i + 1 - (i + 1)) (drop (i + 1) es))
+  pub same-none : SameKey (idNumber (getD es i none .key)) (take (i + 1 - (i + 1)) (drop (i + 1) es))
   unfolding SameKey
   same-none = let z : i + 1 - (i + 1) ≡ 0 = omega arith in rw z tt
 
   module _ (j : ℕ) (h : i < j) where
-    pub same-more : j < length es → SameKey (numberOf (getD es i none .key)) (take (j - (i + 1)) (drop (i + 1) es)) → numberOf (getD es j none .key) ≡ numberOf (getD es i none .key)
-        → SameKey (numberOf (getD es i none .key)) (take (j + 1 - (i + 1)) (drop (i + 1) es))
+    pub same-more : j < length es → SameKey (idNumber (getD es i none .key)) (take (j - (i + 1)) (drop (i + 1) es)) → idNumber (getD es j none .key) ≡ idNumber (getD es i none .key)
+        → SameKey (idNumber (getD es i none .key)) (take (j + 1 - (i + 1)) (drop (i + 1) es))
     same-more g r e =
         let m : j + 1 - (i + 1) ≡ suc (j - (i + 1)) = omega arith in
         let n : i + 1 + (j - (i + 1)) ≡ j = omega arith in
@@ -138,7 +138,7 @@ module _ (es : List Edge) (i : ℕ) where
         let v : getD (drop (i + 1) es) (j - (i + 1)) none ≡ getD es j none = getD-drop (i + 1) es (j - (i + 1)) none ∙ ap (λ (t : ℕ). getD es t none) n in
         rw (m, take-suc (drop (i + 1) es) (j - (i + 1)) none l, v) (same-snoc k (take (j - (i + 1)) (drop (i + 1) es)) (getD es j none) r e)
 
-    pub group-end : j ≤ length es → SameKey (numberOf (getD es i none .key)) (take (j - (i + 1)) (drop (i + 1) es)) → OtherKey (numberOf (getD es i none .key)) (drop j es) → GroupEnd es i j
+    pub group-end : j ≤ length es → SameKey (idNumber (getD es i none .key)) (take (j - (i + 1)) (drop (i + 1) es)) → OtherKey (idNumber (getD es i none .key)) (drop j es) → GroupEnd es i j
     group-end g r o =
         let d : drop i es ≡ getD es i none ∷ drop (i + 1) es = drop-cons es i none (omega arith) ∙ ap (λ (t : ℕ). getD es i none ∷ drop t es) (sym (add-one i)) in
         let n : i + 1 + (j - (i + 1)) ≡ j = omega arith in
@@ -157,7 +157,7 @@ pub other-none : (es : List Edge) (k j : ℕ) → j ≡ length es → OtherKey k
 unfolding OtherKey
 other-none es k j e = rw (e, drop-length es) tt
 
-pub other-key : (es : List Edge) (k j : ℕ) → j < length es → (numberOf (getD es j none .key) ≡ k → ⊥) → OtherKey k (drop j es)
+pub other-key : (es : List Edge) (k j : ℕ) → j < length es → (idNumber (getD es j none .key) ≡ k → ⊥) → OtherKey k (drop j es)
 unfolding OtherKey
 other-key es k j h o = rw (drop-cons es j none h) o
 
@@ -173,7 +173,7 @@ pub grouped-step : (es : List Edge) (i j : ℕ) → GroupEnd es i j → Grouped 
 unfolding Grouped
 grouped-step es i j e o =
     let p : Grouped 0 (record { key = getD es i none .key; edges = take (j - i) (drop i es) } ∷ groupsOf (drop j es)) = subst (Grouped 0) (e .groups) o in
-    (p .3, lower (suc (numberOf (getD es i none .key))) (groupsOf (drop j es)) (p .4))
+    (p .3, lower (suc (idNumber (getD es i none .key))) (groupsOf (drop j es)) (p .4))
 
 pub groups-end : (es : List Edge) (i : ℕ) → i ≡ length es → groupsOf (drop i es) ≡ []
 unfolding groupsOf
@@ -190,7 +190,7 @@ count-end es i e = ap length (groups-end es i e)
 join-count : (e : Edge) (gs : List Group) → length (join e gs) ≤ suc (length gs)
 unfolding join
 join-count e [] = omega arith
-join-count e (g ∷ gs) = go (eqb (numberOf (e .key)) (numberOf (g .key)))
+join-count e (g ∷ gs) = go (eqb (idNumber (e .key)) (idNumber (g .key)))
   where
     go : (b : Bool) → length (pick b (record { key = e .key; edges = e ∷ (g .edges) } ∷ gs) (record { key = e .key; edges = e ∷ [] } ∷ g ∷ gs)) ≤ suc (suc (length gs))
     go true = omega arith

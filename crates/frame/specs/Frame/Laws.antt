@@ -19,7 +19,7 @@ use Rattle.frame.specs.declared.Row.{Row}
 use Rattle.frame.specs.declared.Range.{Range}
 use Rattle.frame.specs.Kind as kind
 use Rattle.frame.specs.Kind.Laws.{numberAt, slot-found}
-use Rattle.frame.specs.Frame.{rowAt, nextAt, rowsFrom, endFrom, countOf, rowsOf, endOf, keyCount, edgeCount, bitsOf, has, twice, sectionOf, rangeOf, nowhere, rangeGood, ranges, all, nameGood, onceGood, kindsGood, fills, tableGood, codecGood, codecs, widthGood, sizesGood, presenceGood, countsGood, flagsOf, headCheck, recordFrom, framedFrom}
+use Rattle.frame.specs.Frame.{rowAt, nextAt, rowsFrom, endFrom, entryCount, rowsOf, endOf, keyCount, edgeCount, bitsOf, has, repeated, sectionOf, rangeOf, nowhere, rangeGood, ranges, all, nameGood, onceGood, kindsGood, fills, tableGood, codecGood, codecs, widthGood, sizesGood, presenceGood, countsGood, flagsOf, headCheck, recordFrom, framedFrom}
 
 -- the magic's number is that of its bytes
 pub magic-is : leBytes 8 kind.magic ≡ kind.magicBytes
@@ -41,8 +41,8 @@ end-room (suc d) b i = omega (arith, end-room d b (nextAt b i))
 
 -- rule 9, taken apart and put together
 pub record Table (b : List ℕ) : Type 0 where
-  pub some : 1 ≤ countOf b
-  pub most : countOf b ≤ 64
+  pub some : 1 ≤ entryCount b
+  pub most : entryCount b ≤ 64
   pub filled : endOf b + 17 ≡ length b
   pub names : all nameGood (rowsOf b) ≡ true
   pub kinds : kindsGood (rowsOf b) ≡ true
@@ -50,8 +50,8 @@ pub record Table (b : List ℕ) : Type 0 where
 pub table-parts : (b : List ℕ) → tableGood b ≡ true → Table b
 unfolding tableGood
 table-parts b e =
-    let p = and-parts (leb 1 (countOf b)) _ e in
-    let q = and-parts (leb (countOf b) 64) _ (p .1) in
+    let p = and-parts (leb 1 (entryCount b)) _ e in
+    let q = and-parts (leb (entryCount b) 64) _ (p .1) in
     let r = and-parts (fills b) _ (q .1) in
     let t = and-parts (all nameGood (rowsOf b)) _ (r .1) in
     record { some = leb-true _ _ (p .0); most = leb-true _ _ (q .0); filled = eqb-true _ _ (r .0); names = t .0; kinds = t .1 }
@@ -59,11 +59,11 @@ table-parts b e =
 pub table-made : (b : List ℕ) → Table b → tableGood b ≡ true
 unfolding tableGood
 table-made b t =
-    and-both (le-leb 1 (countOf b) (t .some)) (and-both (le-leb (countOf b) 64 (t .most))
+    and-both (le-leb 1 (entryCount b) (t .some)) (and-both (le-leb (entryCount b) 64 (t .most))
     (and-both (eq-eqb (endOf b + 17) (length b) (t .filled)) (and-both (t .names) (t .kinds))))
 
 -- tables that have the same kinds that are read, as often, are good alike
-all-once : (rs ts : List Row) (qs : List kind.Kind) → ((k : ℕ) → kind.slotIn k qs < length qs → (has k ts ≡ has k rs) × (twice k ts ≡ twice k rs)) → all (onceGood ts) qs ≡ all (onceGood rs) qs
+all-once : (rs ts : List Row) (qs : List kind.Kind) → ((k : ℕ) → kind.slotIn k qs < length qs → (has k ts ≡ has k rs) × (repeated k ts ≡ repeated k rs)) → all (onceGood ts) qs ≡ all (onceGood rs) qs
 unfolding all
 all-once rs ts [] h = refl
 all-once rs ts (q ∷ qs) h =
@@ -75,14 +75,14 @@ all-once rs ts (q ∷ qs) h =
     later true n l = omega arith
     later false n l = omega arith
 
-pub kinds-alike : (rs ts : List Row) → ((k : ℕ) → kind.fixed k ≡ true → (has k ts ≡ has k rs) × (twice k ts ≡ twice k rs)) → kindsGood ts ≡ kindsGood rs
+pub kinds-alike : (rs ts : List Row) → ((k : ℕ) → kind.fixed k ≡ true → (has k ts ≡ has k rs) × (repeated k ts ≡ repeated k rs)) → kindsGood ts ≡ kindsGood rs
 unfolding kindsGood
 kinds-alike rs ts h = all-once rs ts kind.kinds (λ k l. h k (lt-ltb (kind.slotOf k) (length kind.kinds) l))
 
 -- a good table has its keys
 pub kinds-keys : (rs : List Row) → kindsGood rs ≡ true → has kind.keys rs ≡ true
 unfolding kindsGood all
-kinds-keys rs e = and-parts (not (twice kind.keys rs)) (has kind.keys rs) (and-parts (onceGood rs (kind.exactlyOnce kind.keys)) _ e .0) .1
+kinds-keys rs e = and-parts (not (repeated kind.keys rs)) (has kind.keys rs) (and-parts (onceGood rs (kind.exactlyOnce kind.keys)) _ e .0) .1
 
 -- ---- walking the table: k entries are passed, the next is at i
 
@@ -190,7 +190,7 @@ unknown-kinds k = (go (kind.fixed k) refl (eqb k 0x0100) refl, back (kind.fixed 
 -- what the rules ask a table of known kinds is the same of both: whether one is there, whether twice, and how long it is
 pub record SameKnown (rs ts : List Row) : Type 0 where
   pub there : (k : ℕ) → kind.unknown k ≡ false → has k ts ≡ has k rs
-  pub doubled : (k : ℕ) → kind.unknown k ≡ false → twice k ts ≡ twice k rs
+  pub doubled : (k : ℕ) → kind.unknown k ≡ false → repeated k ts ≡ repeated k rs
   pub len : (k : ℕ) → kind.unknown k ≡ false → sectionOf k ts .len ≡ sectionOf k rs .len
 
 fixed-known : (k : ℕ) → kind.fixed k ≡ true → kind.unknown k ≡ false
@@ -243,7 +243,7 @@ module _ (r : Row) (rs : List Row) (u : kind.unknown (r .kind) ≡ true) where
   section-skipped k h = rw (unlike k h)
 
   pub skipped : SameKnown (r ∷ rs) rs
-  unfolding has twice
+  unfolding has repeated
   skipped = record { there = λ k h. rw (unlike k h); doubled = λ k h. rw (unlike k h); len = λ k h. ap (λ (x : Range). x .len) (section-skipped k h) }
 
   -- so none to rule 9's kinds

@@ -5,29 +5,30 @@ use mathlib.Core.List.{List}
 use mathlib.Core.Bool.{true, false}
 use lib.ListN.{length, getD}
 use Rattle.base.specs.Over.{part, length-part}
+use Rattle.base.specs.Bytes.{Bytes}
 use Rattle.refusal.specs.declared.Check.{Check}
 use Rattle.batch.specs.declared.Edge.{Edge}
-use Rattle.batch.specs.Batch.{headingOf, edgesOf, batchCheck, countOf}
+use Rattle.batch.specs.Batch.{headingOf, edgesOf, batchCheck, recordCount}
 use Rattle.batch_groups.specs.Groups.{groupsOf, Grouped}
 use Rattle.batch_groups.specs.Groups.Laws.{grouped}
 use Rattle.batch_groups.specs.Order.{edges-count, batch-ordered, fine-long}
-use Rattle.write_source.specs.Source.{edgesIn}
+use Rattle.write_source.specs.Source.{sourceEdges}
 use Rattle.write_source.specs.Source.Laws.{in-first}
 use Rattle.write_plan.specs.declared.Plan.{Plan}
 use Rattle.write_plan.specs.declared.Counted.{Counted}
 use Rattle.write_plan.specs.Parts.{length-file}
-use Rattle.write_plan.specs.Bounds.{Fits, Measured, tooMany, few, fits-measured, many-measured}
+use Rattle.write_plan.specs.Bounds.{PlanFits, Measured, tooMany, few, fits-measured, many-measured}
 use Rattle.write_file.specs.Written.{fileIn}
 use Rattle.write_file.specs.Written.Laws.{needed-many, needed-done}
 use borrow.Author.Needs.{needs}
 use Rattle.write_file.proofs.needed_fine.Statement.{statement}
 use Rattle.write_file.proofs.needed_fine.Tie as tie
 
-module _ (s : List ℕ) (b : (j : ℕ) → getD s j 0 < 2 ^ 8) (f : batchCheck s ≡ Check.Fine) where
-  edges-are : edgesIn 0 s s ≡ edgesOf s
+module _ (s : List ℕ) (b : Bytes s) (f : batchCheck s ≡ Check.Fine) where
+  edges-are : sourceEdges 0 s s ≡ edgesOf s
   edges-are = in-first 0 s s refl
 
-  ready : (countOf s ≡ length (edgesIn 0 s s)) × Grouped 0 (groupsOf (edgesIn 0 s s))
+  ready : (recordCount s ≡ length (sourceEdges 0 s s)) × Grouped 0 (groupsOf (sourceEdges 0 s s))
   ready = (
     sym (edges-count s) ∙ ap length (sym edges-are),
     subst (λ (t : List Edge). Grouped 0 (groupsOf t)) (sym edges-are) (grouped (edgesOf s) (batch-ordered s b f)),
@@ -36,13 +37,13 @@ module _ (s : List ℕ) (b : (j : ℕ) → getD s j 0 < 2 ^ 8) (f : batchCheck s
   ids-long : length (part s 2 50) ≡ 48
   ids-long = length-part s 2 50 (fine-long s f)
 
-  many : Measured (edgesIn 0 s s) Counted.TooMany → tooMany (headingOf s) (edgesOf s) ≡ true
+  many : Measured (sourceEdges 0 s s) Counted.TooMany → tooMany (headingOf s) (edgesOf s) ≡ true
   unfolding headingOf
-  many m = ap (tooMany (headingOf s)) (sym edges-are) ∙ many-measured (edgesIn 0 s s) m (headingOf s) ids-long
+  many m = ap (tooMany (headingOf s)) (sym edges-are) ∙ many-measured (sourceEdges 0 s s) m (headingOf s) ids-long
 
-  module _ (p : Plan) (m : Measured (edgesIn 0 s s) (Counted.Fits p)) where
-    fits : Fits (edgesOf s) p
-    fits = subst (λ (t : List Edge). Fits t p) edges-are (fits-measured (edgesIn 0 s s) p m)
+  module _ (p : Plan) (m : Measured (sourceEdges 0 s s) (Counted.PlanFits p)) where
+    fits : PlanFits (edgesOf s) p
+    fits = subst (λ (t : List Edge). PlanFits t p) edges-are (fits-measured (sourceEdges 0 s s) p m)
 
     size : p .bytes ≡ length (fileIn s)
     unfolding headingOf
@@ -77,7 +78,7 @@ returns : tie.Need-returns
 returns c = let a = c .before .before .before .before .args in needed-many (a .batch .now) (c .before .before .before .before .pre) (many (a .batch .now) (λ j. omega (arith, c .before .before .before .shared-slice-known .given j)) (c .before .before .before .before .pre) (subst (Measured _) (c .enum-told .given .1) (c .before .before .measure .ensures)))
 
 returns-2 : tie.Need-returns-2
-returns-2 c = let a = c .before .before .before .before .before .args in let m = subst (Measured (edgesIn 0 (a .batch .now) (a .batch .now))) (c .before .plan .given .1) (c .before .before .before .measure .ensures) in needed-done (a .batch .now) (c .before .before .before .before .before .pre) (within (a .batch .now) (λ j. omega (arith, c .before .before .before .before .shared-slice-known .given j)) (c .before .before .before .before .before .pre) _ m) _ (size (a .batch .now) (λ j. omega (arith, c .before .before .before .before .shared-slice-known .given j)) (c .before .before .before .before .before .pre) _ m)
+returns-2 c = let a = c .before .before .before .before .before .args in let m = subst (Measured (sourceEdges 0 (a .batch .now) (a .batch .now))) (c .before .plan .given .1) (c .before .before .before .measure .ensures) in needed-done (a .batch .now) (c .before .before .before .before .before .pre) (within (a .batch .now) (λ j. omega (arith, c .before .before .before .before .shared-slice-known .given j)) (c .before .before .before .before .before .pre) _ m) _ (size (a .batch .now) (λ j. omega (arith, c .before .before .before .before .shared-slice-known .given j)) (c .before .before .before .before .before .pre) _ m)
 
 pub needed-fine-spec : {M : Type 1} → statement M
 needed-fine-spec =

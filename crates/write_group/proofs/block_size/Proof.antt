@@ -4,15 +4,16 @@ use native.Mathlib.Omega.{arith}
 use mathlib.Core.List.{List}
 use mathlib.Core.Bool.{Bool, true, false}
 use lib.ListN.{length}
+use Rattle.batch.specs.Batch.{partnersIn}
 use Rattle.base.specs.Pick.{pick}
 use Rattle.base.specs.Over.{part}
 use Rattle.codes.specs.declared.ids.Id.{Id}
 use Rattle.codes.specs.Varint.{varBytes}
 use Rattle.codes.specs.Varint.Laws.{varBytes-length}
 use Rattle.batch.specs.declared.Edge.{Edge}
-use Rattle.write_image.specs.Image.{partnersIn, splitCost, denseBy, isDense, groupBytes}
+use Rattle.write_image.specs.Image.{splitCost, denseBy, isDense, groupBytes}
 use Rattle.write_image.specs.Image.Laws.{length-partners-in, cost-most, dense-is, length-group}
-use Rattle.write_source.specs.Source.{edgesIn}
+use Rattle.write_source.specs.Source.{sourceEdges}
 use borrow.Author.Needs.{needs}
 use Rattle.write_group.proofs.block_size.Statement.{statement}
 use Rattle.write_group.proofs.block_size.Tie as tie
@@ -67,16 +68,16 @@ mul-t13 : tie.Need-mul-t13
 mul-t13 c = search needs
 
 add-t14 : tie.Need-add-t14
-add-t14 c = let a = c .before .before .before .before .before .before .args in let h = head-most (edgesIn (a .kind) (a .a .now) (a .b .now)) (a .i) (a .j) (a .keys) _ _ (c .before .before .before .before .before .before .pre .1) (c .before .before .before .split-cost .ensures) (c .before .before .varint-len .ensures) in omega arith
+add-t14 c = let a = c .before .before .before .before .before .before .args in let h = head-most (sourceEdges (a .kind) (a .a .now) (a .b .now)) (a .i) (a .j) (a .keys) _ _ (c .before .before .before .before .before .before .pre .1) (c .before .before .before .split-cost .ensures) (c .before .before .varint-len .ensures) in omega arith
 
 returns : tie.Need-returns
-returns c = let a = c .before .before .before .before .before .before .args in size-dense (edgesIn (a .kind) (a .a .now) (a .b .now)) (a .i) (a .j) (a .keys) _ _ (c .before .before .before .before .before .before .pre .1) (c .before .before .before .split-cost .ensures) (c .before .before .varint-len .ensures) (sym (c .before .dense-by .ensures) ∙ c .if1 .taken)
+returns c = let a = c .before .before .before .before .before .before .args in size-dense (sourceEdges (a .kind) (a .a .now) (a .b .now)) (a .i) (a .j) (a .keys) _ _ (c .before .before .before .before .before .before .pre .1) (c .before .before .before .split-cost .ensures) (c .before .before .varint-len .ensures) (sym (c .before .dense-by .ensures) ∙ c .if1 .taken)
 
 add-t10 : tie.Need-add-t10
-add-t10 c = let a = c .before .before .before .before .before .before .args in let h = head-most (edgesIn (a .kind) (a .a .now) (a .b .now)) (a .i) (a .j) (a .keys) _ _ (c .before .before .before .before .before .before .pre .1) (c .before .before .before .split-cost .ensures) (c .before .before .varint-len .ensures) in let f = cost-fits (edgesIn (a .kind) (a .a .now) (a .b .now)) (a .i) (a .j) (a .keys) _ _ (c .before .before .before .before .before .before .pre .1) (c .before .before .before .split-cost .ensures) (c .before .before .varint-len .ensures) in omega arith
+add-t10 c = let a = c .before .before .before .before .before .before .args in let h = head-most (sourceEdges (a .kind) (a .a .now) (a .b .now)) (a .i) (a .j) (a .keys) _ _ (c .before .before .before .before .before .before .pre .1) (c .before .before .before .split-cost .ensures) (c .before .before .varint-len .ensures) in let f = cost-fits (sourceEdges (a .kind) (a .a .now) (a .b .now)) (a .i) (a .j) (a .keys) _ _ (c .before .before .before .before .before .before .pre .1) (c .before .before .before .split-cost .ensures) (c .before .before .varint-len .ensures) in omega arith
 
 returns-2 : tie.Need-returns-2
-returns-2 c = let a = c .before .before .before .before .before .before .args in size-split (edgesIn (a .kind) (a .a .now) (a .b .now)) (a .i) (a .j) (a .keys) _ _ (c .before .before .before .before .before .before .pre .1) (c .before .before .before .split-cost .ensures) (c .before .before .varint-len .ensures) (sym (c .before .dense-by .ensures) ∙ c .if1 .left)
+returns-2 c = let a = c .before .before .before .before .before .before .args in size-split (sourceEdges (a .kind) (a .a .now) (a .b .now)) (a .i) (a .j) (a .keys) _ _ (c .before .before .before .before .before .before .pre .1) (c .before .before .before .split-cost .ensures) (c .before .before .varint-len .ensures) (sym (c .before .dense-by .ensures) ∙ c .if1 .left)
 
 pub block-size-spec : {M : Type 1} → statement M
 block-size-spec =

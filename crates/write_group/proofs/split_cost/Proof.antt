@@ -4,13 +4,14 @@ use native.Mathlib.Nat.{zero-add}
 use native.Mathlib.Omega.{arith}
 use mathlib.Core.List.{List}
 use lib.ListN.{length, getD}
+use Rattle.batch.specs.Batch.{partnersIn}
 use Rattle.base.specs.Over.{part}
 use Rattle.codes.specs.Varint.{varBytes}
 use Rattle.batch.specs.declared.Edge.{Edge}
 use Rattle.batch_groups.specs.Groups.{none}
-use Rattle.write_image.specs.Image.{partnersIn, splitCost}
+use Rattle.write_image.specs.Image.{splitCost}
 use Rattle.write_image.specs.Image.Laws.{Rise, partner-first, rise-first, partners-out, length-partners-in, cost-none, cost-on, cost-most}
-use Rattle.write_source.specs.Source.{edgesIn}
+use Rattle.write_source.specs.Source.{sourceEdges}
 use Rattle.write_group.proofs.split_cost.Statement.{statement}
 use Rattle.write_group.proofs.split_cost.Tie as tie
 
@@ -46,7 +47,7 @@ module _ (es : List Edge) (i j k hi cost : ℕ) (h : Head es i j k hi cost) (m :
       omega arith
 
 abbrev Inv-loop : tie.InvT-loop
-Inv-loop kind a b i j k₀ hi₀ cost₀ k hi cost = Head (edgesIn kind a b) i j k hi cost
+Inv-loop kind a b i j k₀ hi₀ cost₀ k hi cost = Head (sourceEdges kind a b) i j k hi cost
 
 abbrev μ-loop : tie.MeasureT-loop
 μ-loop kind a b i j k₀ hi₀ cost₀ k hi cost = j - k
@@ -61,7 +62,7 @@ sub-varint-len : tie.Need-sub-varint-len Inv-loop μ-loop
 sub-varint-len c =
     let a = c .before .before .before .before .before .before .args in
     let l = c .before .before .before .loop in
-    let es = edgesIn (a .kind) (a .a .now) (a .b .now) in
+    let es = sourceEdges (a .kind) (a .a .now) (a .b .now) in
     up es (a .i) (a .j) (l .k) (l .hi) (l .cost) (l .inv) (c .before .before .before .before .before .before .pre .1) (omega arith) _ (c .before .edge-of .ensures) .0
 
 varint-len-requires : tie.Need-varint-len-requires Inv-loop μ-loop
@@ -71,14 +72,14 @@ add-cost : tie.Need-add-cost Inv-loop μ-loop
 add-cost c =
     let a = c .before .before .before .before .before .before .before .args in
     let l = c .before .before .before .before .loop in
-    let es = edgesIn (a .kind) (a .a .now) (a .b .now) in
+    let es = sourceEdges (a .kind) (a .a .now) (a .b .now) in
     let f = fits es (a .i) (a .j) (l .k) (l .hi) (l .cost) (l .inv) (c .before .before .before .before .before .before .before .pre .1) (omega arith) _ (c .before .before .edge-of .ensures) _ (c .varint-len .ensures) in omega arith
 
 add-cost-2 : tie.Need-add-cost-2 Inv-loop μ-loop
 add-cost-2 c =
     let a = c .before .before .before .before .before .before .before .args in
     let l = c .before .before .before .before .loop in
-    let es = edgesIn (a .kind) (a .a .now) (a .b .now) in
+    let es = sourceEdges (a .kind) (a .a .now) (a .b .now) in
     let f = fits es (a .i) (a .j) (l .k) (l .hi) (l .cost) (l .inv) (c .before .before .before .before .before .before .before .pre .1) (omega arith) _ (c .before .before .edge-of .ensures) _ (c .varint-len .ensures) in omega arith
 
 add-k : tie.Need-add-k Inv-loop μ-loop
@@ -91,14 +92,14 @@ loop-again : tie.Need-loop-again Inv-loop μ-loop
 loop-again c =
     let a = c .before .before .before .before .before .before .before .args in
     let l = c .before .before .before .before .loop in
-    let es = edgesIn (a .kind) (a .a .now) (a .b .now) in
+    let es = sourceEdges (a .kind) (a .a .now) (a .b .now) in
     again es (a .i) (a .j) (l .k) (l .hi) (l .cost) (l .inv) (c .before .before .before .before .before .before .before .pre .1) (omega arith) _ (c .before .before .edge-of .ensures) _ (c .varint-len .ensures)
 
 returns : tie.Need-returns Inv-loop μ-loop
 returns c =
     let a = c .before .before .before .before .args in
     let l = c .before .loop in
-    let es = edgesIn (a .kind) (a .a .now) (a .b .now) in
+    let es = sourceEdges (a .kind) (a .a .now) (a .b .now) in
     let u = l .inv .upto in done es (a .i) (a .j) (l .k) (l .hi) (l .cost) (l .inv) (c .before .before .before .before .pre .1) (omega arith)
 
 pub split-cost-spec : {M : Type 1} → statement M

@@ -11,12 +11,13 @@ use lib.ListN.{length, getD, take, drop, length-append, length-drop, drop-of-len
 use lib.Seq.{drop-cons, drop-length, drop-drop, take-nil}
 use lib.Dec.{ltb, leb}
 use borrow.Author.Tests.{lt-ltb, le-ltb, le-leb, lt-leb}
+use Rattle.batch.specs.Batch.{partnersIn, logsIn, marksIn}
 use Rattle.base.specs.Pick.{pick}
 use Rattle.base.specs.Over.{part, length-part}
 use Rattle.codes.specs.declared.ids.Id.{Id}
 use Rattle.codes.specs.Little.{leBytes}
 use Rattle.codes.specs.Little.Laws.{length-leBytes}
-use Rattle.codes.specs.Ids.{idBytes, numberOf}
+use Rattle.codes.specs.Ids.{idBytes, idNumber}
 use Rattle.codes.specs.Ids.Laws.{length-idBytes}
 use Rattle.codes.specs.Varint.{varBytes}
 use Rattle.codes.specs.Varint.Laws.{varBytes-length}
@@ -27,7 +28,7 @@ use Rattle.group.specs.Written.{Halves, Above, splitFrom, payloadOf, writtenAs,
 use Rattle.batch.specs.declared.Edge.{Edge}
 use Rattle.batch_groups.specs.Groups.{none, Group, groupsOf, GroupEnd, Run, Grouped}
 use Rattle.batch_groups.specs.Groups.Laws.{grouped-step, groups-end}
-use Rattle.write_image.specs.Image.{partnersIn, logsIn, marksIn, keysIn, anyDead, splitCost, denseBy, isDense, groupBytes, bytesIn, anyDense, keyBytes, numbers, partnerBytes, startsFrom, offsetBytes, widthOf, logBytes, bit, octet, octets, tombBytes, stride, fenceBytes, fencesFrom, fenceCount, fencesOf}
+use Rattle.write_image.specs.Image.{keysIn, anyDead, splitCost, denseBy, isDense, groupBytes, bytesIn, anyDense, keyBytes, numbers, partnerBytes, startsFrom, offsetBytes, widthOf, logBytes, bit, octet, octets, tombBytes, stride, fenceBytes, fenceKeysFrom, fenceCount, fencesOf}
 
 -- ---- a part of the edges, one edge further
 
@@ -80,13 +81,13 @@ rise-of : (ps : List Id) (hi floor : ℕ) → hi * 2 ^ 64 ≤ floor → Halves p
 unfolding Rise Halves Above
 rise-of [] hi floor l h a = tt
 rise-of (p ∷ ps) hi floor l h a =
-    (upper-from hi (p .hi) (p .lo) floor l (a .0) (h .1), rise-of ps (p .hi) (suc (numberOf p)) (omega arith) (h .2) (a .1))
+    (upper-from hi (p .hi) (p .lo) floor l (a .0) (h .1), rise-of ps (p .hi) (suc (idNumber p)) (omega arith) (h .2) (a .1))
 
 pub run-partners : (k : Id) (floor : ℕ) (es : List Edge) → Run k floor es → Halves (partnersIn es) × Above floor (partnersIn es)
 unfolding Run Halves Above partnersIn
 run-partners k floor [] r = (tt, tt)
 run-partners k floor (e ∷ es) r =
-    let ih = run-partners k (suc (numberOf (e .partner))) es (r .4) in ((r .1 .0, r .1 .1, ih .0), (r .3, ih .1))
+    let ih = run-partners k (suc (idNumber (e .partner))) es (r .4) in ((r .1 .0, r .1 .1, ih .0), (r .3, ih .1))
 
 pub run-rises : (k : Id) (es : List Edge) → Run k 0 es → Rise 0 (partnersIn es)
 run-rises k es r = let h = run-partners k 0 es r in rise-of (partnersIn es) 0 0 (omega arith) (h .0) (h .1)
@@ -314,15 +315,15 @@ length-fence k i =
     let b = length-leBytes 8 (kind.keySize * (i * stride)) in
     length-append (idBytes k) (leBytes 8 (kind.keySize * (i * stride))) ∙ omega arith
 
-pub fences-step : (ks : List Id) (m i : ℕ) → i < m → fencesFrom (m - i) ks i ≡ fenceBytes (getD ks (i * stride) (none .key)) i ++ fencesFrom (m - (i + 1)) ks (i + 1)
-unfolding fencesFrom
-fences-step ks m i h = let n : m - i ≡ suc (m - (i + 1)) = omega arith in ap (λ (t : ℕ). fencesFrom t ks i) n
+pub fences-step : (ks : List Id) (m i : ℕ) → i < m → fenceKeysFrom (m - i) ks i ≡ fenceBytes (getD ks (i * stride) (none .key)) i ++ fenceKeysFrom (m - (i + 1)) ks (i + 1)
+unfolding fenceKeysFrom
+fences-step ks m i h = let n : m - i ≡ suc (m - (i + 1)) = omega arith in ap (λ (t : ℕ). fenceKeysFrom t ks i) n
 
-pub fences-end : (ks : List Id) (m i : ℕ) → m ≤ i → fencesFrom (m - i) ks i ≡ []
-unfolding fencesFrom
+pub fences-end : (ks : List Id) (m i : ℕ) → m ≤ i → fenceKeysFrom (m - i) ks i ≡ []
+unfolding fenceKeysFrom
 fences-end ks m i h = let z : m - i ≡ 0 = omega arith in rw z
 
-pub fences-are : (ks : List Id) → fencesOf ks ≡ leBytes 4 stride ++ (leBytes 4 (fenceCount (length ks)) ++ fencesFrom (fenceCount (length ks)) ks 0)
+pub fences-are : (ks : List Id) → fencesOf ks ≡ leBytes 4 stride ++ (leBytes 4 (fenceCount (length ks)) ++ fenceKeysFrom (fenceCount (length ks)) ks 0)
 unfolding fencesOf
 fences-are ks = refl
 
@@ -359,8 +360,8 @@ unfolding logsIn
 length-logsIn [] = refl
 length-logsIn (e ∷ es) = ap suc (length-logsIn es)
 
-pub length-logs : (es : List Edge) → length (logBytes es) ≡ length es * 8
-length-logs es = length-numbers 8 (logsIn es) ∙ ap (λ (t : ℕ). t * 8) (length-logsIn es)
+pub length-logBytes : (es : List Edge) → length (logBytes es) ≡ length es * 8
+length-logBytes es = length-numbers 8 (logsIn es) ∙ ap (λ (t : ℕ). t * 8) (length-logsIn es)
 
 length-octets : (m : ℕ) (ds : List Bool) → length (octets m ds) ≡ m
 unfolding octets
@@ -370,13 +371,13 @@ length-octets (suc m) ds = ap suc (length-octets m (drop 8 ds))
 pub length-tombs : (es : List Edge) → length (tombBytes es) ≡ (length es + 7) / 8
 length-tombs es = length-octets ((length es + 7) / 8) (marksIn es)
 
-length-fencesFrom : (m : ℕ) (ks : List Id) (i : ℕ) → length (fencesFrom m ks i) ≡ 24 * m
-unfolding fencesFrom
+length-fencesFrom : (m : ℕ) (ks : List Id) (i : ℕ) → length (fenceKeysFrom m ks i) ≡ 24 * m
+unfolding fenceKeysFrom
 length-fencesFrom zero ks i = refl
 length-fencesFrom (suc m) ks i =
     let a = length-fence (getD ks (i * stride) (none .key)) i in
     let b = length-fencesFrom m ks (i + 1) in
-    length-append (fenceBytes (getD ks (i * stride) (none .key)) i) (fencesFrom m ks (i + 1)) ∙ omega arith
+    length-append (fenceBytes (getD ks (i * stride) (none .key)) i) (fenceKeysFrom m ks (i + 1)) ∙ omega arith
 
 pub length-fences : (ks : List Id) → length (fencesOf ks) ≡ 8 + 24 * fenceCount (length ks)
 length-fences ks =
@@ -385,8 +386,8 @@ length-fences ks =
     let b = length-leBytes 4 m in
     let c = length-fencesFrom m ks 0 in
     ap length (fences-are ks)
-    ∙ length-append (leBytes 4 stride) (leBytes 4 m ++ fencesFrom m ks 0)
-    ∙ ap (λ (t : ℕ). length (leBytes 4 stride) + t) (length-append (leBytes 4 m) (fencesFrom m ks 0))
+    ∙ length-append (leBytes 4 stride) (leBytes 4 m ++ fenceKeysFrom m ks 0)
+    ∙ ap (λ (t : ℕ). length (leBytes 4 stride) + t) (length-append (leBytes 4 m) (fenceKeysFrom m ks 0))
     ∙ omega arith
 
 pub width-small : (size : ℕ) → size < 2 ^ 24 → widthOf size ≡ 3

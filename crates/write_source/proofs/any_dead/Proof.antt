@@ -8,7 +8,7 @@ use Rattle.batch.specs.declared.Edge.{Edge}
 use Rattle.batch_groups.specs.Groups.{none}
 use Rattle.write_image.specs.Image.{anyDead}
 use Rattle.write_image.specs.Image.Laws.{dead-step, dead-end}
-use Rattle.write_source.specs.Source.{edgesIn}
+use Rattle.write_source.specs.Source.{sourceEdges}
 use Rattle.write_source.proofs.any_dead.Statement.{statement}
 use Rattle.write_source.proofs.any_dead.Tie as tie
 
@@ -23,7 +23,7 @@ module _ (es : List Edge) (k : ℕ) (x : Bool) (e : x ≡ getD es k none .dead) 
   live t = rw t at first
 
 abbrev Inv-loop : tie.InvT-loop
-Inv-loop kind a b n k₀ k = (k ≤ n) × (anyDead (drop k (edgesIn kind a b)) ≡ anyDead (edgesIn kind a b))
+Inv-loop kind a b n k₀ k = (k ≤ n) × (anyDead (drop k (sourceEdges kind a b)) ≡ anyDead (sourceEdges kind a b))
 
 abbrev μ-loop : tie.MeasureT-loop
 μ-loop kind a b n k₀ k = n - k
@@ -38,7 +38,7 @@ returns : tie.Need-returns Inv-loop μ-loop
 returns c =
     let a = c .before .before .before .before .before .before .args in
     let l = c .before .before .before .loop in
-    let es = edgesIn (a .kind) (a .a .now) (a .b .now) in
+    let es = sourceEdges (a .kind) (a .a .now) (a .b .now) in
     dead es (l .k) _ (c .before .dead-of .ensures) (omega arith) (l .inv .1) (c .if1 .taken)
 
 add-k : tie.Need-add-k Inv-loop μ-loop
@@ -51,14 +51,14 @@ loop-again : tie.Need-loop-again Inv-loop μ-loop
 loop-again c =
     let a = c .before .before .before .before .before .before .args in
     let l = c .before .before .before .loop in
-    let es = edgesIn (a .kind) (a .a .now) (a .b .now) in
+    let es = sourceEdges (a .kind) (a .a .now) (a .b .now) in
     (omega arith, live es (l .k) _ (c .before .dead-of .ensures) (omega arith) (l .inv .1) (c .if1 .left))
 
 returns-2 : tie.Need-returns-2 Inv-loop μ-loop
 returns-2 c =
     let a = c .before .before .before .before .args in
     let l = c .before .loop in
-    let es = edgesIn (a .kind) (a .a .now) (a .b .now) in
+    let es = sourceEdges (a .kind) (a .a .now) (a .b .now) in
     sym (dead-end es (l .k) (omega arith)) ∙ l .inv .1
 
 pub any-dead-spec : {M : Type 1} → statement M

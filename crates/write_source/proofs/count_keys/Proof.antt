@@ -5,12 +5,12 @@ use native.Mathlib.Omega.{arith}
 use lib.ListN.{length, drop}
 use Rattle.batch_groups.specs.Groups.{groupsOf}
 use Rattle.batch_groups.specs.Groups.Laws.{group-end, count-step, count-end}
-use Rattle.write_source.specs.Source.{edgesIn}
+use Rattle.write_source.specs.Source.{sourceEdges}
 use Rattle.write_source.proofs.count_keys.Statement.{statement}
 use Rattle.write_source.proofs.count_keys.Tie as tie
 
 abbrev Inv-loop : tie.InvT-loop
-Inv-loop kind a b n i₀ keys₀ i keys = (i ≤ n) × (keys ≤ i) × (keys + length (groupsOf (drop i (edgesIn kind a b))) ≡ length (groupsOf (edgesIn kind a b)))
+Inv-loop kind a b n i₀ keys₀ i keys = (i ≤ n) × (keys ≤ i) × (keys + length (groupsOf (drop i (sourceEdges kind a b))) ≡ length (groupsOf (sourceEdges kind a b)))
 
 abbrev μ-loop : tie.MeasureT-loop
 μ-loop kind a b n i₀ keys₀ i keys = n - i
@@ -31,14 +31,14 @@ loop-again : tie.Need-loop-again Inv-loop μ-loop
 loop-again c =
     let a = c .before .before .before .before .before .args in
     let l = c .before .before .loop in
-    let es = edgesIn (a .kind) (a .a .now) (a .b .now) in
+    let es = sourceEdges (a .kind) (a .a .now) (a .b .now) in
     let g = c .group-end .ensures in let s = count-step es (l .i) _ g in (omega (arith, g .within), omega (arith, g .above), omega (arith, s))
 
 returns : tie.Need-returns Inv-loop μ-loop
 returns c =
     let a = c .before .before .before .before .args in
     let l = c .before .loop in
-    let es = edgesIn (a .kind) (a .a .now) (a .b .now) in
+    let es = sourceEdges (a .kind) (a .a .now) (a .b .now) in
     let z = count-end es (l .i) (omega arith) in omega (arith, z)
 
 pub count-keys-spec : {M : Type 1} → statement M

@@ -2,15 +2,15 @@
 use mathlib.Core.Path.{_≡_}
 use lib.Dec.{eqb}
 use Rattle.codes.specs.declared.ids.Order.{Order}
-use Rattle.codes.specs.Ids.{numberOf}
+use Rattle.codes.specs.Ids.{idNumber}
 use Rattle.index.specs.Compare.{isEqual, equal-is}
 use borrow.Author.Needs.{needs}
 use Rattle.index.proofs.fences.same.Statement.{statement}
 use Rattle.index.proofs.fences.same.Tie as tie
 
 -- the comparison answered p
-said : (c : tie.After-compare) (p : Order) → c .compare .result ≡ p → isEqual p ≡ eqb (numberOf (c .before .args .a)) (numberOf (c .before .args .b))
-said c p q = equal-is (numberOf (c .before .args .a)) (numberOf (c .before .args .b)) p (c .compare .ensures) q
+said : (c : tie.After-compare) (p : Order) → c .compare .result ≡ p → isEqual p ≡ eqb (idNumber (c .before .args .a)) (idNumber (c .before .args .b))
+said c p q = equal-is (idNumber (c .before .args .a)) (idNumber (c .before .args .b)) p (c .compare .ensures) q
 
 compare-requires : tie.Need-compare-requires
 compare-requires c κs = search needs

@@ -11,7 +11,7 @@ use Rattle.readout.proofs.edges.put_all.Reads as reads
 use Rattle.readout.proofs.edges.put_all.Lts as lts
 use Rattle.index.proofs.keys.key_at.Reads as key-at-reads
 use Rattle.index.proofs.offsets.offset_at.Reads as offset-at-reads
-use Rattle.readout.proofs.group_edges.put_group.Reads as put-group-reads
+use Rattle.readout.proofs.group_edges.put_group_edges.Reads as put-group-reads
 
 abbrev Inv-loop : tie.InvT-loop
 Inv-loop keys partners offs w n logs dead out₀ a₀ first₀ i₀ out a first i = Reading keys partners offs w logs dead n out₀ out i a first
@@ -65,8 +65,8 @@ part-put-group-end c = let l = c .before .before .before .loop in
     let e = c .before .offset-at .ensures .0 in
     omega arith
 
-put-group-requires : tie.Need-put-group-requires Inv-loop μ-loop
-put-group-requires c κs = let a = c .before .before .before .before .before .before .before .before .before .before .before .before .args in
+put-group-edges-requires : tie.Need-put-group-edges-requires Inv-loop μ-loop
+put-group-edges-requires c κs = let a = c .before .before .before .before .before .before .before .before .before .before .before .before .args in
     let l = c .before .before .before .before .before .loop in
     let r = c .before .before .before .before .before .before .before .before .before .before .before .before .pre .0 in
     let edges = r .edges in
@@ -84,7 +84,7 @@ loop-less c = let h = c .before .before .before .before .before .before .before 
 loop-again : tie.Need-loop-again Inv-loop μ-loop
 loop-again c = let a = c .before .before .before .before .before .before .before .before .before .before .before .before .before .before .before .args in
     let l = c .before .before .before .before .before .before .before .before .loop in
-    reading-on (a .keys .now) (a .partners .now) (a .offs .now) (a .w) (a .logs .now) (a .dead .now) (a .n) (a .out .now) (l .out) (l .i) (l .a) (l .first) (l .inv) (omega arith) (c .before .before .before .before .before .before .offset-at .ensures .0) (c .before .before .before .before .before .key-at .ensures) (c .before .before .put-group .ensures .0) (c .before .before .put-group .ensures .1)
+    reading-on (a .keys .now) (a .partners .now) (a .offs .now) (a .w) (a .logs .now) (a .dead .now) (a .n) (a .out .now) (l .out) (l .i) (l .a) (l .first) (l .inv) (omega arith) (c .before .before .before .before .before .before .offset-at .ensures .0) (c .before .before .before .before .before .key-at .ensures) (c .before .before .put-group-edges .ensures .0) (c .before .before .put-group-edges .ensures .1)
 
 same-length : tie.Need-same-length Inv-loop μ-loop
 same-length c = c .before .loop .inv .left .same
@@ -107,7 +107,7 @@ put-all-spec =
     sub-put-group
     part-put-group-start
     part-put-group-end
-    put-group-requires
+    put-group-edges-requires
     add-i
     loop-less
     loop-again

@@ -9,7 +9,7 @@ use Rattle.readout.proofs.group_edges.put_edges.Tie as tie
 use Rattle.readout.proofs.group_edges.put_edges.Reads as reads
 use Rattle.readout.proofs.group_edges.put_edges.Lts as lts
 use Rattle.batch.proofs.put_edge.Reads as put-edge-reads
-use Rattle.readout.proofs.group_edges.edge_of.Reads as edge-of-reads
+use Rattle.readout.proofs.group_edges.edge_with.Reads as edge-of-reads
 use Rattle.readout.proofs.group_edges.step_at.Reads as step-at-reads
 
 abbrev Inv-loop : tie.InvT-loop
@@ -30,8 +30,8 @@ enum-known-id c = search needs
 add-edge-of : tie.Need-add-edge-of Inv-loop μ-loop
 add-edge-of c = let h = c .before .before .before .before .before .loop .inv .most in omega arith
 
-edge-of-requires : tie.Need-edge-of-requires Inv-loop μ-loop
-edge-of-requires c κs = let h = c .before .before .before .before .before .loop .inv .most in (omega arith, omega arith)
+edge-with-requires : tie.Need-edge-with-requires Inv-loop μ-loop
+edge-with-requires c κs = let h = c .before .before .before .before .before .loop .inv .most in (omega arith, omega arith)
 
 add-put-edge : tie.Need-add-put-edge Inv-loop μ-loop
 add-put-edge c = let h = c .before .before .before .before .before .before .before .loop .inv .most in omega arith
@@ -56,7 +56,7 @@ loop-less c = let h = c .before .before .before .before .before .before .before 
 loop-again : tie.Need-loop-again Inv-loop μ-loop
 loop-again c = let a = c .before .before .before .before .before .before .before .before .before .before .before .before .before .before .before .args in
     let l = c .before .before .before .before .before .before .before .before .before .before .loop in
-    giving-on (a .dense) (a .g .now) (a .at) (a .d) (a .key) (a .logs .now) (a .dead .now) (a .first) (a .out .now) (l .out) (l .i) (l .k) (l .hi) (l .inv) (omega arith) _ _ (sym (c .before .before .before .before .before .before .before .before .step-at .ensures) ∙ c .before .before .before .before .before .before .id .given .1) (c .before .before .before .before .edge-of .ensures) (c .before .before .put-edge .ensures)
+    giving-on (a .dense) (a .g .now) (a .at) (a .d) (a .key) (a .logs .now) (a .dead .now) (a .first) (a .out .now) (l .out) (l .i) (l .k) (l .hi) (l .inv) (omega arith) _ _ (sym (c .before .before .before .before .before .before .before .before .step-at .ensures) ∙ c .before .before .before .before .before .before .id .given .1) (c .before .before .before .before .edge-with .ensures) (c .before .before .put-edge .ensures)
 
 enum-told : tie.Need-enum-told Inv-loop μ-loop
 enum-told c = search needs
@@ -87,7 +87,7 @@ put-edges-spec =
     step-at-requires
     enum-known-id
     add-edge-of
-    edge-of-requires
+    edge-with-requires
     add-put-edge
     mul-put-edge
     add-put-edge-2

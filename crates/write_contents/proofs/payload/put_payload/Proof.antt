@@ -14,7 +14,7 @@ use Rattle.batch_groups.specs.Groups.{Group, groupsOf, Grouped}
 use Rattle.write_image.specs.Image.{keysIn, keyBytes, offsetBytes, partnerBytes, logBytes, tombBytes, fencesOf, fenced, sectionsBy}
 use Rattle.write_image.specs.Image.Laws.{length-keys}
 use Rattle.write_sections.specs.Ids.{idsAt}
-use Rattle.write_source.specs.Source.{edgesIn}
+use Rattle.write_source.specs.Source.{sourceEdges}
 use Rattle.write_plan.specs.Parts.{payload-parts}
 use Rattle.write_contents.specs.Payload.{keys-stand}
 use borrow.Author.Needs.{needs}
@@ -100,22 +100,22 @@ module _ (es : List Edge) (keys w : ℕ) (dead : Bool) (o : List ℕ) (at : ℕ)
         done p₄ = P.end refl (P.put left p₄)
 
 put-groups-requires : tie.Need-put-groups-requires
-put-groups-requires c κs = let a = c .before .before .before .before .args in (c .before .before .before .before .pre .0, c .before .before .before .before .pre .1, c .before .before .before .before .pre .2, c .before .before .before .before .pre .3, c .before .before .before .before .pre .4, room₀ (edgesIn (a .kind) (a .a .now) (a .b .now)) (a .keys) (a .w) (a .dead) (a .out .now) (a .at) (c .before .before .before .before .pre .2) (c .before .before .before .before .pre .4) (c .before .before .before .before .pre .5))
+put-groups-requires c κs = let a = c .before .before .before .before .args in (c .before .before .before .before .pre .0, c .before .before .before .before .pre .1, c .before .before .before .before .pre .2, c .before .before .before .before .pre .3, c .before .before .before .before .pre .4, room₀ (sourceEdges (a .kind) (a .a .now) (a .b .now)) (a .keys) (a .w) (a .dead) (a .out .now) (a .at) (c .before .before .before .before .pre .2) (c .before .before .before .before .pre .4) (c .before .before .before .before .pre .5))
 
 put-logs-requires : tie.Need-put-logs-requires
-put-logs-requires c κs = let a = c .before .before .before .before .before .before .before .before .args in (c .before .before .before .before .before .before .before .before .pre .0, room₁ (edgesIn (a .kind) (a .a .now) (a .b .now)) (a .keys) (a .w) (a .dead) (a .out .now) (a .at) (c .before .before .before .before .before .before .before .before .pre .2) (c .before .before .before .before .before .before .before .before .pre .4) (c .before .before .before .before .before .before .before .before .pre .5) (c .before .before .before .put-groups .ensures))
+put-logs-requires c κs = let a = c .before .before .before .before .before .before .before .before .args in (c .before .before .before .before .before .before .before .before .pre .0, room₁ (sourceEdges (a .kind) (a .a .now) (a .b .now)) (a .keys) (a .w) (a .dead) (a .out .now) (a .at) (c .before .before .before .before .before .before .before .before .pre .2) (c .before .before .before .before .before .before .before .before .pre .4) (c .before .before .before .before .before .before .before .before .pre .5) (c .before .before .before .put-groups .ensures))
 
 put-tombs-if-requires : tie.Need-put-tombs-if-requires
-put-tombs-if-requires c κs = let a = c .before .before .before .before .before .before .before .before .before .before .before .before .args in (c .before .before .before .before .before .before .before .before .before .before .before .before .pre .0, c .before .before .before .before .before .before .before .before .before .before .before .before .pre .1, room₂ (edgesIn (a .kind) (a .a .now) (a .b .now)) (a .keys) (a .w) (a .dead) (a .out .now) (a .at) (c .before .before .before .before .before .before .before .before .before .before .before .before .pre .2) (c .before .before .before .before .before .before .before .before .before .before .before .before .pre .4) (c .before .before .before .before .before .before .before .before .before .before .before .before .pre .5) (c .before .before .before .before .before .before .before .put-groups .ensures) (c .before .before .before .put-logs .ensures))
+put-tombs-if-requires c κs = let a = c .before .before .before .before .before .before .before .before .before .before .before .before .args in (c .before .before .before .before .before .before .before .before .before .before .before .before .pre .0, c .before .before .before .before .before .before .before .before .before .before .before .before .pre .1, room₂ (sourceEdges (a .kind) (a .a .now) (a .b .now)) (a .keys) (a .w) (a .dead) (a .out .now) (a .at) (c .before .before .before .before .before .before .before .before .before .before .before .before .pre .2) (c .before .before .before .before .before .before .before .before .before .before .before .before .pre .4) (c .before .before .before .before .before .before .before .before .before .before .before .before .pre .5) (c .before .before .before .before .before .before .before .put-groups .ensures) (c .before .before .before .put-logs .ensures))
 
 put-fences-if-requires : tie.Need-put-fences-if-requires
-put-fences-if-requires c κs = let a = c .before .before .before .before .before .before .before .before .before .before .before .before .before .before .before .before .args in (c .before .before .before .before .before .before .before .before .before .before .before .before .before .before .before .before .pre .3, keys-below (edgesIn (a .kind) (a .a .now) (a .b .now)) (a .keys) (a .w) (a .dead) (a .out .now) (a .at) (c .before .before .before .before .before .before .before .before .before .before .before .before .before .before .before .before .pre .2) (c .before .before .before .before .before .before .before .before .before .before .before .before .before .before .before .before .pre .4) (c .before .before .before .before .before .before .before .before .before .before .before .before .before .before .before .before .pre .5) (c .before .before .before .before .before .before .before .before .before .before .before .put-groups .ensures) (c .before .before .before .before .before .before .before .put-logs .ensures) (c .before .before .before .put-tombs-if .ensures), room₃ (edgesIn (a .kind) (a .a .now) (a .b .now)) (a .keys) (a .w) (a .dead) (a .out .now) (a .at) (c .before .before .before .before .before .before .before .before .before .before .before .before .before .before .before .before .pre .2) (c .before .before .before .before .before .before .before .before .before .before .before .before .before .before .before .before .pre .4) (c .before .before .before .before .before .before .before .before .before .before .before .before .before .before .before .before .pre .5) (c .before .before .before .before .before .before .before .before .before .before .before .put-groups .ensures) (c .before .before .before .before .before .before .before .put-logs .ensures) (c .before .before .before .put-tombs-if .ensures))
+put-fences-if-requires c κs = let a = c .before .before .before .before .before .before .before .before .before .before .before .before .before .before .before .before .args in (c .before .before .before .before .before .before .before .before .before .before .before .before .before .before .before .before .pre .3, keys-below (sourceEdges (a .kind) (a .a .now) (a .b .now)) (a .keys) (a .w) (a .dead) (a .out .now) (a .at) (c .before .before .before .before .before .before .before .before .before .before .before .before .before .before .before .before .pre .2) (c .before .before .before .before .before .before .before .before .before .before .before .before .before .before .before .before .pre .4) (c .before .before .before .before .before .before .before .before .before .before .before .before .before .before .before .before .pre .5) (c .before .before .before .before .before .before .before .before .before .before .before .put-groups .ensures) (c .before .before .before .before .before .before .before .put-logs .ensures) (c .before .before .before .put-tombs-if .ensures), room₃ (sourceEdges (a .kind) (a .a .now) (a .b .now)) (a .keys) (a .w) (a .dead) (a .out .now) (a .at) (c .before .before .before .before .before .before .before .before .before .before .before .before .before .before .before .before .pre .2) (c .before .before .before .before .before .before .before .before .before .before .before .before .before .before .before .before .pre .4) (c .before .before .before .before .before .before .before .before .before .before .before .before .before .before .before .before .pre .5) (c .before .before .before .before .before .before .before .before .before .before .before .put-groups .ensures) (c .before .before .before .before .before .before .before .put-logs .ensures) (c .before .before .before .put-tombs-if .ensures))
 
 same-length : tie.Need-same-length
 same-length c = search needs
 
 returns : tie.Need-returns
-returns c = let a = c .before .before .before .before .before .before .before .before .before .before .before .before .before .before .before .before .before .before .before .args in done (edgesIn (a .kind) (a .a .now) (a .b .now)) (a .keys) (a .w) (a .dead) (a .out .now) (a .at) (c .before .before .before .before .before .before .before .before .before .before .before .before .before .before .before .before .before .before .before .pre .2) (c .before .before .before .before .before .before .before .before .before .before .before .before .before .before .before .before .before .before .before .pre .4) (c .before .before .before .before .before .before .before .before .before .before .before .before .before .before .before .before .before .before .before .pre .5) (c .before .before .before .before .before .before .before .before .before .before .before .before .before .before .put-groups .ensures) (c .before .before .before .before .before .before .before .before .before .before .put-logs .ensures) (c .before .before .before .before .before .before .put-tombs-if .ensures) (c .before .before .put-fences-if .ensures)
+returns c = let a = c .before .before .before .before .before .before .before .before .before .before .before .before .before .before .before .before .before .before .before .args in done (sourceEdges (a .kind) (a .a .now) (a .b .now)) (a .keys) (a .w) (a .dead) (a .out .now) (a .at) (c .before .before .before .before .before .before .before .before .before .before .before .before .before .before .before .before .before .before .before .pre .2) (c .before .before .before .before .before .before .before .before .before .before .before .before .before .before .before .before .before .before .before .pre .4) (c .before .before .before .before .before .before .before .before .before .before .before .before .before .before .before .before .before .before .before .pre .5) (c .before .before .before .before .before .before .before .before .before .before .before .before .before .before .put-groups .ensures) (c .before .before .before .before .before .before .before .before .before .before .put-logs .ensures) (c .before .before .before .before .before .before .put-tombs-if .ensures) (c .before .before .put-fences-if .ensures)
 
 pub put-payload-spec : {M : Type 1} → statement M
 put-payload-spec =

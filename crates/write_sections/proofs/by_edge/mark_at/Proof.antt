@@ -4,11 +4,12 @@ use native.Mathlib.Omega.{arith}
 use mathlib.Core.List.{List}
 use mathlib.Core.Bool.{Bool, true, false}
 use lib.ListN.{length, getD, drop}
+use Rattle.batch.specs.Batch.{marksIn}
 use Rattle.batch.specs.declared.Edge.{Edge}
 use Rattle.batch_groups.specs.Groups.{none}
-use Rattle.write_image.specs.Image.{marksIn, bit, octet}
+use Rattle.write_image.specs.Image.{bit, octet}
 use Rattle.write_image.specs.Image.Laws.{mark-past, mark-here}
-use Rattle.write_source.specs.Source.{edgesIn}
+use Rattle.write_source.specs.Source.{sourceEdges}
 use borrow.Author.Needs.{needs}
 use Rattle.write_sections.proofs.by_edge.mark_at.Statement.{statement}
 use Rattle.write_sections.proofs.by_edge.mark_at.Tie as tie
@@ -28,16 +29,16 @@ module _ (es : List Edge) (k : ℕ) (lt : k < length es) (x : Bool) (e : x ≡ g
   live t = sym (is ∙ ap bit t)
 
 returns : tie.Need-returns
-returns c = let a = c .before .before .before .args in let es = edgesIn (a .kind) (a .a .now) (a .b .now) in sym (mark-past es (a .k) 1 (omega arith))
+returns c = let a = c .before .before .before .args in let es = sourceEdges (a .kind) (a .a .now) (a .b .now) in sym (mark-past es (a .k) 1 (omega arith))
 
 dead-of-requires : tie.Need-dead-of-requires
 dead-of-requires c κs = search needs
 
 returns-2 : tie.Need-returns-2
-returns-2 c = let a = c .before .before .before .before .before .args in let es = edgesIn (a .kind) (a .a .now) (a .b .now) in dead es (a .k) (omega arith) _ (c .before .dead-of .ensures) (c .if2 .taken)
+returns-2 c = let a = c .before .before .before .before .before .args in let es = sourceEdges (a .kind) (a .a .now) (a .b .now) in dead es (a .k) (omega arith) _ (c .before .dead-of .ensures) (c .if2 .taken)
 
 returns-3 : tie.Need-returns-3
-returns-3 c = let a = c .before .before .before .before .before .args in let es = edgesIn (a .kind) (a .a .now) (a .b .now) in live es (a .k) (omega arith) _ (c .before .dead-of .ensures) (c .if2 .left)
+returns-3 c = let a = c .before .before .before .before .before .args in let es = sourceEdges (a .kind) (a .a .now) (a .b .now) in live es (a .k) (omega arith) _ (c .before .dead-of .ensures) (c .if2 .left)
 
 pub mark-at-spec : {M : Type 1} → statement M
 mark-at-spec = tie.close (tie.spec returns dead-of-requires returns-2 returns-3)

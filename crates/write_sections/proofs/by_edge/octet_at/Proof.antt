@@ -3,10 +3,11 @@ use Prim.Native.Nat.{ℕ, suc, _+_, _-_, _*_, _^_, _≤_, _<_}
 use native.Mathlib.Omega.{arith}
 use mathlib.Core.List.{List}
 use lib.ListN.{drop}
+use Rattle.batch.specs.Batch.{marksIn}
 use Rattle.batch.specs.declared.Edge.{Edge}
-use Rattle.write_image.specs.Image.{marksIn, octet}
+use Rattle.write_image.specs.Image.{octet}
 use Rattle.write_image.specs.Image.Laws.{mark-step, octet-byte}
-use Rattle.write_source.specs.Source.{edgesIn}
+use Rattle.write_source.specs.Source.{sourceEdges}
 use Rattle.write_sections.proofs.by_edge.octet_at.Statement.{statement}
 use Rattle.write_sections.proofs.by_edge.octet_at.Tie as tie
 
@@ -46,13 +47,13 @@ unfolding octet
 begin es e = record { most = omega arith; marks = refl }
 
 abbrev Inv-loop : tie.InvT-loop
-Inv-loop kind a b n e t₀ x₀ t x = Head (edgesIn kind a b) e t x
+Inv-loop kind a b n e t₀ x₀ t x = Head (sourceEdges kind a b) e t x
 
 abbrev μ-loop : tie.MeasureT-loop
 μ-loop kind a b n e t₀ x₀ t x = t
 
 loop-holds : tie.Need-loop-holds Inv-loop μ-loop
-loop-holds c = let a = c .before .before .args in let es = edgesIn (a .kind) (a .a .now) (a .b .now) in begin es (a .e)
+loop-holds c = let a = c .before .before .args in let es = sourceEdges (a .kind) (a .a .now) (a .b .now) in begin es (a .e)
 
 sub-t : tie.Need-sub-t Inv-loop μ-loop
 sub-t c = omega arith
@@ -67,14 +68,14 @@ mul-x : tie.Need-mul-x Inv-loop μ-loop
 mul-x c =
     let a = c .before .before .before .before .before .args in
     let l = c .before .before .loop in
-    let es = edgesIn (a .kind) (a .a .now) (a .b .now) in
+    let es = sourceEdges (a .kind) (a .a .now) (a .b .now) in
     let x = byte es (a .e) (l .t) (l .x) (l .inv) in omega arith
 
 add-x : tie.Need-add-x Inv-loop μ-loop
 add-x c =
     let a = c .before .before .before .before .before .args in
     let l = c .before .before .loop in
-    let es = edgesIn (a .kind) (a .a .now) (a .b .now) in
+    let es = sourceEdges (a .kind) (a .a .now) (a .b .now) in
     let x = byte es (a .e) (l .t) (l .x) (l .inv) in let m = mark es (a .e) (l .t) (l .x) (l .inv) (omega arith) _ (c .mark-at .ensures) in omega arith
 
 loop-less : tie.Need-loop-less Inv-loop μ-loop
@@ -84,21 +85,21 @@ loop-again : tie.Need-loop-again Inv-loop μ-loop
 loop-again c =
     let a = c .before .before .before .before .before .args in
     let l = c .before .before .loop in
-    let es = edgesIn (a .kind) (a .a .now) (a .b .now) in
+    let es = sourceEdges (a .kind) (a .a .now) (a .b .now) in
     again es (a .e) (l .t) (l .x) (l .inv) (omega arith) _ (c .mark-at .ensures)
 
 cast-result : tie.Need-cast-result Inv-loop μ-loop
 cast-result c =
     let a = c .before .before .before .before .args in
     let l = c .before .loop in
-    let es = edgesIn (a .kind) (a .a .now) (a .b .now) in
+    let es = sourceEdges (a .kind) (a .a .now) (a .b .now) in
     let x = byte es (a .e) (l .t) (l .x) (l .inv) in omega arith
 
 returns : tie.Need-returns Inv-loop μ-loop
 returns c =
     let a = c .before .before .before .before .args in
     let l = c .before .loop in
-    let es = edgesIn (a .kind) (a .a .now) (a .b .now) in
+    let es = sourceEdges (a .kind) (a .a .now) (a .b .now) in
     done es (a .e) (l .t) (l .x) (l .inv) (omega arith)
 
 pub octet-at-spec : {M : Type 1} → statement M

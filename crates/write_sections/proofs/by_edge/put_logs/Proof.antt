@@ -12,7 +12,7 @@ use Rattle.batch.specs.declared.Edge.{Edge}
 use Rattle.batch_groups.specs.Groups.{none}
 use Rattle.write_image.specs.Image.{logBytes}
 use Rattle.write_image.specs.Image.Laws.{logs-step, logs-end}
-use Rattle.write_source.specs.Source.{edgesIn}
+use Rattle.write_source.specs.Source.{sourceEdges}
 use Rattle.write_sections.proofs.by_edge.put_logs.Statement.{statement}
 use Rattle.write_sections.proofs.by_edge.put_logs.Tie as tie
 
@@ -37,7 +37,7 @@ module _ (es : List Edge) (n : ℕ) (o : List ℕ) (at : ℕ) (out : List ℕ) (
   done z = P.end (logs-end es k z) (h .left)
 
 abbrev Inv-loop : tie.InvT-loop
-Inv-loop kind a b n out₀ at k₀ to₀ out k to = Head (edgesIn kind a b) n out₀ at out k to
+Inv-loop kind a b n out₀ at k₀ to₀ out k to = Head (sourceEdges kind a b) n out₀ at out k to
 
 abbrev μ-loop : tie.MeasureT-loop
 μ-loop kind a b n out₀ at k₀ to₀ out k to = n - k
@@ -52,14 +52,14 @@ put-le-requires : tie.Need-put-le-requires Inv-loop μ-loop
 put-le-requires c κs =
     let a = c .before .before .before .before .before .before .before .args in
     let l = c .before .before .before .loop in
-    let es = edgesIn (a .kind) (a .a .now) (a .b .now) in
+    let es = sourceEdges (a .kind) (a .a .now) (a .b .now) in
     room es (a .n) (a .out .now) (a .at) (l .out) (l .k) (l .to) (l .inv) (omega arith) _ (c .before .log-of .ensures) (c .before .before .before .before .before .before .before .pre .1)
 
 add-to : tie.Need-add-to Inv-loop μ-loop
 add-to c =
     let a = c .before .before .before .before .before .before .before .before .before .before .args in
     let l = c .before .before .before .before .before .before .loop in
-    let es = edgesIn (a .kind) (a .a .now) (a .b .now) in
+    let es = sourceEdges (a .kind) (a .a .now) (a .b .now) in
     let r = room es (a .n) (a .out .now) (a .at) (l .out) (l .k) (l .to) (l .inv) (omega arith) _ (c .before .before .before .before .log-of .ensures) (c .before .before .before .before .before .before .before .before .before .before .pre .1) in omega arith
 
 add-k : tie.Need-add-k Inv-loop μ-loop
@@ -72,7 +72,7 @@ loop-again : tie.Need-loop-again Inv-loop μ-loop
 loop-again c =
     let a = c .before .before .before .before .before .before .before .before .before .before .args in
     let l = c .before .before .before .before .before .before .loop in
-    let es = edgesIn (a .kind) (a .a .now) (a .b .now) in
+    let es = sourceEdges (a .kind) (a .a .now) (a .b .now) in
     again es (a .n) (a .out .now) (a .at) (l .out) (l .k) (l .to) (l .inv) (omega arith) _ (c .before .before .before .before .log-of .ensures) (omega arith) (c .before .before .put-le .ensures)
 
 same-length : tie.Need-same-length Inv-loop μ-loop
@@ -82,7 +82,7 @@ returns : tie.Need-returns Inv-loop μ-loop
 returns c =
     let a = c .before .before .before .before .before .args in
     let l = c .before .loop in
-    let es = edgesIn (a .kind) (a .a .now) (a .b .now) in
+    let es = sourceEdges (a .kind) (a .a .now) (a .b .now) in
     let u = l .inv .upto in done es (a .n) (a .out .now) (a .at) (l .out) (l .k) (l .to) (l .inv) (omega arith)
 
 pub put-logs-spec : {M : Type 1} → statement M

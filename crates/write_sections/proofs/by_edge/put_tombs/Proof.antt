@@ -4,12 +4,13 @@ use native.Mathlib.Nat.{sub-zero}
 use native.Mathlib.Omega.{arith}
 use mathlib.Core.List.{List, [], _∷_, _++_}
 use lib.ListN.{length, drop, set}
+use Rattle.batch.specs.Batch.{marksIn}
 use Rattle.base.specs.Put as P
 use Rattle.base.specs.Put.{Put, Left}
 use Rattle.batch.specs.declared.Edge.{Edge}
-use Rattle.write_image.specs.Image.{marksIn, octet, octets, tombBytes}
+use Rattle.write_image.specs.Image.{octet, octets, tombBytes}
 use Rattle.write_image.specs.Image.Laws.{octets-step, octets-end}
-use Rattle.write_source.specs.Source.{edgesIn}
+use Rattle.write_source.specs.Source.{sourceEdges}
 use Rattle.write_sections.proofs.by_edge.put_tombs.Statement.{statement}
 use Rattle.write_sections.proofs.by_edge.put_tombs.Tie as tie
 
@@ -46,7 +47,7 @@ begin es m o at =
     record { upto = omega arith; left = P.is (ap (λ (t : ℕ). octets t (marksIn es)) (sym (sub-zero m))) (P.start o at (octets m (marksIn es))) }
 
 abbrev Inv-loop : tie.InvT-loop
-Inv-loop kind a b n out₀ at m i₀ to₀ out i to = Head (edgesIn kind a b) m out₀ at out i to
+Inv-loop kind a b n out₀ at m i₀ to₀ out i to = Head (sourceEdges kind a b) m out₀ at out i to
 
 abbrev μ-loop : tie.MeasureT-loop
 μ-loop kind a b n out₀ at m i₀ to₀ out i to = m - i
@@ -55,7 +56,7 @@ add-m : tie.Need-add-m Inv-loop μ-loop
 add-m c = omega arith
 
 loop-holds : tie.Need-loop-holds Inv-loop μ-loop
-loop-holds c = let a = c .before .before .before .args in let es = edgesIn (a .kind) (a .a .now) (a .b .now) in begin es _ (a .out .now) (a .at)
+loop-holds c = let a = c .before .before .before .args in let es = sourceEdges (a .kind) (a .a .now) (a .b .now) in begin es _ (a .out .now) (a .at)
 
 mul-octet-at : tie.Need-mul-octet-at Inv-loop μ-loop
 mul-octet-at c = omega arith
@@ -67,14 +68,14 @@ slice-write-out : tie.Need-slice-write-out Inv-loop μ-loop
 slice-write-out c =
     let a = c .before .before .before .before .before .before .args in
     let l = c .before .before .loop in
-    let es = edgesIn (a .kind) (a .a .now) (a .b .now) in
+    let es = sourceEdges (a .kind) (a .a .now) (a .b .now) in
     let r = room es _ (a .out .now) (a .at) (l .out) (l .i) (l .to) (l .inv) (omega arith) _ (c .octet-at .ensures) (ap (λ (t : ℕ). (t + 7) / 8) (c .before .before .before .before .before .before .pre .0)) (c .before .before .before .before .before .before .pre .2) in omega arith
 
 add-to : tie.Need-add-to Inv-loop μ-loop
 add-to c =
     let a = c .before .before .before .before .before .before .args in
     let l = c .before .before .loop in
-    let es = edgesIn (a .kind) (a .a .now) (a .b .now) in
+    let es = sourceEdges (a .kind) (a .a .now) (a .b .now) in
     let r = room es _ (a .out .now) (a .at) (l .out) (l .i) (l .to) (l .inv) (omega arith) _ (c .octet-at .ensures) (ap (λ (t : ℕ). (t + 7) / 8) (c .before .before .before .before .before .before .pre .0)) (c .before .before .before .before .before .before .pre .2) in omega arith
 
 add-i : tie.Need-add-i Inv-loop μ-loop
@@ -87,7 +88,7 @@ loop-again : tie.Need-loop-again Inv-loop μ-loop
 loop-again c =
     let a = c .before .before .before .before .before .before .args in
     let l = c .before .before .loop in
-    let es = edgesIn (a .kind) (a .a .now) (a .b .now) in
+    let es = sourceEdges (a .kind) (a .a .now) (a .b .now) in
     again es _ (a .out .now) (a .at) (l .out) (l .i) (l .to) (l .inv) (omega arith) _ (c .octet-at .ensures)
 
 same-length : tie.Need-same-length Inv-loop μ-loop
@@ -97,7 +98,7 @@ returns : tie.Need-returns Inv-loop μ-loop
 returns c =
     let a = c .before .before .before .before .before .args in
     let l = c .before .loop in
-    let es = edgesIn (a .kind) (a .a .now) (a .b .now) in
+    let es = sourceEdges (a .kind) (a .a .now) (a .b .now) in
     let u = l .inv .upto in done es _ (a .out .now) (a .at) (l .out) (l .i) (l .to) (l .inv) (omega arith) (ap (λ (t : ℕ). (t + 7) / 8) (c .before .before .before .before .before .pre .0))
 
 pub put-tombs-spec : {M : Type 1} → statement M

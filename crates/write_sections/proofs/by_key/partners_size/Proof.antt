@@ -5,13 +5,14 @@ use native.Mathlib.Omega.{arith}
 use mathlib.Core.List.{List}
 use mathlib.Core.Bool.{Bool, true, false, _||_}
 use lib.ListN.{length, drop, length-append}
+use Rattle.batch.specs.Batch.{partnersIn}
 use Rattle.base.specs.Over.{part}
 use Rattle.batch.specs.declared.Edge.{Edge}
 use Rattle.batch_groups.specs.Groups.{Group, groupsOf, GroupEnd, Grouped}
 use Rattle.batch_groups.specs.Groups.Laws.{grouped-step}
-use Rattle.write_image.specs.Image.{partnersIn, isDense, groupBytes, anyDense, partnerBytes}
+use Rattle.write_image.specs.Image.{isDense, groupBytes, anyDense, partnerBytes}
 use Rattle.write_image.specs.Image.Laws.{rises, partners-step, partners-end, any-step, any-end}
-use Rattle.write_source.specs.Source.{edgesIn}
+use Rattle.write_source.specs.Source.{sourceEdges}
 use Rattle.write_sections.proofs.by_key.partners_size.Statement.{statement}
 use Rattle.write_sections.proofs.by_key.partners_size.Tie as tie
 
@@ -62,7 +63,7 @@ module _ (es : List Edge) (n keys i bytes : ℕ) (dense : Bool) (h : Head es n k
       (omega arith, sym (or-none dense) ∙ ap (λ (b : Bool). dense || b) (sym (any-end es i z keys)) ∙ h .some, omega arith)
 
 abbrev Inv-loop : tie.InvT-loop
-Inv-loop kind a b n keys i₀ bytes₀ dense₀ i bytes dense = Head (edgesIn kind a b) n keys i bytes dense
+Inv-loop kind a b n keys i₀ bytes₀ dense₀ i bytes dense = Head (sourceEdges kind a b) n keys i bytes dense
 
 abbrev μ-loop : tie.MeasureT-loop
 μ-loop kind a b n keys i₀ bytes₀ dense₀ i bytes dense = n - i
@@ -77,7 +78,7 @@ block-size-requires : tie.Need-block-size-requires Inv-loop μ-loop
 block-size-requires c κs =
     let a = c .before .before .before .before .before .args in
     let l = c .before .before .loop in
-    let es = edgesIn (a .kind) (a .a .now) (a .b .now) in
+    let es = sourceEdges (a .kind) (a .a .now) (a .b .now) in
     let g = c .group-end .ensures in (omega (arith, g .above), g .within, omega (arith, g .within), rises es (l .i) _ g (l .inv .rest), c .before .before .before .before .before .pre .2)
 
 add-bytes : tie.Need-add-bytes Inv-loop μ-loop
@@ -93,14 +94,14 @@ loop-again : tie.Need-loop-again Inv-loop μ-loop
 loop-again c =
     let a = c .before .before .before .before .before .before .before .before .args in
     let l = c .before .before .before .before .before .loop in
-    let es = edgesIn (a .kind) (a .a .now) (a .b .now) in
+    let es = sourceEdges (a .kind) (a .a .now) (a .b .now) in
     let g = c .before .before .before .group-end .ensures in let z = c .before .before .block-size .ensures in again es (a .n) (a .keys) (l .i) (l .bytes) (l .dense) (l .inv) _ g (omega (arith, g .within)) _ _ _ (z .0) (z .1) (z .2) (c .either .ensures)
 
 returns : tie.Need-returns Inv-loop μ-loop
 returns c =
     let a = c .before .before .before .before .args in
     let l = c .before .loop in
-    let es = edgesIn (a .kind) (a .a .now) (a .b .now) in
+    let es = sourceEdges (a .kind) (a .a .now) (a .b .now) in
     let u = l .inv .upto in ended es (a .n) (a .keys) (l .i) (l .bytes) (l .dense) (l .inv) (omega arith) u
 
 pub partners-size-spec : {M : Type 1} → statement M

@@ -5,6 +5,7 @@ use mathlib.Core.List.{List}
 use mathlib.Core.Bool.{Bool}
 use lib.ListN.{length}
 use lib.Seq.{sets}
+use Rattle.batch.specs.Batch.{partnersIn}
 use Rattle.base.specs.Over.{part}
 use Rattle.base.specs.Put.{Put}
 use Rattle.codes.specs.declared.ids.Id.{Id}
@@ -12,9 +13,9 @@ use Rattle.codes.specs.Little.{leBytes}
 use Rattle.codes.specs.Ids.{idBytes}
 use Rattle.batch.specs.declared.Edge.{Edge}
 use Rattle.group.specs.Written.{writtenAs}
-use Rattle.write_image.specs.Image.{partnersIn, isDense, groupBytes}
+use Rattle.write_image.specs.Image.{isDense, groupBytes}
 use Rattle.write_image.specs.Image.Laws.{group-is}
-use Rattle.write_source.specs.Source.{edgesIn}
+use Rattle.write_source.specs.Source.{sourceEdges}
 use borrow.Author.Needs.{needs}
 use Rattle.write_sections.proofs.by_key.put_group.Statement.{statement}
 use Rattle.write_sections.proofs.by_key.put_group.Tie as tie
@@ -39,7 +40,7 @@ block-size-requires : tie.Need-block-size-requires
 block-size-requires c κs = (omega arith, c .before .before .before .before .before .before .before .before .before .before .before .before .before .pre .1, c .before .before .before .before .before .before .before .before .before .before .before .before .before .pre .2, c .before .before .before .before .before .before .before .before .before .before .before .before .before .pre .4, c .before .before .before .before .before .before .before .before .before .before .before .before .before .pre .3)
 
 put-block-requires : tie.Need-put-block-requires
-put-block-requires c κs = let a = c .before .before .before .before .before .before .before .before .before .before .before .before .before .before .before .args in let es = edgesIn (a .kind) (a .a .now) (a .b .now) in
+put-block-requires c κs = let a = c .before .before .before .before .before .before .before .before .before .before .before .before .before .before .before .args in let es = sourceEdges (a .kind) (a .a .now) (a .b .now) in
     let ps = partnersIn (part es (a .i) (a .j)) in
     let w = ap length (written (a .keys) ps _ (c .before .block-size .ensures .0)) in
     (omega arith, c .before .before .before .before .before .before .before .before .before .before .before .before .before .before .before .pre .1, c .before .before .before .before .before .before .before .before .before .before .before .before .before .before .before .pre .4, omega (arith, w, c .before .before .before .before .before .before .before .before .before .before .before .before .before .before .before .pre .7))
@@ -48,7 +49,7 @@ same-length : tie.Need-same-length
 same-length c = search needs
 
 returns : tie.Need-returns
-returns c = let a = c .before .before .before .before .before .before .before .before .before .before .before .before .before .before .before .before .before .before .args in let es = edgesIn (a .kind) (a .a .now) (a .b .now) in
+returns c = let a = c .before .before .before .before .before .before .before .before .before .before .before .before .before .before .before .before .before .before .args in let es = sourceEdges (a .kind) (a .a .now) (a .b .now) in
     let ps = partnersIn (part es (a .i) (a .j)) in
     let q = done (a .keys) ps _ (c .before .before .before .before .block-size .ensures .0) (c .before .before .put-block .ensures) in
     let key = ap (λ (t : Edge). idBytes (t .key)) (c .before .before .before .before .before .before .before .before .before .before .before .before .before .before .edge-of .ensures) in

@@ -1,20 +1,20 @@
--- `readout::group_edges::put_group` meets its contract: the head of a good group says how its payload is read.
+-- `readout::group_edges::put_group_edges` meets its contract: the head of a good group says how its payload is read.
 use mathlib.Core.Path.{_≡_, sym, ap, _∙_}
 use Prim.Native.Nat.{ℕ, _+_}
 use mathlib.Core.List.{List}
 use mathlib.Core.Bool.{true, false}
 use lib.Seq.{sets}
 use Rattle.batch.specs.Batch.{place, recordsOf}
-use Rattle.group.specs.Group.{Partners, partnersOf}
+use Rattle.group.specs.Group.{Decoded, partnersOf}
 use Rattle.group.specs.Group.Laws.{group-bad, not-bad}
 use Rattle.group.specs.Good.{Fill, fill}
 use Rattle.readout.specs.Edges.{edgesFrom}
 use native.Mathlib.Omega.{arith}
 use borrow.Author.Needs.{needs}
-use Rattle.readout.proofs.group_edges.put_group.Statement.{statement}
-use Rattle.readout.proofs.group_edges.put_group.Tie as tie
-use Rattle.readout.proofs.group_edges.put_group.Reads as reads
-use Rattle.readout.proofs.group_edges.put_group.Lts as lts
+use Rattle.readout.proofs.group_edges.put_group_edges.Statement.{statement}
+use Rattle.readout.proofs.group_edges.put_group_edges.Tie as tie
+use Rattle.readout.proofs.group_edges.put_group_edges.Reads as reads
+use Rattle.readout.proofs.group_edges.put_group_edges.Lts as lts
 use Rattle.group.proofs.head.head_of.Reads as head-of-reads
 use Rattle.readout.proofs.group_edges.put_edges.Reads as put-edges-reads
 
@@ -66,7 +66,7 @@ same-length c = search needs
 returns : tie.Need-returns
 returns c = let a = c .before .before .before .before .before .before .before .before .before .before .before .before .args in
     let f = split (c .before .before .before .before) in
-    (ap (λ (t : ℕ). a .first + t) (sym (f .count)), c .before .before .put-edges .ensures ∙ ap (λ (t : Partners). sets (a .out .now) (place (a .first)) (recordsOf (edgesFrom (a .logs .now) (a .dead .now) (a .key) (a .first) (partnersOf t)))) (sym (f .walk)))
+    (ap (λ (t : ℕ). a .first + t) (sym (f .count)), c .before .before .put-edges .ensures ∙ ap (λ (t : Decoded). sets (a .out .now) (place (a .first)) (recordsOf (edgesFrom (a .logs .now) (a .dead .now) (a .key) (a .first) (partnersOf t)))) (sym (f .walk)))
 
 same-length-2 : tie.Need-same-length-2
 same-length-2 c = search needs
@@ -74,13 +74,13 @@ same-length-2 c = search needs
 returns-2 : tie.Need-returns-2
 returns-2 c = let a = c .before .before .before .before .before .before .before .before .before .before .before .before .args in
     let f = dense (c .before .before .before .before) in
-    (ap (λ (t : ℕ). a .first + t) (sym (f .count)), c .before .before .put-edges2 .ensures ∙ ap (λ (t : Partners). sets (a .out .now) (place (a .first)) (recordsOf (edgesFrom (a .logs .now) (a .dead .now) (a .key) (a .first) (partnersOf t)))) (sym (f .walk)))
+    (ap (λ (t : ℕ). a .first + t) (sym (f .count)), c .before .before .put-edges2 .ensures ∙ ap (λ (t : Decoded). sets (a .out .now) (place (a .first)) (recordsOf (edgesFrom (a .logs .now) (a .dead .now) (a .key) (a .first) (partnersOf t)))) (sym (f .walk)))
 
 returns-3 : tie.Need-returns-3
 returns-3 c = absurd (not-bad (c .before .before .before .before .before .before .before .pre .0) (group-bad (c .before .before .before .before .before .before .before .args .g .now) _ (sym (c .before .before .head-of .ensures) ∙ c .enum-told .given .1)))
 
-pub put-group-spec : {M : Type 1} → statement M
-put-group-spec =
+pub put-group-edges-spec : {M : Type 1} → statement M
+put-group-edges-spec =
     tie.close
     (tie.spec
     head-of-requires

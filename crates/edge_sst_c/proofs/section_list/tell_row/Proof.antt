@@ -1,12 +1,12 @@
--- `edge_sst_c::section_list::put_row` meets its contract.
+-- `edge_sst_c::section_list::tell_row` meets its contract.
 use lib.ListN.{length-set}
 use Rattle.edge_sst_c.specs.SectionList.{seven}
 use native.Mathlib.Omega.{arith}
 use borrow.Author.Needs.{needs}
-use Rattle.edge_sst_c.proofs.section_list.put_row.Statement.{statement}
-use Rattle.edge_sst_c.proofs.section_list.put_row.Tie as tie
-use Rattle.edge_sst_c.proofs.section_list.put_row.Reads as reads
-use Rattle.edge_sst_c.proofs.section_list.put_row.Lts as lts
+use Rattle.edge_sst_c.proofs.section_list.tell_row.Statement.{statement}
+use Rattle.edge_sst_c.proofs.section_list.tell_row.Tie as tie
+use Rattle.edge_sst_c.proofs.section_list.tell_row.Reads as reads
+use Rattle.edge_sst_c.proofs.section_list.tell_row.Lts as lts
 
 cast-out : tie.Need-cast-out
 cast-out c = search needs
@@ -83,8 +83,8 @@ same-length c = search needs
 returns : tie.Need-returns
 returns c = let a = c .before .before .before .args in seven (a .out .now) (a .at) _ _ _ _ _ _ _
 
-pub put-row-spec : {M : Type 1} → statement M
-put-row-spec =
+pub tell-row-spec : {M : Type 1} → statement M
+tell-row-spec =
     tie.close
     (tie.spec
     cast-out

@@ -1,9 +1,9 @@
--- `group::above` meets its contract: the upper halves decide, and where they are equal the lower.
+-- `group::rises` meets its contract: the upper halves decide, and where they are equal the lower.
 use mathlib.Core.Path.{sym}
 use native.Mathlib.Nat.{le-antisymm}
 use Rattle.codes.specs.Ids.Laws.{above-upper, above-under, above-lower}
-use Rattle.group.proofs.above.Statement.{statement}
-use Rattle.group.proofs.above.Tie as tie
+use Rattle.group.proofs.rises.Statement.{statement}
+use Rattle.group.proofs.rises.Tie as tie
 
 returns : tie.Need-returns
 returns c =
@@ -20,5 +20,5 @@ returns-3 c =
     let a = c .before .before .before .before .before .before .before .before .args in
     sym (above-lower (a .last) (a .id) (le-antisymm (c .before .before .if2 .left) (c .before .before .before .before .before .if1 .left)))
 
-pub above-spec : {M : Type 1} → statement M
-above-spec = tie.close (tie.spec returns returns-2 returns-3)
+pub rises-spec : {M : Type 1} → statement M
+rises-spec = tie.close (tie.spec returns returns-2 returns-3)
