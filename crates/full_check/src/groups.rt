@@ -6,6 +6,7 @@ ghost use lib.ListN.{length};
 ghost use Rattle.index.specs.Order.{OffsetsRise};
 ghost use Rattle.full_check.specs.declared.groups.Groups.{Groups};
 ghost use Rattle.full_check.specs.Full.{groupsSeen};
+use base::either;
 use group::GroupVerdict;
 use group::check_group;
 use group::fault::refusal_of;
@@ -22,15 +23,6 @@ fn refused(refusal: Refusal) -> Groups
     ensures { λ r. ⌜ r ≡ Groups.Refused refusal ⌝ }
 {
     Groups::Refused { refusal }
-}
-
-fn either(a: bool, b: bool) -> bool
-    ensures { λ r. ⌜ r ≡ (a || b) ⌝ }
-{
-    if a {
-        return true;
-    }
-    b
 }
 
 // Checks n groups by their offsets of w bytes, which rise from 0 to the partners' length.

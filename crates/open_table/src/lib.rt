@@ -11,6 +11,7 @@ ghost use Rattle.frame.specs.Kind as kind;
 ghost use Rattle.frame.specs.Frame.{rowAt, rowsOf, rangeGood, framedFrom, rowsCheck};
 ghost use Rattle.frame.specs.Open.{framing};
 ghost use Rattle.open_table.specs.Pass.{firstBad, unseen, coded, ranged, requiredSeen, framedSeen, passed};
+use base::either;
 use codes::little::le16;
 use codes::little::le64;
 use frame::Framed;
@@ -84,15 +85,6 @@ fn first_bad(bad: u64, good: bool, k: u64) -> u64
         return Bounds::SECTIONS;
     }
     k
-}
-
-fn either(a: bool, b: bool) -> bool
-    ensures { λ r. ⌜ r ≡ (a || b) ⌝ }
-{
-    if a {
-        return true;
-    }
-    b
 }
 
 // A kind that is read has no name, and stands there once.

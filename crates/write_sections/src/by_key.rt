@@ -14,6 +14,7 @@ ghost use Rattle.batch_groups.specs.Groups.{none, groupsOf, Grouped};
 ghost use Rattle.write_image.specs.Image.{groupBytes, anyDense, keyBytes, offsetBytes, partnerBytes};
 ghost use Rattle.write_image.specs.Image.Laws.{Rise};
 ghost use Rattle.write_source.specs.Source.{sourceEdges};
+use base::either;
 use codes::ids::put_id;
 use codes::little::put_le;
 use write_group::block_size;
@@ -25,12 +26,6 @@ use write_source::group_end;
 pub struct Total {
     pub bytes: usize,
     pub dense: bool,
-}
-
-fn either(a: bool, b: bool) -> bool
-    ensures { λ r. ⌜ r ≡ (a || b) ⌝ }
-{
-    a || b
 }
 
 pub fn partners_size(kind: u8, a: &[u8], b: &[u8], n: usize, keys: usize) -> Total

@@ -10,6 +10,7 @@ ghost use Rattle.write_source.specs.Source.{sourceEdges};
 use batch::Edge;
 use batch::edge_at;
 use codes::ids::Id;
+use codes::ids::same_id;
 use codes::little::le64;
 
 // Edge e.
@@ -43,18 +44,6 @@ pub fn dead_of(kind: u8, a: &[u8], b: &[u8], e: usize) -> bool
         return a[Edge::HEAD + Edge::RECORD * e] == Edge::DEAD;
     }
     b[Edge::HEAD + Edge::RECORD * e] == Edge::DEAD
-}
-
-fn same_id(a: Id, b: Id) -> bool
-    ensures { λ r. ⌜ r ≡ eqb (idNumber a) (idNumber b) ⌝ }
-{
-    if a.hi != b.hi {
-        return false;
-    }
-    if a.lo != b.lo {
-        return false;
-    }
-    true
 }
 
 // The edge after the group that begins at edge i, of n edges.

@@ -33,8 +33,8 @@ unfolding rowsFrom
 length-rows zero b i = refl
 length-rows (suc d) b i = ap suc (length-rows d b (nextAt b i))
 
--- an entry has 28 bytes at least
-pub end-room : (d : ℕ) (b : List ℕ) (i : ℕ) → i + 28 * d ≤ endFrom d b i
+-- an entry without its name is the least that there is
+pub end-room : (d : ℕ) (b : List ℕ) (i : ℕ) → i + kind.entrySize * d ≤ endFrom d b i
 unfolding endFrom
 end-room zero b i = omega arith
 end-room (suc d) b i = omega (arith, end-room d b (nextAt b i))
@@ -42,8 +42,8 @@ end-room (suc d) b i = omega (arith, end-room d b (nextAt b i))
 -- rule 9, taken apart and put together
 pub record Table (b : List ℕ) : Type 0 where
   pub some : 1 ≤ entryCount b
-  pub most : entryCount b ≤ 64
-  pub filled : endOf b + 17 ≡ length b
+  pub most : entryCount b ≤ kind.mostSections
+  pub filled : endOf b + kind.countsSize ≡ length b
   pub names : all nameGood (rowsOf b) ≡ true
   pub kinds : kindsGood (rowsOf b) ≡ true
 
@@ -51,7 +51,7 @@ pub table-parts : (b : List ℕ) → tableGood b ≡ true → Table b
 unfolding tableGood
 table-parts b e =
     let p = and-parts (leb 1 (entryCount b)) _ e in
-    let q = and-parts (leb (entryCount b) 64) _ (p .1) in
+    let q = and-parts (leb (entryCount b) kind.mostSections) _ (p .1) in
     let r = and-parts (fills b) _ (q .1) in
     let t = and-parts (all nameGood (rowsOf b)) _ (r .1) in
     record { some = leb-true _ _ (p .0); most = leb-true _ _ (q .0); filled = eqb-true _ _ (r .0); names = t .0; kinds = t .1 }
@@ -59,8 +59,8 @@ table-parts b e =
 pub table-made : (b : List ℕ) → Table b → tableGood b ≡ true
 unfolding tableGood
 table-made b t =
-    and-both (le-leb 1 (entryCount b) (t .some)) (and-both (le-leb (entryCount b) 64 (t .most))
-    (and-both (eq-eqb (endOf b + 17) (length b) (t .filled)) (and-both (t .names) (t .kinds))))
+    and-both (le-leb 1 (entryCount b) (t .some)) (and-both (le-leb (entryCount b) kind.mostSections (t .most))
+    (and-both (eq-eqb (endOf b + kind.countsSize) (length b) (t .filled)) (and-both (t .names) (t .kinds))))
 
 -- tables that have the same kinds that are read, as often, are good alike
 all-once : (rs ts : List Row) (qs : List kind.Kind) → ((k : ℕ) → kind.slotIn k qs < length qs → (has k ts ≡ has k rs) × (repeated k ts ≡ repeated k rs)) → all (onceGood ts) qs ≡ all (onceGood rs) qs
@@ -87,15 +87,15 @@ kinds-keys rs e = and-parts (not (repeated kind.keys rs)) (has kind.keys rs) (an
 -- ---- walking the table: k entries are passed, the next is at i
 
 module _ (b : List ℕ) (count i k : ℕ) (lt : k < count) where
-  pub rows-on : (r : Row) → r ≡ rowAt b i → rowsFrom (count - k) b i ≡ r ∷ rowsFrom (count - (k + 1)) b (i + 28 + r .namelen)
+  pub rows-on : (r : Row) → r ≡ rowAt b i → rowsFrom (count - k) b i ≡ r ∷ rowsFrom (count - (k + 1)) b (i + kind.entrySize + r .namelen)
   unfolding rowsFrom rowAt
   rows-on r e = let d : count - k ≡ suc (count - (k + 1)) = omega arith in rw (d, e)
 
-  pub end-on : (r : Row) → r ≡ rowAt b i → endFrom (count - k) b i ≡ endFrom (count - (k + 1)) b (i + 28 + r .namelen)
+  pub end-on : (r : Row) → r ≡ rowAt b i → endFrom (count - k) b i ≡ endFrom (count - (k + 1)) b (i + kind.entrySize + r .namelen)
   unfolding endFrom rowAt
   end-on r e = let d : count - k ≡ suc (count - (k + 1)) = omega arith in rw (d, e)
 
-  pub row-room : i + 28 ≤ endFrom (count - k) b i
+  pub row-room : i + kind.entrySize ≤ endFrom (count - k) b i
   row-room = omega (arith, end-room (count - k) b i)
 
 pub rows-none : (b : List ℕ) (count i k : ℕ) → count ≤ k → rowsFrom (count - k) b i ≡ []
@@ -262,7 +262,7 @@ module _ (r : Row) (rs : List Row) (u : kind.unknown (r .kind) ≡ true) where
 
 -- two headers that differ in the minor version at most
 abbrev pub ButMinor : List ℕ → List ℕ → Type 0
-ButMinor g h = (i : ℕ) → i < 64 → (i ≡ 9 → ⊥) → getD g i 0 ≡ getD h i 0
+ButMinor g h = (i : ℕ) → i < kind.headerSize → (i ≡ 9 → ⊥) → getD g i 0 ≡ getD h i 0
 
 module _ (g h : List ℕ) (same : ButMinor g h) where
   pub flags-minor : flagsOf g ≡ flagsOf h

@@ -84,7 +84,7 @@ module _ (es : List Edge) (n keys w : ℕ) (start : List ℕ) (at base : ℕ) wh
           omega arith
 
       done : {out′ : List ℕ} → out′ ≡ sets out o (leBytes w (p - base)) → Put start out′ at p all
-      done f = T.last ended f
+      done f = T.last-of-three ended f
 
 module _ (es : List Edge) (n keys w : ℕ) (start : List ℕ) (at o base : ℕ) (k : keys ≡ length (groupsOf es)) where
   lengths : (length (keyBytes (groupsOf es)) ≡ 16 * keys) × (length (offsetBytes w keys 0 (groupsOf es)) ≡ (keys + 1) * w)
