@@ -3,7 +3,7 @@ ghost use mathlib.Core.Path.{_≡_};
 ghost use Prim.Native.Nat.{_+_, _≤_};
 ghost use lib.ListN.{length};
 ghost use Rattle.frame.specs.Kind as kind;
-ghost use Rattle.reader.specs.declared.rows.Section.{SectionAt};
+ghost use Rattle.reader.specs.declared.rows.SectionAt.{SectionAt};
 ghost use Rattle.reader.specs.Rows.{moved, rowIn, rowOf};
 use codes::little::byte;
 use codes::little::le16;
