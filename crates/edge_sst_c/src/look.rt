@@ -6,8 +6,8 @@ ghost use lib.Dec.{ltb};
 ghost use Rattle.base.specs.Pick.{pick};
 ghost use Rattle.codes.specs.Ids.{idAt};
 ghost use Rattle.lookup.specs.Lookup.{lookOf, lookWith};
-ghost use Rattle.lookup.specs.Calls.{alone, lent};
-ghost use Rattle.edge_sst_c.specs.Look.{lookedTold, refusedTold, byteOr, recordLent, PartnersTold, EdgesTold};
+ghost use Rattle.lookup.specs.Calls.{alone};
+ghost use Rattle.edge_sst_c.specs.Look.{lookedTold, refusedTold, byteOr, recordLent, PartnersTold, EdgesToldBy};
 ghost use Rattle.refusal.specs.Refusal.{numberOf, placeOf, besideOf};
 use super::EdgeSstOpened;
 use frame::Opened;
@@ -151,7 +151,7 @@ pub extern "C" fn edge_sst_lookup_with(
     logs: &mut [u64],
     marks: &mut [u8],
 ) -> EdgeSstLooked
-    ensures { λ r. ⌜ EdgesTold (lookWith true (lent (length (now (out .entry))) (length (now (logs .entry))) (length (now (marks .entry)))) (idAt (now (key .entry)) 0) (now (file .entry)) (recordLent (now (o .entry)))) r (now (out .entry)) (now (out .exit)) (now (logs .entry)) (now (logs .exit)) (now (marks .entry)) (now (marks .exit)) ⌝ }
+    ensures { λ r. ⌜ EdgesToldBy (λ rooms. lookWith true rooms (idAt (now (key .entry)) 0) (now (file .entry)) (recordLent (now (o .entry)))) r (now (out .entry)) (now (out .exit)) (now (logs .entry)) (now (logs .exit)) (now (marks .entry)) (now (marks .exit)) ⌝ }
 {
     looked_told(lookup_with(file, record_from(o), key, out, logs, marks))
 }
@@ -165,7 +165,7 @@ pub extern "C" fn edge_sst_lookup(
     logs: &mut [u64],
     marks: &mut [u8],
 ) -> EdgeSstLooked
-    ensures { λ r. ⌜ EdgesTold (lookOf true (lent (length (now (out .entry))) (length (now (logs .entry))) (length (now (marks .entry)))) (idAt (now (key .entry)) 0) (now (file .entry))) r (now (out .entry)) (now (out .exit)) (now (logs .entry)) (now (logs .exit)) (now (marks .entry)) (now (marks .exit)) ⌝ }
+    ensures { λ r. ⌜ EdgesToldBy (λ rooms. lookOf true rooms (idAt (now (key .entry)) 0) (now (file .entry))) r (now (out .entry)) (now (out .exit)) (now (logs .entry)) (now (logs .exit)) (now (marks .entry)) (now (marks .exit)) ⌝ }
 {
     looked_told(lookup(file, key, out, logs, marks))
 }

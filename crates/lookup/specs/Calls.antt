@@ -223,6 +223,10 @@ pub record Whole (x : Outcome) (r : Looked) (o out l logs m marks : List ℕ) : 
   pub numbers : logs ≡ logsLeft x l
   pub dead : marks ≡ marksLeft x m
 
+-- the same of a lookup whose rooms are the outputs' own lengths
+abbrev pub WholeBy : (Rooms → Outcome) → Looked → List ℕ → List ℕ → List ℕ → List ℕ → List ℕ → List ℕ → Type 0
+WholeBy look r o out l logs m marks = Whole (look (lent (length o) (length l) (length m))) r o out l logs m marks
+
 pub whole-absent : (x : Outcome) (c : ℕ) (o l m : List ℕ) → x ≡ absent c → Whole x (Looked.Absent c) o o l l m m
 unfolding lookedOf partnersLeft logsLeft marksLeft
 whole-absent x c o l m e = record {

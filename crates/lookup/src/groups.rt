@@ -4,6 +4,7 @@ ghost use Prim.Native.Nat.{_+_, _*_, _/_, _≤_, _<_};
 ghost use lib.ListN.{length};
 ghost use Rattle.base.specs.Over.{part, over};
 ghost use Rattle.frame.specs.Open.{bytesAt, offsetAt};
+ghost use Rattle.degrees.specs.Degrees.{groupAt};
 ghost use Rattle.group.specs.Group.{groupOf, partnersOf, bytesOf};
 ghost use Rattle.lookup.specs.declared.groups.GroupSeen.{GroupSeen};
 ghost use Rattle.lookup.specs.Groups.{groupSeen, Fills};
@@ -67,7 +68,7 @@ fn fill_part(partners: &[u8], a: usize, e: usize, out: &mut [u8])
 // Writes the partners of group i of a record, which is good.
 pub fn give_partners(file: &[u8], o: Opened, i: u64, out: &mut [u8])
     requires { ⌜ Holds (now file) o × (i < o .keycount) × Fills (bytesAt (now file) (o .partners)) (offsetAt (bytesAt (now file) (o .offsets)) (o .bits / 8) i) (offsetAt (bytesAt (now file) (o .offsets)) (o .bits / 8) (i + 1)) (length (now out)) ⌝ }
-    ensures { λ _. ⌜ now (out .exit) ≡ over (bytesOf (partnersOf (groupOf (part (bytesAt (now (file .entry)) (o .partners)) (offsetAt (bytesAt (now (file .entry)) (o .offsets)) (o .bits / 8) i) (offsetAt (bytesAt (now (file .entry)) (o .offsets)) (o .bits / 8) (i + 1)))))) (now (out .entry)) ⌝ }
+    ensures { λ _. ⌜ now (out .exit) ≡ over (bytesOf (partnersOf (groupOf (groupAt (bytesAt (now (file .entry)) (o .partners)) (bytesAt (now (file .entry)) (o .offsets)) (o .bits / 8) i)))) (now (out .entry)) ⌝ }
 {
     let partners = o.partners;
     let a = offset_of(file, o, i);

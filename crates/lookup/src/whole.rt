@@ -13,7 +13,7 @@ ghost use Rattle.group.specs.Group.{bytesOf};
 ghost use Rattle.lookup.specs.declared.Looked.{Looked};
 ghost use Rattle.lookup.specs.declared.groups.GroupSeen.{GroupSeen};
 ghost use Rattle.lookup.specs.Lookup.{partnersAt, logsFrom, marksFrom, short, lookGroup, lookIn};
-ghost use Rattle.lookup.specs.Calls.{lent, group, Whole};
+ghost use Rattle.lookup.specs.Calls.{group, WholeBy};
 ghost use Rattle.lookup.specs.Groups.{Fills};
 ghost use Rattle.lookup.specs.Record.{Holds};
 use super::Looked;
@@ -95,7 +95,7 @@ fn group_edges(
     marks: &mut [u8],
 ) -> Looked
     requires { ⌜ Holds (now file) o × (i < o .keycount) × (group (now file) o i ≡ GroupSeen.Good degree) ⌝ }
-    ensures { λ r. ⌜ Whole (lookGroup true (lent (length (now (out .entry))) (length (now (logs .entry))) (length (now (marks .entry)))) (knownOf (now (file .entry)) o) i compared) r (now (out .entry)) (now (out .exit)) (now (logs .entry)) (now (logs .exit)) (now (marks .entry)) (now (marks .exit)) ⌝ }
+    ensures { λ r. ⌜ WholeBy (λ rooms. lookGroup true rooms (knownOf (now (file .entry)) o) i compared) r (now (out .entry)) (now (out .exit)) (now (logs .entry)) (now (logs .exit)) (now (marks .entry)) (now (marks .exit)) ⌝ }
 {
     match edges_of(file, o, i) {
         Sum::Bad => offset_refused(i),
@@ -128,7 +128,7 @@ pub fn edges_of_key(
     marks: &mut [u8],
 ) -> Looked
     requires { ⌜ Holds (now file) o ⌝ }
-    ensures { λ r. ⌜ Whole (lookIn true (lent (length (now (out .entry))) (length (now (logs .entry))) (length (now (marks .entry)))) (knownOf (now (file .entry)) o) (idNumber key)) r (now (out .entry)) (now (out .exit)) (now (logs .entry)) (now (logs .exit)) (now (marks .entry)) (now (marks .exit)) ⌝ }
+    ensures { λ r. ⌜ WholeBy (λ rooms. lookIn true rooms (knownOf (now (file .entry)) o) (idNumber key)) r (now (out .entry)) (now (out .exit)) (now (logs .entry)) (now (logs .exit)) (now (marks .entry)) (now (marks .exit)) ⌝ }
 {
     match locate(file, o, key) {
         Found::Absent { compared } => Looked::Absent { compared },

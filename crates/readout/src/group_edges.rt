@@ -1,12 +1,11 @@
 // The edges of one key, written as records of a batch. Edge e of the file has its record at 50 + 41 * e.
 ghost use mathlib.Core.Path.{_≡_};
-ghost use mathlib.Core.Bool.{true, false};
 ghost use Prim.Native.Nat.{_+_, _*_, _≤_};
 ghost use lib.ListN.{length};
 ghost use lib.Seq.{sets};
 ghost use Rattle.batch.specs.Batch.{place, recordsOf};
-ghost use Rattle.group.specs.Group.{stepAt, denseStep, walkFrom, groupOf, isGood, partnersOf};
-ghost use Rattle.readout.specs.Edges.{edgeOf, edgesFrom};
+ghost use Rattle.group.specs.Group.{stepAt, denseStep, walkFrom, groupOf, partnersOf};
+ghost use Rattle.readout.specs.Edges.{edgeOf, edgesFrom, Writable};
 use batch::Edge;
 use batch::put_edge;
 use codes::ids::Id;
@@ -76,7 +75,7 @@ fn put_edges(
     first: usize,
     out: &mut [u8],
 )
-    requires { ⌜ (isGood (walkFrom dense d (now g) at 0 0) ≡ true) × (first + d ≤ 67108864) × (8 * (first + d) ≤ length (now logs)) × (place first + length (recordsOf (edgesFrom (now logs) (now dead) key first (partnersOf (walkFrom dense d (now g) at 0 0)))) ≤ length (now out)) ⌝ }
+    requires { ⌜ Writable (walkFrom dense d (now g) at 0 0) d key (now logs) (now dead) first (now out) ⌝ }
     ensures { λ _. ⌜ now (out .exit) ≡ sets (now (out .entry)) (place first) (recordsOf (edgesFrom (now (logs .entry)) (now (dead .entry)) key first (partnersOf (walkFrom dense d (now (g .entry)) at 0 0)))) ⌝ }
 {
     let mut i = at;
@@ -107,7 +106,7 @@ pub fn put_group_edges(
     first: usize,
     out: &mut [u8],
 ) -> usize
-    requires { ⌜ (isGood (groupOf (now g)) ≡ true) × (first + length (partnersOf (groupOf (now g))) ≤ 67108864) × (8 * (first + length (partnersOf (groupOf (now g)))) ≤ length (now logs)) × (place first + length (recordsOf (edgesFrom (now logs) (now dead) key first (partnersOf (groupOf (now g))))) ≤ length (now out)) ⌝ }
+    requires { ⌜ Writable (groupOf (now g)) (length (partnersOf (groupOf (now g)))) key (now logs) (now dead) first (now out) ⌝ }
     ensures { λ r. ⌜ (r ≡ first + length (partnersOf (groupOf (now (g .entry))))) × (now (out .exit) ≡ sets (now (out .entry)) (place first) (recordsOf (edgesFrom (now (logs .entry)) (now (dead .entry)) key first (partnersOf (groupOf (now (g .entry))))))) ⌝ }
 {
     match head_of(g) {

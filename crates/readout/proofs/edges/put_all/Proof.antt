@@ -73,7 +73,7 @@ put-group-edges-requires c κs = let a = c .before .before .before .before .befo
     let logs = r .logbytes in
     let q = c .before .before .before .offset-at .ensures .0 in
     let few = reading-few (a .keys .now) (a .partners .now) (a .offs .now) (a .w) (a .logs .now) (a .dead .now) (a .n) (a .out .now) (l .out) (l .i) (l .a) (l .first) (l .inv) (omega arith) q in
-    (reading-good (a .keys .now) (a .partners .now) (a .offs .now) (a .w) (a .logs .now) (a .dead .now) (a .n) (a .out .now) (l .out) (l .i) (l .a) (l .first) (l .inv) (omega arith) q, omega arith, omega arith, reading-room (a .keys .now) (a .partners .now) (a .offs .now) (a .w) (a .logs .now) (a .dead .now) (a .n) (a .out .now) (l .out) (l .i) (l .a) (l .first) (l .inv) (omega arith) q (c .before .before .key-at .ensures) (c .before .before .before .before .before .before .before .before .before .before .before .before .pre .1))
+    record { good = reading-good (a .keys .now) (a .partners .now) (a .offs .now) (a .w) (a .logs .now) (a .dead .now) (a .n) (a .out .now) (l .out) (l .i) (l .a) (l .first) (l .inv) (omega arith) q; bound = omega arith; numbers = omega arith; room = reading-room (a .keys .now) (a .partners .now) (a .offs .now) (a .w) (a .logs .now) (a .dead .now) (a .n) (a .out .now) (l .out) (l .i) (l .a) (l .first) (l .inv) (omega arith) q (c .before .before .key-at .ensures) (c .before .before .before .before .before .before .before .before .before .before .before .before .pre .1) }
 
 add-i : tie.Need-add-i Inv-loop μ-loop
 add-i c = let h = c .before .before .before .before .before .before .before .before .loop .inv .most in let r = c .before .before .before .before .before .before .before .before .before .before .before .before .before .before .before .pre .0 .few in omega arith

@@ -19,7 +19,7 @@ abbrev μ-loop : tie.MeasureT-loop
 μ-loop dense g at d key logs dead first out₀ i₀ k₀ hi₀ out i k hi = d - k
 
 loop-holds : tie.Need-loop-holds Inv-loop μ-loop
-loop-holds c = let a = c .before .before .before .before .args in giving-start (a .dense) (a .g .now) (a .at) (a .d) (a .key) (a .logs .now) (a .dead .now) (a .first) (a .out .now) (c .before .before .before .before .pre .0)
+loop-holds c = let a = c .before .before .before .before .args in giving-start (a .dense) (a .g .now) (a .at) (a .d) (a .key) (a .logs .now) (a .dead .now) (a .first) (a .out .now) (c .before .before .before .before .pre .good)
 
 step-at-requires : tie.Need-step-at-requires Inv-loop μ-loop
 step-at-requires c κs = search needs
@@ -45,7 +45,7 @@ add-put-edge-2 c = let h = c .before .before .before .before .before .before .be
 put-edge-requires : tie.Need-put-edge-requires Inv-loop μ-loop
 put-edge-requires c κs = let a = c .before .before .before .before .before .before .before .before .before .before .before .before .args in
     let l = c .before .before .before .before .before .before .before .loop in
-    giving-room (a .dense) (a .g .now) (a .at) (a .d) (a .key) (a .logs .now) (a .dead .now) (a .first) (a .out .now) (l .out) (l .i) (l .k) (l .hi) (l .inv) (omega arith) _ _ (sym (c .before .before .before .before .before .step-at .ensures) ∙ c .before .before .before .id .given .1) (c .before .before .before .before .before .before .before .before .before .before .before .before .pre .3)
+    giving-room (a .dense) (a .g .now) (a .at) (a .d) (a .key) (a .logs .now) (a .dead .now) (a .first) (a .out .now) (l .out) (l .i) (l .k) (l .hi) (l .inv) (omega arith) _ _ (sym (c .before .before .before .before .before .step-at .ensures) ∙ c .before .before .before .id .given .1) (c .before .before .before .before .before .before .before .before .before .before .before .before .pre .room)
 
 add-k : tie.Need-add-k Inv-loop μ-loop
 add-k c = let h = c .before .before .before .before .before .before .before .before .before .before .loop .inv .most in omega arith

@@ -19,10 +19,10 @@ use Rattle.group.proofs.head.head_of.Reads as head-of-reads
 use Rattle.readout.proofs.group_edges.put_edges.Reads as put-edges-reads
 
 split : (p : tie.After-known-told) → Fill (p .before .before .before .before .before .before .before .before .args .g .now) false (p .before .degree .given .0 .0) (p .before .degree .given .0 .1 .0)
-split p = fill (p .before .before .before .before .before .before .before .before .args .g .now) false _ _ (sym (p .before .before .before .head-of .ensures) ∙ p .before .degree .given .1) (p .before .before .before .before .before .before .before .before .pre .0)
+split p = fill (p .before .before .before .before .before .before .before .before .args .g .now) false _ _ (sym (p .before .before .before .head-of .ensures) ∙ p .before .degree .given .1) (p .before .before .before .before .before .before .before .before .pre .good)
 
 dense : (p : tie.After-known-told2) → Fill (p .before .before .before .before .before .before .before .before .args .g .now) true (p .before .degree2 .given .0 .0) (p .before .degree2 .given .0 .1 .0)
-dense p = fill (p .before .before .before .before .before .before .before .before .args .g .now) true _ _ (sym (p .before .before .before .head-of .ensures) ∙ p .before .degree2 .given .1) (p .before .before .before .before .before .before .before .before .pre .0)
+dense p = fill (p .before .before .before .before .before .before .before .before .args .g .now) true _ _ (sym (p .before .before .before .head-of .ensures) ∙ p .before .degree2 .given .1) (p .before .before .before .before .before .before .before .before .pre .good)
 
 head-of-requires : tie.Need-head-of-requires
 head-of-requires c κs = search needs
@@ -34,12 +34,14 @@ put-edges-requires : tie.Need-put-edges-requires
 put-edges-requires c κs = let f = split (c .before) in
     let count = f .count in
     let q = c .before .before .before .before .before .before .before .before .before .pre in
-    (f .rest, omega arith, omega arith, rw (← f .walk) (q .3))
+    let bound = q .bound in
+    let numbers = q .numbers in
+    record { good = f .rest; bound = omega arith; numbers = omega arith; room = rw (← f .walk) (q .room) }
 
 add-result : tie.Need-add-result
 add-result c = let f = split (c .before .before .before .before) in
     let count = f .count in
-    let q = c .before .before .before .before .before .before .before .before .before .before .before .before .pre in
+    let q = c .before .before .before .before .before .before .before .before .before .before .before .before .pre .bound in
     omega arith
 
 enum-known-degree-2 : tie.Need-enum-known-degree-2
@@ -49,12 +51,14 @@ put-edges-requires-2 : tie.Need-put-edges-requires-2
 put-edges-requires-2 c κs = let f = dense (c .before) in
     let count = f .count in
     let q = c .before .before .before .before .before .before .before .before .before .pre in
-    (f .rest, omega arith, omega arith, rw (← f .walk) (q .3))
+    let bound = q .bound in
+    let numbers = q .numbers in
+    record { good = f .rest; bound = omega arith; numbers = omega arith; room = rw (← f .walk) (q .room) }
 
 add-result-2 : tie.Need-add-result-2
 add-result-2 c = let f = dense (c .before .before .before .before) in
     let count = f .count in
-    let q = c .before .before .before .before .before .before .before .before .before .before .before .before .pre in
+    let q = c .before .before .before .before .before .before .before .before .before .before .before .before .pre .bound in
     omega arith
 
 enum-told : tie.Need-enum-told
@@ -77,7 +81,7 @@ returns-2 c = let a = c .before .before .before .before .before .before .before 
     (ap (λ (t : ℕ). a .first + t) (sym (f .count)), c .before .before .put-edges2 .ensures ∙ ap (λ (t : Decoded). sets (a .out .now) (place (a .first)) (recordsOf (edgesFrom (a .logs .now) (a .dead .now) (a .key) (a .first) (partnersOf t)))) (sym (f .walk)))
 
 returns-3 : tie.Need-returns-3
-returns-3 c = absurd (not-bad (c .before .before .before .before .before .before .before .pre .0) (group-bad (c .before .before .before .before .before .before .before .args .g .now) _ (sym (c .before .before .head-of .ensures) ∙ c .enum-told .given .1)))
+returns-3 c = absurd (not-bad (c .before .before .before .before .before .before .before .pre .good) (group-bad (c .before .before .before .before .before .before .before .args .g .now) _ (sym (c .before .before .head-of .ensures) ∙ c .enum-told .given .1)))
 
 pub put-group-edges-spec : {M : Type 1} → statement M
 put-group-edges-spec =
