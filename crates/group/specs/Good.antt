@@ -111,8 +111,8 @@ pub record GoodGroup (g : List ℕ) (dense : Bool) (ps : List Id) : Type 0 where
   pub head : Headed g dense (length ps) place
   pub walk : Walked dense (length ps) g place 0 0 dense ps
 
-pub grouped : (g : List ℕ) (dense : Bool) (ps : List Id) → groupOf g ≡ good dense ps → GoodGroup g dense ps
-grouped g dense ps e = go (headOf g) refl
+pub good-group : (g : List ℕ) (dense : Bool) (ps : List Id) → groupOf g ≡ good dense ps → GoodGroup g dense ps
+good-group g dense ps e = go (headOf g) refl
   where
     walk : (c : Bool) (d i : ℕ) → headOf g ≡ headIs c d i → GoodGroup g dense ps
     walk c d i q =
@@ -133,19 +133,19 @@ grouped g dense ps e = go (headOf g) refl
 module _ (g : List ℕ) (dense : Bool) (ps : List Id) (e : groupOf g ≡ good dense ps) where
   -- the degree that is read is the number of partners, and at least 1
   pub degree-is : (1 ≤ length ps) × ((n : ℕ) × (degreeOf g ≡ Value (length ps) n))
-  degree-is = let h = grouped g dense ps e .head in (h .some, (h .tag, h .degree))
+  degree-is = let h = good-group g dense ps e .head in (h .some, (h .tag, h .degree))
 
   pub partners-rise : Rising ps
-  partners-rise = grouped g dense ps e .walk .above
+  partners-rise = good-group g dense ps e .walk .above
 
   pub partners-halves : Bytes g → Halves ps
-  partners-halves = grouped g dense ps e .walk .halves
+  partners-halves = good-group g dense ps e .walk .halves
 
   -- nine bytes or more for each partner, after a degree and a tag
   pub group-length : 2 + 9 * length ps ≤ length g
   unfolding degreeOf
   group-length =
-      let r = grouped g dense ps e in
+      let r = good-group g dense ps e in
       let h = r .head in
       let room = r .walk .room in
       let place = h .place in
@@ -156,7 +156,7 @@ module _ (g : List ℕ) (dense : Bool) (ps : List Id) (e : groupOf g ≡ good de
   pub group-bytes : Bytes g → g ≡ writtenAs dense ps
   unfolding degreeOf
   group-bytes b =
-      let r = grouped g dense ps e in
+      let r = good-group g dense ps e in
       let h = r .head in
       let n = h .tag in
       let tag : drop n g ≡ tagOf dense ∷ drop (r .place) g =

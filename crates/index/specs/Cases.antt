@@ -37,13 +37,13 @@ pub of-width : (o : List ℕ) (w i b : ℕ) → w ≡ b → leAt o (i * w) b ≡
 of-width o w i b e = ap (leAt o (i * w)) (sym e)
 
 -- the first is 0, another is above the one before
-abbrev pub rises : List ℕ → ℕ → ℕ → Bool
-rises o w i = pick (eqb i 0) (eqb (offsetAt o w i) 0) (ltb (offsetAt o w (i - 1)) (offsetAt o w i))
+abbrev pub risingKeys : List ℕ → ℕ → ℕ → Bool
+risingKeys o w i = pick (eqb i 0) (eqb (offsetAt o w i) 0) (ltb (offsetAt o w (i - 1)) (offsetAt o w i))
 
-pub first-rises : (o : List ℕ) (w : ℕ) → offsetAt o w 0 ≡ 0 → rises o w 0 ≡ true
+pub first-rises : (o : List ℕ) (w : ℕ) → offsetAt o w 0 ≡ 0 → risingKeys o w 0 ≡ true
 first-rises o w e = simp (eq-eqb (offsetAt o w 0) 0 e)
 
-pub next-rises : (o : List ℕ) (w i : ℕ) → offsetAt o w i < offsetAt o w (i + 1) → rises o w (i + 1) ≡ true
+pub next-rises : (o : List ℕ) (w i : ℕ) → offsetAt o w i < offsetAt o w (i + 1) → risingKeys o w (i + 1) ≡ true
 next-rises o w i h =
     let e : i + 1 - 1 ≡ i = omega arith in
     rw e (simp (ne-eqb (i + 1) 0 (λ q. omega arith), lt-ltb (offsetAt o w i) (offsetAt o w (i + 1)) h))
@@ -54,7 +54,7 @@ module _ (o : List ℕ) (w n len : ℕ) where
   offsets-first ne = let d : n + 1 ≡ suc n = omega arith in rw d (simp (ne-eqb (offsetAt o w 0) 0 ne))
 
   -- offset i stands before the last and rises, so that the next one decides
-  module _ (i : ℕ) (lt : i < n) (up : rises o w i ≡ true) where
+  module _ (i : ℕ) (lt : i < n) (up : risingKeys o w i ≡ true) where
     pub offsets-on : offsetsFrom (n + 1 - i) o w n len i ≡ offsetsFrom (n + 1 - (i + 1)) o w n len (i + 1)
     unfolding offsetsFrom offsetGood
     offsets-on =
@@ -69,7 +69,7 @@ module _ (o : List ℕ) (w n len : ℕ) where
         offsets-on ∙ rw (d, e) (simp (ne-eqb (i + 1) 0 (λ q. omega arith), le-ltb (offsetAt o w i) (offsetAt o w (i + 1)) h))
 
   -- the last one rises: its value decides
-  module _ (i : ℕ) (eq : i ≡ n) (up : rises o w i ≡ true) where
+  module _ (i : ℕ) (eq : i ≡ n) (up : risingKeys o w i ≡ true) where
     pub offsets-end : (b : Bool) → eqb (offsetAt o w i) len ≡ b → offsetsFrom (n + 1 - i) o w n len i ≡ pick b Check.Fine (Check.Bad (Refusal.Offset n))
     unfolding offsetsFrom offsetGood
     offsets-end b e =

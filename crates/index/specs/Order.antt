@@ -12,7 +12,7 @@ use Rattle.refusal.specs.declared.Check.{Check}
 use Rattle.refusal.specs.Check.Laws.{pick-fine, and-parts}
 use Rattle.frame.specs.Open.{keyAt, keysFrom, offsetAt, offsetGood, offsetsFrom}
 use Rattle.index.specs.Compare.{tri}
-use Rattle.index.specs.Cases.{rises}
+use Rattle.index.specs.Cases.{risingKeys}
 
 -- ---- keys: n of them
 
@@ -64,17 +64,17 @@ module _ (o : List ℕ) (w n len : ℕ) where
       tri i j (λ lt. others (omega arith) (omega arith)) (λ eq. (rw eq at (p .0))) (λ gt. absurd (omega arith))
 
   -- a good offset rises, and a good last one is len
-  good-rises : (i : ℕ) → offsetGood o w n len i ≡ true → rises o w i ≡ true
+  good-rises : (i : ℕ) → offsetGood o w n len i ≡ true → risingKeys o w i ≡ true
   unfolding offsetGood
-  good-rises i e = and-parts (rises o w i) (not (eqb i n) || eqb (offsetAt o w i) len) e .0
+  good-rises i e = and-parts (risingKeys o w i) (not (eqb i n) || eqb (offsetAt o w i) len) e .0
 
   good-last : offsetGood o w n len n ≡ true → offsetAt o w n ≡ len
   unfolding offsetGood
   good-last e =
-      let p = and-parts (rises o w n) (not (eqb n n) || eqb (offsetAt o w n) len) e .1 in
+      let p = and-parts (risingKeys o w n) (not (eqb n n) || eqb (offsetAt o w n) len) e .1 in
       eqb-true _ _ (rw (eq-eqb n n refl) at p)
 
-  rises-above : (i : ℕ) → rises o w (i + 1) ≡ true → offsetAt o w i < offsetAt o w (i + 1)
+  rises-above : (i : ℕ) → risingKeys o w (i + 1) ≡ true → offsetAt o w i < offsetAt o w (i + 1)
   rises-above i e =
       let d : i + 1 - 1 ≡ i = omega arith in
       ltb-true _ _ (rw (ne-eqb (i + 1) 0 (λ q. omega arith), d) at e)

@@ -114,13 +114,13 @@ length-extents [] = refl
 length-extents (s ∷ ss) = ap suc (length-extents ss)
 
 -- sections that are raw, with their sums
-unfoldable pub AllRaw : List Section → Type 0
-AllRaw [] = Unit {0}
-AllRaw (s ∷ ss) = (s ≡ rawSection (s .kind) (s .bytes)) × AllRaw ss
+unfoldable pub PlainSections : List Section → Type 0
+PlainSections [] = Unit {0}
+PlainSections (s ∷ ss) = (s ≡ rawSection (s .kind) (s .bytes)) × PlainSections ss
 
 -- the entries of the sections that stand after q are their entries
-pub entries-standing : (ss : List Section) (q r : List ℕ) (at : ℕ) → at ≡ length q → AllRaw ss → entriesIn (q ++ (payload ss ++ r)) at (extents ss) ≡ entries at ss
-unfolding entriesIn extents payload entries AllRaw
+pub entries-standing : (ss : List Section) (q r : List ℕ) (at : ℕ) → at ≡ length q → PlainSections ss → entriesIn (q ++ (payload ss ++ r)) at (extents ss) ≡ entries at ss
+unfolding entriesIn extents payload entries PlainSections
 entries-standing [] q r at e raw = refl
 entries-standing (s ∷ ss) q r at e raw =
     let bytes : List ℕ = s .bytes in
