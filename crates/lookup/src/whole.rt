@@ -62,7 +62,7 @@ fn give_marks(file: &[u8], o: Opened, first: u64, d: u64, out: &mut [u8])
 }
 
 // An earlier degree that is unreadable or 0, or edges past the edge count.
-fn offset_refused(i: u64) -> Looked
+fn degrees_refused(i: u64) -> Looked
     ensures { λ r. ⌜ r ≡ Looked.Refused (Refusal.Degrees i) ⌝ }
 {
     Looked::Refused {
@@ -98,10 +98,10 @@ fn group_edges(
     ensures { λ r. ⌜ WholeBy (λ rooms. lookGroup true rooms (knownOf (now (file .entry)) o) i compared) r (now (out .entry)) (now (out .exit)) (now (logs .entry)) (now (logs .exit)) (now (marks .entry)) (now (marks .exit)) ⌝ }
 {
     match edges_of(file, o, i) {
-        Sum::Bad => offset_refused(i),
+        Sum::Bad => degrees_refused(i),
         Sum::Total { edges } => {
             if o.edgecount - edges < degree {
-                return offset_refused(i);
+                return degrees_refused(i);
             }
             if short_of(out.len(), logs.len(), marks.len(), degree) {
                 return too_short(degree);
