@@ -63,9 +63,9 @@ not-both es p f m =
     true≢false (sym (many-measured es m h i) ∙ few h es (omega arith) (omega arith) (omega arith))
 
 measured-one : (es : List Edge) (r t : Counted) → Measured es r → Measured es t → r ≡ t
-measured-one es (Counted.PlanFits p) (Counted.PlanFits q) m n = ap Counted.PlanFits (fits-one es p q (fits-measured es p m) (fits-measured es q n))
-measured-one es (Counted.PlanFits p) Counted.TooMany m n = absurd (not-both es p (fits-measured es p m) n)
-measured-one es Counted.TooMany (Counted.PlanFits q) m n = absurd (not-both es q (fits-measured es q n) m)
+measured-one es (Counted.Fits p) (Counted.Fits q) m n = ap Counted.Fits (fits-one es p q (fits-measured es p m) (fits-measured es q n))
+measured-one es (Counted.Fits p) Counted.TooMany m n = absurd (not-both es p (fits-measured es p m) n)
+measured-one es Counted.TooMany (Counted.Fits q) m n = absurd (not-both es q (fits-measured es q n) m)
 measured-one es Counted.TooMany Counted.TooMany m n = refl
 
 pub measure-determined : Determined measure.ended measure-reads.Pre measure-reads.Post

@@ -41,7 +41,7 @@ module _ (s : List ℕ) (b : Bytes s) (f : batchCheck s ≡ Check.Fine) where
   unfolding headingOf
   many m = ap (tooMany (headingOf s)) (sym edges-are) ∙ many-measured (sourceEdges 0 s s) m (headingOf s) ids-long
 
-  module _ (p : Plan) (m : Measured (sourceEdges 0 s s) (Counted.PlanFits p)) where
+  module _ (p : Plan) (m : Measured (sourceEdges 0 s s) (Counted.Fits p)) where
     fits : PlanFits (edgesOf s) p
     fits = subst (λ (t : List Edge). PlanFits t p) edges-are (fits-measured (sourceEdges 0 s s) p m)
 

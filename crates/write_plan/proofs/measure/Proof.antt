@@ -33,7 +33,7 @@ module _ (es : List Edge) (n : ℕ) (e : n ≡ length es) where
       too-many-bytes l = measured-many es (λ h i. many-bytes h es (omega (arith, length-file h es n keys w partners dense dead fitting i)))
 
       fits : n ≤ 67108864 → keys ≤ 16777216 → bytes ≤ 1073741824
-          → Measured es (Counted.PlanFits (record { edges = n; keys = keys; width = w; partners = partners; dense = dense; dead = dead; bytes = bytes }))
+          → Measured es (Counted.Fits (record { edges = n; keys = keys; width = w; partners = partners; dense = dense; dead = dead; bytes = bytes }))
       fits x y z = measured-fits es _ (record { fitting = fitting; size = b; keys-few = y; edges-few = x; bytes-few = z })
 
 returns : tie.Need-returns
