@@ -43,7 +43,7 @@ fn needed_fine(batch: &[u8]) -> Written
         Counted::TooMany => Written::Refused {
             refusal: Refusal::Bounds,
         },
-        Counted::PlanFits { plan } => Written::Done {
+        Counted::Fits { plan } => Written::Done {
             bytes: plan.bytes as u64,
         },
     }
@@ -68,7 +68,7 @@ fn write_fine(batch: &[u8], out: &mut [u8]) -> Written
         Counted::TooMany => Written::Refused {
             refusal: Refusal::Bounds,
         },
-        Counted::PlanFits { plan } => write_plan(batch, plan, out),
+        Counted::Fits { plan } => write_plan(batch, plan, out),
     }
 }
 
