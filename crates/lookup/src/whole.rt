@@ -13,7 +13,7 @@ ghost use Rattle.group.specs.Group.{bytesOf};
 ghost use Rattle.lookup.specs.declared.Looked.{Looked};
 ghost use Rattle.lookup.specs.declared.groups.GroupSeen.{GroupSeen};
 ghost use Rattle.lookup.specs.Lookup.{partnersAt, logsFrom, marksFrom, short, lookGroup, lookIn};
-ghost use Rattle.lookup.specs.Calls.{group, WholeBy};
+ghost use Rattle.lookup.specs.Calls.{lent, group, WholeBy};
 ghost use Rattle.lookup.specs.Groups.{Fills};
 ghost use Rattle.lookup.specs.Record.{Holds};
 use super::Looked;
