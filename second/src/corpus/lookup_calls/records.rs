@@ -1,11 +1,11 @@
 //! Records that are lawful and say something else than the file: of another
 //! file, without its tombstones or with others, of fewer or more keys.
 
-use super::{ask, expect, found, Files, Intended, LentRecord};
+use super::{ask, expect, found, Files, Intended, LentRecord, LookupFile};
 use crate::corpus::open_files::samples::{
     dead, dense, full, heading_only, live, one_edge, single_groups, split, three_groups,
 };
-use crate::groups;
+use crate::groups::{self, Group};
 use crate::layout::Layout;
 use crate::numbers::{id_of, Id};
 use crate::open::Range;
@@ -73,17 +73,21 @@ fn same_places(files: &mut Files) {
     file.both("own", ask(id_of(1, 2)), found(1, 0));
 }
 
-/// The mark in the record decides whether there are tombstones, its range
-/// where they are.
-fn tombstones(files: &mut Files) {
+/// Groups of which every edge is dead.
+fn dead_groups() -> [Group; 4] {
     let edges: Vec<_> = (0..3).map(|i| dead(i, i, i)).collect();
-    let groups = [
+    [
         split(id_of(1, 1), &edges[..2]),
         split(id_of(1, 2), &edges),
         dense(id_of(1, 3), &edges),
         split(id_of(1, 4), &edges[1..]),
-    ];
-    let dead_layout = groups::layout(&groups, 24);
+    ]
+}
+
+/// The mark in the record decides whether there are tombstones, its range
+/// where they are.
+fn tombstones(files: &mut Files) {
+    let dead_layout = groups::layout(&dead_groups(), 24);
     let live_layout = dead_layout.clone().with(|l| {
         l.header.flags = 0;
         l.sections.truncate(4);
@@ -91,31 +95,43 @@ fn tombstones(files: &mut Files) {
     for (name, layout) in [("dead", dead_layout), ("live", live_layout)] {
         let file = files.layout(format!("marks-{name}"), &layout);
         let own = LentRecord::of_layout(&layout);
-        let size = file.bytes.len() as u64;
-        let range = |offset, length| Range { offset, length };
-        for (word, marked, range) in [
-            ("own", own.marked, own.dead),
-            ("unmarked", false, range(0, 0)),
-            ("unmarked-with-range", false, own.dead),
-            ("unmarked-past-the-file", false, range(size, 1)),
-            ("unmarked-largest", false, range(u64::MAX, u64::MAX)),
-            ("in-the-magic", true, range(1, 2)),
-            ("in-the-keys", true, range(own.keys.offset + 14, 2)),
-            ("in-the-partners", true, range(own.partners.offset, 2)),
-            ("in-the-logs", true, range(own.logs.offset + 7, 2)),
-            ("at-the-end", true, range(size - 2, 2)),
-            ("in-the-footer", true, range(size - 20, 2)),
-        ] {
-            let record = own.with(|record| (record.dead, record.marked) = (range, marked));
-            for (index, group) in groups.iter().enumerate() {
-                let answer = found(group.edges.len() as u64, index as u64);
-                let name = format!("{word}-{index}");
-                file.full(name, ask(group.key).by(&record), answer);
-            }
-            let question = ask(groups[2].key).by(&record);
-            file.alone(word, question, found(3, 2));
+        for (word, marked, dead) in marks(&own, file.size()) {
+            all_found(
+                file,
+                word,
+                &own.with(|r| (r.marked, r.dead) = (marked, dead)),
+            );
         }
     }
+}
+
+/// Whether there are tombstones, and where, in a file of this size.
+fn marks(own: &LentRecord, size: u64) -> [(&'static str, bool, Range); 11] {
+    let range = |offset, length| Range { offset, length };
+    [
+        ("own", own.marked, own.dead),
+        ("unmarked", false, range(0, 0)),
+        ("unmarked-with-range", false, own.dead),
+        ("unmarked-past-the-file", false, range(size, 1)),
+        ("unmarked-largest", false, range(u64::MAX, u64::MAX)),
+        ("in-the-magic", true, range(1, 2)),
+        ("in-the-keys", true, range(own.keys.offset + 14, 2)),
+        ("in-the-partners", true, range(own.partners.offset, 2)),
+        ("in-the-logs", true, range(own.logs.offset + 7, 2)),
+        ("at-the-end", true, range(size - 2, 2)),
+        ("in-the-footer", true, range(size - 20, 2)),
+    ]
+}
+
+/// All the groups in full, and one of them alone.
+fn all_found(file: &mut LookupFile, word: &str, record: &LentRecord) {
+    let groups = dead_groups();
+    for (index, group) in (0..).zip(&groups) {
+        let answer = found(group.edges.len() as u64, index);
+        let name = format!("{word}-{index}");
+        file.full(name, ask(group.key).by(record), answer);
+    }
+    file.alone(word, ask(groups[2].key).by(record), found(3, 2));
 }
 
 /// Other counts of keys and edges, with the lengths that they give.
