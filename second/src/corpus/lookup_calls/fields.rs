@@ -243,26 +243,25 @@ fn lengths_that_agree(files: &mut Files) {
     let file = files.layout("wrap", &layout);
     let key = id_of(1, 3);
     file.both("own", ask(key).by(&own), found(1, 0));
-    let mut refused = |name: &str, record: LentRecord| {
-        file.both(name, ask(key).by(&record), expect(21, 0));
-    };
-    for (name, change) in PRODUCTS_THAT_WRAP {
-        refused(name, own.with(change));
-    }
-    for (name, bits, length) in OTHER_BITS {
-        let record = own.with(|r| (r.offset_bits, r.offsets.length) = (bits, length));
-        refused(name, record);
-    }
+    let wrapping = PRODUCTS_THAT_WRAP.map(|(name, change)| (name, own.with(change)));
+    let other_bits = OTHER_BITS.map(|(name, bits, length)| {
+        let change = |r: &mut LentRecord| (r.offset_bits, r.offsets.length) = (bits, length);
+        (name, own.with(change))
+    });
     // No log numbers, just past the file or at the largest place.
-    for (name, past) in [
-        ("empty-past", layout.size() + 1),
-        ("empty-largest", u64::MAX),
-    ] {
+    let empty = |name, place| {
         let record = own.with(|r| {
             (r.key_count, r.edge_count) = (0, 0);
             r.fit();
-            r.logs.offset = past;
+            r.logs.offset = place;
         });
-        refused(name, record);
+        (name, record)
+    };
+    let empty = [
+        empty("empty-past", layout.size() + 1),
+        empty("empty-largest", u64::MAX),
+    ];
+    for (name, record) in wrapping.into_iter().chain(other_bits).chain(empty) {
+        file.both(name, ask(key).by(&record), expect(21, 0));
     }
 }

@@ -139,37 +139,57 @@ fn other_counts(files: &mut Files) {
     let layout = full();
     let own = LentRecord::of_layout(&layout);
     let file = files.layout("counts", &layout);
-    let keys = [id_of(1, 2), id_of(1, 3), id_of(2, 0)];
     for key_count in 0..=8 {
         let record = own.with(|record| {
             record.key_count = key_count;
             record.fit();
         });
-        for (index, &key) in keys.iter().enumerate() {
-            let degree = [2, 1, 2][index];
-            // Above three, keys are read from what follows the key section.
-            let answer = match key_count {
-                0..=3 if (index as u64) < key_count => Some(found(degree, index as u64)),
-                0..=3 => Some(Intended::Absent),
-                _ => None,
-            };
-            let name = format!("keys-{key_count}-{index}");
-            file.both(name, ask(key).by(&record), answer);
-        }
+        keys_among(file, &record);
     }
     for edge_count in 0..=17 {
         let record = own.with(|record| {
             record.edge_count = edge_count;
             record.fit();
         });
-        for (index, (degree, end)) in [(2, 2), (1, 3), (2, 5)].into_iter().enumerate() {
-            let name = format!("edges-{edge_count}-{index}");
-            let question = ask(keys[index]).by(&record);
-            if end <= edge_count {
-                file.full(name, question, found(degree, index as u64));
-            } else {
-                file.misplaced(name, question, degree, index as u64);
-            }
+        keys_with_edges(file, &record);
+    }
+}
+
+/// The keys of `full`, each with its index, its degree and the end of its
+/// edges.
+fn keys_of_full() -> [(Id, u64, u64, u64); 3] {
+    [
+        (id_of(1, 2), 0, 2, 2),
+        (id_of(1, 3), 1, 1, 3),
+        (id_of(2, 0), 2, 2, 5),
+    ]
+}
+
+/// The keys by a record of more or fewer of them. Above three, keys are read
+/// from what follows the key section.
+fn keys_among(file: &mut LookupFile, record: &LentRecord) {
+    let key_count = record.key_count;
+    for (key, index, degree, _) in keys_of_full() {
+        let answer = match key_count {
+            0..=3 if index < key_count => Some(found(degree, index)),
+            0..=3 => Some(Intended::Absent),
+            _ => None,
+        };
+        let name = format!("keys-{key_count}-{index}");
+        file.both(name, ask(key).by(record), answer);
+    }
+}
+
+/// The keys by a record of more or fewer edges.
+fn keys_with_edges(file: &mut LookupFile, record: &LentRecord) {
+    let edge_count = record.edge_count;
+    for (key, index, degree, end) in keys_of_full() {
+        let name = format!("edges-{edge_count}-{index}");
+        let question = ask(key).by(record);
+        if end <= edge_count {
+            file.full(name, question, found(degree, index));
+        } else {
+            file.misplaced(name, question, degree, index);
         }
     }
 }

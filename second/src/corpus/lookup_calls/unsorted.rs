@@ -11,7 +11,9 @@ use crate::numbers::id_of;
 use Group::{Found, Misplaced, Refused};
 
 pub fn add(files: &mut Files) {
-    keys(files);
+    for run in KEY_RUNS {
+        key_run(files, &run);
+    }
     offsets(files);
     partner_ranges(files);
 }
@@ -93,23 +95,21 @@ const KEY_RUNS: [KeyRun; 8] = [
     },
 ];
 
-fn keys(files: &mut Files) {
-    for run in KEY_RUNS {
-        let layout = singles(run.keys.len() as u64, 24).with(|l| {
-            for (i, &lower) in run.keys.iter().enumerate() {
-                set_key(l, i, id_of(0, lower));
-            }
-        });
-        let file = files.layout(format!("unsorted-{}", run.name), &layout);
-        let record = LentRecord::of_layout(&layout);
-        let met = run.met.iter().map(|&(key, index)| (key, found(1, index)));
-        let missed = run.missed.iter().map(|&key| (key, Intended::Absent));
-        for (lower, answer) in met.chain(missed) {
-            let question = ask(id_of(0, lower));
-            let name = format!("file-{lower}");
-            file.full(name, question.clone(), expect(13, run.faulty));
-            file.both(format!("record-{lower}"), question.by(&record), answer);
+fn key_run(files: &mut Files, run: &KeyRun) {
+    let layout = singles(run.keys.len() as u64, 24).with(|l| {
+        for (i, &lower) in run.keys.iter().enumerate() {
+            set_key(l, i, id_of(0, lower));
         }
+    });
+    let file = files.layout(format!("unsorted-{}", run.name), &layout);
+    let record = LentRecord::of_layout(&layout);
+    let met = run.met.iter().map(|&(key, index)| (key, found(1, index)));
+    let missed = run.missed.iter().map(|&key| (key, Intended::Absent));
+    for (lower, answer) in met.chain(missed) {
+        let question = ask(id_of(0, lower));
+        let name = format!("file-{lower}");
+        file.full(name, question.clone(), expect(13, run.faulty));
+        file.both(format!("record-{lower}"), question.by(&record), answer);
     }
 }
 

@@ -15,7 +15,9 @@ pub fn add(files: &mut Files) {
     cut_files(files);
     shortest_footers(files);
     one_byte_more(files);
-    header_fields(files);
+    magics(files);
+    major_versions(files);
+    header_sizes(files);
     flags(files);
     tail_magic(files);
     footer_lengths(files);
@@ -90,7 +92,7 @@ fn one_byte_more(files: &mut Files) {
     files.bytes("one-byte-after-the-file", longer, Some(expect(6, 0)));
 }
 
-fn header_fields(files: &mut Files) {
+fn magics(files: &mut Files) {
     for at in 0..8 {
         let layout = one_edge().with(|l| l.header.magic[at] ^= 0x01);
         files.refused(format!("magic-byte-{at}"), layout, expect(2, 0));
@@ -104,12 +106,18 @@ fn header_fields(files: &mut Files) {
         let layout = one_edge().with(|l| l.header.magic = magic);
         files.refused(format!("magic-{word}"), layout, expect(2, 0));
     }
+}
+
+fn major_versions(files: &mut Files) {
     for major in [0, 2, 3, 129, 255] {
         let layout = one_edge().with(|l| l.header.major = major);
         files.refused(format!("major-{major}"), layout, expect(3, 0));
     }
     let swapped = one_edge().with(|l| (l.header.major, l.header.minor) = (0, 1));
     files.refused("major-and-minor-swapped", swapped, expect(3, 0));
+}
+
+fn header_sizes(files: &mut Files) {
     for size in [0, 1, 63, 65, 128, 64 + 256, 64 << 8, 65_535] {
         let layout = one_edge().with(|l| l.header.size = size);
         files.refused(format!("header-size-{size}"), layout, expect(4, 0));

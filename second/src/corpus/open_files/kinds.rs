@@ -7,7 +7,9 @@ use crate::layout::{Layout, Section};
 
 pub fn add(files: &mut Files) {
     skipped_kinds(files);
-    skipped_codecs_and_names(files);
+    skipped_kinds_at_other_minors(files);
+    skipped_codecs(files);
+    skipped_names(files);
     skipped_places(files);
     skipped_alike(files);
     property_streams(files);
@@ -31,6 +33,9 @@ fn skipped_kinds(files: &mut Files) {
         let layout = after_all(skipped(kind));
         files.opens(format!("skipped-kind-{kind}-at-minor-0"), layout);
     }
+}
+
+fn skipped_kinds_at_other_minors(files: &mut Files) {
     for minor in [1, 200] {
         for kind in [0, 7, 65_535] {
             let named = skipped(kind).named(*b"new");
@@ -40,12 +45,14 @@ fn skipped_kinds(files: &mut Files) {
     }
 }
 
-/// Codecs and names of any sort.
-fn skipped_codecs_and_names(files: &mut Files) {
+fn skipped_codecs(files: &mut Files) {
     for codec in [1, 2, 128, 255] {
         let layout = after_all(skipped(7).codec(codec));
         files.opens(format!("skipped-kind-with-codec-{codec}"), layout);
     }
+}
+
+fn skipped_names(files: &mut Files) {
     for length in [1, 2, 17, 28, 62, 63] {
         let layout = after_all(skipped(300).named(vec![b'n'; length]));
         files.opens(format!("skipped-kind-with-name-of-{length}"), layout);

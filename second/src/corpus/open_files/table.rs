@@ -14,6 +14,7 @@ pub fn add(files: &mut Files) {
     missing_kinds(files);
     doubled_kinds(files);
     codecs(files);
+    codecs_without_keys(files);
     several_codecs(files);
     codecs_elsewhere(files);
 }
@@ -198,6 +199,9 @@ fn codecs(files: &mut Files) {
             files.opens(format!("codec-255-at-entry-{index}"), layout);
         }
     }
+}
+
+fn codecs_without_keys(files: &mut Files) {
     for index in 0..4 {
         let layout = coded(heading_only(), index, 1);
         let name = format!("codec-of-heading-only-at-entry-{index}");
