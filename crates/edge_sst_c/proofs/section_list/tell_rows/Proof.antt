@@ -21,8 +21,8 @@ abbrev μ-loop : tie.MeasureT-loop
 loop-holds : tie.Need-loop-holds Inv-loop μ-loop
 loop-holds c = (omega arith, numbered-none _ _)
 
-mul-put-row : tie.Need-mul-put-row Inv-loop μ-loop
-mul-put-row c = let p = c .before .before .before .before .before .pre in let h = c .before .before .loop .inv .0 in omega arith
+mul-tell-row : tie.Need-mul-tell-row Inv-loop μ-loop
+mul-tell-row c = let p = c .before .before .before .before .before .pre in let h = c .before .before .loop .inv .0 in omega arith
 
 row-of-requires : tie.Need-row-of-requires Inv-loop μ-loop
 row-of-requires c κs = search needs
@@ -57,7 +57,7 @@ tell-rows-spec =
     Inv-loop
     μ-loop
     loop-holds
-    mul-put-row
+    mul-tell-row
     row-of-requires
     tell-row-requires
     add-i

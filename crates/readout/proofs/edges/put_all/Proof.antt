@@ -11,7 +11,7 @@ use Rattle.readout.proofs.edges.put_all.Reads as reads
 use Rattle.readout.proofs.edges.put_all.Lts as lts
 use Rattle.index.proofs.keys.key_at.Reads as key-at-reads
 use Rattle.index.proofs.offsets.offset_at.Reads as offset-at-reads
-use Rattle.readout.proofs.group_edges.put_group_edges.Reads as put-group-reads
+use Rattle.readout.proofs.group_edges.put_group_edges.Reads as put-group-edges-reads
 
 abbrev Inv-loop : tie.InvT-loop
 Inv-loop keys partners offs w n logs dead out₀ a₀ first₀ i₀ out a first i = Reading keys partners offs w logs dead n out₀ out i a first
@@ -42,24 +42,24 @@ key-at-requires c κs = let r = c .before .before .before .before .before .befor
     let few = r .few in
     (omega arith, omega arith)
 
-sub-put-group : tie.Need-sub-put-group Inv-loop μ-loop
-sub-put-group c = let l = c .before .before .before .loop in
+sub-put-group-edges : tie.Need-sub-put-group-edges Inv-loop μ-loop
+sub-put-group-edges c = let l = c .before .before .before .loop in
     let r = c .before .before .before .before .before .before .before .before .before .before .pre .0 .rises in
     let up = r .above (l .i) (omega arith) in
     let at = l .inv .place-is in
     let e = c .before .offset-at .ensures .0 in
     omega arith
 
-part-put-group-start : tie.Need-part-put-group-start Inv-loop μ-loop
-part-put-group-start c = let l = c .before .before .before .loop in
+part-put-group-edges-start : tie.Need-part-put-group-edges-start Inv-loop μ-loop
+part-put-group-edges-start c = let l = c .before .before .before .loop in
     let r = c .before .before .before .before .before .before .before .before .before .before .pre .0 .rises in
     let up = r .above (l .i) (omega arith) in
     let at = l .inv .place-is in
     let e = c .before .offset-at .ensures .0 in
     omega arith
 
-part-put-group-end : tie.Need-part-put-group-end Inv-loop μ-loop
-part-put-group-end c = let l = c .before .before .before .loop in
+part-put-group-edges-end : tie.Need-part-put-group-edges-end Inv-loop μ-loop
+part-put-group-edges-end c = let l = c .before .before .before .loop in
     let r = c .before .before .before .before .before .before .before .before .before .before .pre .0 .rises in
     let end = r .within (l .i + 1) (omega arith) in
     let e = c .before .offset-at .ensures .0 in
@@ -104,9 +104,9 @@ put-all-spec =
     add-offset-at
     offset-at-requires
     key-at-requires
-    sub-put-group
-    part-put-group-start
-    part-put-group-end
+    sub-put-group-edges
+    part-put-group-edges-start
+    part-put-group-edges-end
     put-group-edges-requires
     add-i
     loop-less

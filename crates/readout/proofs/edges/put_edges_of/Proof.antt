@@ -16,7 +16,7 @@ use Rattle.readout.proofs.edges.put_edges_of.Tie as tie
 use Rattle.readout.proofs.edges.put_edges_of.Reads as reads
 use Rattle.readout.proofs.edges.put_edges_of.Lts as lts
 use Rattle.frame.proofs.bytes_of.Reads as bytes-of-reads
-use Rattle.lookup.proofs.whole.dead_of.Reads as dead-of-reads
+use Rattle.lookup.proofs.whole.tombstones_of.Reads as dead-of-reads
 use Rattle.readout.proofs.edges.put_all.Reads as put-all-reads
 
 bytes-of-requires : tie.Need-bytes-of-requires

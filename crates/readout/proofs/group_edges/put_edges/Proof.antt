@@ -9,7 +9,7 @@ use Rattle.readout.proofs.group_edges.put_edges.Tie as tie
 use Rattle.readout.proofs.group_edges.put_edges.Reads as reads
 use Rattle.readout.proofs.group_edges.put_edges.Lts as lts
 use Rattle.batch.proofs.put_edge.Reads as put-edge-reads
-use Rattle.readout.proofs.group_edges.edge_with.Reads as edge-of-reads
+use Rattle.readout.proofs.group_edges.edge_with.Reads as edge-with-reads
 use Rattle.readout.proofs.group_edges.step_at.Reads as step-at-reads
 
 abbrev Inv-loop : tie.InvT-loop
@@ -27,8 +27,8 @@ step-at-requires c κs = search needs
 enum-known-id : tie.Need-enum-known-id Inv-loop μ-loop
 enum-known-id c = search needs
 
-add-edge-of : tie.Need-add-edge-of Inv-loop μ-loop
-add-edge-of c = let h = c .before .before .before .before .before .loop .inv .most in omega arith
+add-edge-with : tie.Need-add-edge-with Inv-loop μ-loop
+add-edge-with c = let h = c .before .before .before .before .before .loop .inv .most in omega arith
 
 edge-with-requires : tie.Need-edge-with-requires Inv-loop μ-loop
 edge-with-requires c κs = let h = c .before .before .before .before .before .loop .inv .most in (omega arith, omega arith)
@@ -86,7 +86,7 @@ put-edges-spec =
     loop-holds
     step-at-requires
     enum-known-id
-    add-edge-of
+    add-edge-with
     edge-with-requires
     add-put-edge
     mul-put-edge
