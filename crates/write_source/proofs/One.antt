@@ -1,12 +1,6 @@
 -- Each public contract of the crate leaves one result and one content of lent memory.
-use mathlib.Core.Path.{_≡_, refl, sym, ap, _∙_}
-use Prim.Native.Nat.{ℕ, _-_}
-use native.Mathlib.Omega.{arith}
-use mathlib.Core.List.{List, [], _∷_}
-use lib.ListN.{length}
-use Rattle.base.specs.Over.{length-part}
-use Rattle.batch.specs.declared.Edge.{Edge}
-use Rattle.batch_groups.specs.Groups.{Group, GroupEnd}
+use mathlib.Core.Path.{refl, sym, _∙_}
+use Rattle.batch_groups.specs.Groups.Laws.{end-one}
 use Rattle.base.proofs.Determined.{Determined}
 use Rattle.write_source.proofs.log_of as log-of
 use Rattle.write_source.proofs.log_of.Reads as log-of-reads
@@ -35,16 +29,6 @@ count-keys-determined κs a pre r₁ r₂ w₁ w₂ p q = (p ∙ sym q, refl)
 
 pub any-dead-determined : Determined any-dead.ended any-dead-reads.Pre any-dead-reads.Post
 any-dead-determined κs a pre r₁ r₂ w₁ w₂ p q = (p ∙ sym q, refl)
-
--- a group has one end: the edges of the first group are as many as lie before it
-abbrev first-count : List Group → ℕ
-first-count [] = 0
-first-count (g ∷ gs) = length (g .edges)
-
-end-one : (es : List Edge) (i j k : ℕ) → GroupEnd es i j → GroupEnd es i k → j ≡ k
-end-one es i j k p q =
-    let same : j - i ≡ k - i = sym (length-part es i j (p .within)) ∙ ap first-count (sym (p .groups) ∙ q .groups) ∙ length-part es i k (q .within) in
-    omega (arith, p .above, q .above)
 
 pub group-end-determined : Determined group-end.ended group-end-reads.Pre group-end-reads.Post
 group-end-determined κs a pre r₁ r₂ w₁ w₂ p q = (end-one _ _ _ _ p q, refl)

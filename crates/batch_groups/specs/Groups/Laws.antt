@@ -11,6 +11,7 @@ use lib.Seq.{take-suc, drop-cons, drop-length, getD-drop, drop-drop}
 use lib.Dec.{eqb}
 use borrow.Author.Tests.{eq-eqb, ne-eqb}
 use Rattle.base.specs.Pick.{pick}
+use Rattle.base.specs.Over.{length-part}
 use Rattle.codes.specs.declared.ids.Id.{Id}
 use Rattle.codes.specs.Ids.{numberOf}
 use Rattle.batch.specs.declared.Edge.{Edge}
@@ -118,6 +119,20 @@ groups-run e (x ∷ run) rest r o =
     groups-run x run rest (subst (λ (t : ℕ). SameKey t run) (sym (r .0)) (r .1)) (subst (λ (t : ℕ). OtherKey t rest) (sym (r .0)) o) in
     ap (join e) ih ∙ (rw (eq-eqb (numberOf (e .key)) (numberOf (x .key)) (sym (r .0))))
 
+-- edges of one key are the beginning of a group
+groups-begin : (e : Edge) (run rest : List Edge) → SameKey (numberOf (e .key)) run
+    → (more : List Edge) × (gs : List Group) × (groupsOf (e ∷ run ++ rest) ≡ record { key = e .key; edges = e ∷ run ++ more } ∷ gs)
+unfolding groupsOf join SameKey
+groups-begin e [] rest r = join-head e (groupsOf rest)
+groups-begin e (x ∷ run) rest r =
+    let (more, gs, q) = groups-begin x run rest (subst (λ (t : ℕ). SameKey t run) (sym (r .0)) (r .1)) in
+    (more, gs, ap (join e) q ∙ (rw (eq-eqb (numberOf (e .key)) (numberOf (x .key)) (sym (r .0)))))
+
+run-front : (k : Id) (floor : ℕ) (es fs : List Edge) → Run k floor (es ++ fs) → Run k floor es
+unfolding Run
+run-front k floor [] fs r = tt
+run-front k floor (e ∷ es) fs r = (r .0, r .1, r .2, r .3, run-front k (suc (numberOf (e .partner))) es fs (r .4))
+
 -- ---- the first group of what is left
 
 module _ (es : List Edge) (i : ℕ) where
@@ -138,20 +153,37 @@ module _ (es : List Edge) (i : ℕ) where
         let v : getD (drop (i + 1) es) (j - (i + 1)) none ≡ getD es j none = getD-drop (i + 1) es (j - (i + 1)) none ∙ ap (λ (t : ℕ). getD es t none) n in
         rw (m, take-suc (drop (i + 1) es) (j - (i + 1)) none l, v) (same-snoc k (take (j - (i + 1)) (drop (i + 1) es)) (getD es j none) r e)
 
+    -- edge i, the edges after it up to j, and the rest
+    front : j ≤ length es → take (j - i) (drop i es) ≡ getD es i none ∷ take (j - (i + 1)) (drop (i + 1) es)
+    front g =
+        let m : j - i ≡ suc (j - (i + 1)) = omega arith in
+        ap₂ take m (drop-cons es i none (omega arith) ∙ ap (λ (t : ℕ). getD es i none ∷ drop t es) (sym (add-one i)))
+
+    cut : j ≤ length es → drop i es ≡ getD es i none ∷ take (j - (i + 1)) (drop (i + 1) es) ++ drop j es
+    cut g =
+        let n : i + (j - i) ≡ j = omega arith in
+        sym (take-append-drop (j - i) (drop i es))
+        ∙ ap₂ (λ (x y : List Edge). x ++ y) (front g) (drop-drop (j - i) i es ∙ ap (λ (t : ℕ). drop t es) n)
+
     pub group-end : j ≤ length es → SameKey (numberOf (getD es i none .key)) (take (j - (i + 1)) (drop (i + 1) es)) → OtherKey (numberOf (getD es i none .key)) (drop j es) → GroupEnd es i j
     group-end g r o =
-        let d : drop i es ≡ getD es i none ∷ drop (i + 1) es = drop-cons es i none (omega arith) ∙ ap (λ (t : ℕ). getD es i none ∷ drop t es) (sym (add-one i)) in
-        let n : i + 1 + (j - (i + 1)) ≡ j = omega arith in
-        let m : j - i ≡ suc (j - (i + 1)) = omega arith in
-        let c : drop (i + 1) es ≡ take (j - (i + 1)) (drop (i + 1) es) ++ drop j es =
-        sym (take-append-drop (j - (i + 1)) (drop (i + 1) es)) ∙ ap (λ (t : List Edge). take (j - (i + 1)) (drop (i + 1) es) ++ t) (drop-drop (j - (i + 1)) (i + 1) es ∙ ap (λ (t : ℕ). drop t es) n) in
-        let t : take (j - i) (drop i es) ≡ getD es i none ∷ take (j - (i + 1)) (drop (i + 1) es) = ap₂ take m d in
         record {
           above = h;
           within = g;
-          groups = ap groupsOf (d ∙ ap (λ (u : List Edge). getD es i none ∷ u) c) ∙ groups-run (getD es i none) (take (j - (i + 1)) (drop (i + 1) es)) (drop j es) r o
-              ∙ ap (λ (u : List Edge). record { key = getD es i none .key; edges = u } ∷ groupsOf (drop j es)) (sym t);
+          groups = ap groupsOf (cut g) ∙ groups-run (getD es i none) (take (j - (i + 1)) (drop (i + 1) es)) (drop j es) r o
+              ∙ ap (λ (u : List Edge). record { key = getD es i none .key; edges = u } ∷ groupsOf (drop j es)) (sym (front g));
         }
+
+    -- edges of one key, also where the group goes on after them
+    pub begin-run : j ≤ length es → SameKey (numberOf (getD es i none .key)) (take (j - (i + 1)) (drop (i + 1) es)) → Grouped 0 (groupsOf (drop i es))
+        → Run (getD es i none .key) 0 (take (j - i) (drop i es))
+    unfolding Grouped
+    begin-run g r o =
+        let x : Edge = getD es i none in
+        let run : List Edge = take (j - (i + 1)) (drop (i + 1) es) in
+        let (more, gs, q) = groups-begin x run (drop j es) r in
+        let p : Grouped 0 (record { key = x .key; edges = x ∷ run ++ more } ∷ gs) = subst (Grouped 0) (ap groupsOf (cut g) ∙ q) o in
+        subst (Run (x .key) 0) (sym (front g)) (run-front (x .key) 0 (x ∷ run) more (p .3))
 
 pub other-none : (es : List Edge) (k j : ℕ) → j ≡ length es → OtherKey k (drop j es)
 unfolding OtherKey
@@ -160,6 +192,16 @@ other-none es k j e = rw (e, drop-length es) tt
 pub other-key : (es : List Edge) (k j : ℕ) → j < length es → (numberOf (getD es j none .key) ≡ k → ⊥) → OtherKey k (drop j es)
 unfolding OtherKey
 other-key es k j h o = rw (drop-cons es j none h) o
+
+-- a group has one end: the edges of the first group are as many as lie before it
+abbrev first-count : List Group → ℕ
+first-count [] = 0
+first-count (g ∷ gs) = length (g .edges)
+
+pub end-one : (es : List Edge) (i j k : ℕ) → GroupEnd es i j → GroupEnd es i k → j ≡ k
+end-one es i j k p q =
+    let same : j - i ≡ k - i = sym (length-part es i j (p .within)) ∙ ap first-count (sym (p .groups) ∙ q .groups) ∙ length-part es i k (q .within) in
+    omega (arith, p .above, q .above)
 
 -- ---- a group more
 
