@@ -23,8 +23,8 @@ use Rattle.frame.specs.Kind as kind
 use Rattle.frame.specs.Open.{keyAt, offsetAt, offsetGood, offsetsFrom, fenceGood, fencesFrom, fencesGood, strideOf, fenceCount}
 use Rattle.lookup.specs.Lookup.{markAt}
 use Rattle.batch.specs.declared.Edge.{Edge}
-use Rattle.batch_groups.specs.Groups.{none, Group, Fits, Grouped}
-use Rattle.write_image.specs.Image.{marksIn, keysIn, anyDead, keyBytes, partnerBytes, offsetBytes, tombBytes, stride, fenceBytes, fencesOf}
+use Rattle.batch_groups.specs.Groups.{none, anyDead, Group, Fits, Grouped}
+use Rattle.write_image.specs.Image.{marksIn, keysIn, keyBytes, partnerBytes, offsetBytes, tombBytes, stride, fenceBytes, fencesOf}
 use Rattle.write_image.specs.Image as image
 use Rattle.write_image.specs.Image.Laws.{length-keysIn, length-fence, length-fences, fences-are, fence-is, length-tombs}
 use Rattle.laid_out.specs.Rows.{leAt-at, leAt-past}

@@ -16,7 +16,7 @@ use Rattle.group.specs.Group.{bytesOf}
 use Rattle.group.specs.Written.{writtenAs}
 use Rattle.batch.specs.declared.Edge.{Edge}
 use Rattle.batch.specs.Batch.{Heading}
-use Rattle.batch_groups.specs.Groups.{none, Group, groupsOf}
+use Rattle.batch_groups.specs.Groups.{none, anyDead, Group, groupsOf}
 pub mod Laws
 
 -- ---- what edges and groups hold
@@ -36,10 +36,6 @@ marksIn (e ∷ es) = e .dead ∷ marksIn es
 unfoldable pub keysIn : List Group → List Id
 keysIn [] = []
 keysIn (g ∷ gs) = g .key ∷ keysIn gs
-
-unfoldable pub anyDead : List Edge → Bool
-anyDead [] = false
-anyDead (e ∷ es) = e .dead || anyDead es
 
 -- ---- a group
 

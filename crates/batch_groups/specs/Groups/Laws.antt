@@ -5,7 +5,7 @@ use native.Mathlib.Omega.{arith}
 use native.Mathlib.Numerals.{add-one}
 use mathlib.Core.Logic.{_⊎_, ⊎-elim}
 use mathlib.Core.List.{List, [], _∷_, _++_, append-assoc}
-use mathlib.Core.Bool.{Bool, true, false}
+use mathlib.Core.Bool.{Bool, true, false, _||_}
 use lib.ListN.{length, getD, take, drop, length-append, length-drop, take-append-drop}
 use lib.Seq.{take-suc, drop-cons, drop-length, getD-drop, drop-drop}
 use lib.Dec.{eqb}
@@ -15,7 +15,7 @@ use Rattle.base.specs.Over.{length-part}
 use Rattle.codes.specs.declared.ids.Id.{Id}
 use Rattle.codes.specs.Ids.{numberOf}
 use Rattle.batch.specs.declared.Edge.{Edge}
-use Rattle.batch_groups.specs.Groups.{none, Group, join, groupsOf, flat, GroupEnd, Fits, First, Ordered, Run, Grouped}
+use Rattle.batch_groups.specs.Groups.{none, anyDead, Group, join, groupsOf, flat, GroupEnd, Fits, First, Ordered, Run, Grouped}
 
 -- ---- ids and numbers
 
@@ -221,13 +221,6 @@ pub groups-end : (es : List Edge) (i : ℕ) → i ≡ length es → groupsOf (dr
 unfolding groupsOf
 groups-end es i e = rw (e, drop-length es)
 
--- how many groups are left, a group further
-pub count-step : (es : List Edge) (i j : ℕ) → GroupEnd es i j → length (groupsOf (drop i es)) ≡ suc (length (groupsOf (drop j es)))
-count-step es i j e = ap length (e .groups)
-
-pub count-end : (es : List Edge) (i : ℕ) → i ≡ length es → length (groupsOf (drop i es)) ≡ 0
-count-end es i e = ap length (groups-end es i e)
-
 -- no more groups than edges
 join-count : (e : Edge) (gs : List Group) → length (join e gs) ≤ suc (length gs)
 unfolding join
@@ -242,3 +235,52 @@ pub groups-count : (es : List Edge) → length (groupsOf es) ≤ length es
 unfolding groupsOf
 groups-count [] = omega arith
 groups-count (e ∷ es) = let one = join-count e (groupsOf es) in let others = groups-count es in omega arith
+
+-- ---- an edge more at the end
+
+-- an edge is of the next one's group, or one of its own
+count-on : (e f : Edge) (es : List Edge) → length (groupsOf (e ∷ f ∷ es)) ≡ length (groupsOf (f ∷ es)) + pick (eqb (numberOf (e .key)) (numberOf (f .key))) 0 1
+unfolding groupsOf join
+count-on e f es =
+    let (rest, more, q) = join-head f (groupsOf es) in
+    rw q (go rest more (eqb (numberOf (e .key)) (numberOf (f .key))))
+  where
+    go : (rest : List Edge) (more : List Group) (b : Bool)
+        → length (pick b (record { key = e .key; edges = e ∷ f ∷ rest } ∷ more) (record { key = e .key; edges = e ∷ [] } ∷ record { key = f .key; edges = f ∷ rest } ∷ more))
+        ≡ suc (length more) + pick b 0 1
+    go rest more true = omega arith
+    go rest more false = omega arith
+
+pub count-one : (e : Edge) → length (groupsOf (e ∷ [])) ≡ 1
+unfolding groupsOf join
+count-one e = refl
+
+pub count-last : (es : List Edge) (e f : Edge) → length (groupsOf (es ++ (e ∷ f ∷ []))) ≡ length (groupsOf (es ++ (e ∷ []))) + pick (eqb (numberOf (e .key)) (numberOf (f .key))) 0 1
+count-last [] e f = let a = count-on e f [] in let b = count-one e in let c = count-one f in omega arith
+count-last (x ∷ []) e f = let a = count-on x e (f ∷ []) in let b = count-on x e [] in let c = count-last [] e f in omega arith
+count-last (x ∷ y ∷ es) e f =
+    let a = count-on x y (es ++ (e ∷ f ∷ [])) in
+    let b = count-on x y (es ++ (e ∷ [])) in
+    let c = count-last (y ∷ es) e f in
+    omega arith
+
+pub count-none : length (groupsOf []) ≡ 0
+unfolding groupsOf
+count-none = refl
+
+pub dead-none : anyDead [] ≡ false
+unfolding anyDead
+dead-none = refl
+
+pub dead-last : (es : List Edge) (e : Edge) → anyDead (es ++ (e ∷ [])) ≡ (anyDead es || e .dead)
+unfolding anyDead
+dead-last [] e = or-none (e .dead)
+  where
+    or-none : (b : Bool) → (b || false) ≡ b
+    or-none true = refl
+    or-none false = refl
+dead-last (x ∷ es) e = ap (λ (t : Bool). x .dead || t) (dead-last es e) ∙ or-assoc (x .dead)
+  where
+    or-assoc : (b : Bool) → (b || (anyDead es || e .dead)) ≡ ((b || anyDead es) || e .dead)
+    or-assoc true = refl
+    or-assoc false = refl

@@ -27,7 +27,7 @@ use Rattle.group.specs.Written.{Halves, Above, splitFrom, payloadOf, writtenAs,
 use Rattle.batch.specs.declared.Edge.{Edge}
 use Rattle.batch_groups.specs.Groups.{none, Group, groupsOf, GroupEnd, Run, Grouped}
 use Rattle.batch_groups.specs.Groups.Laws.{grouped-step, groups-end}
-use Rattle.write_image.specs.Image.{partnersIn, logsIn, marksIn, keysIn, anyDead, splitCost, denseBy, isDense, groupBytes, bytesIn, anyDense, keyBytes, numbers, partnerBytes, startsFrom, offsetBytes, widthOf, logBytes, bit, octet, octets, tombBytes, stride, fenceBytes, fencesFrom, fenceCount, fencesOf}
+use Rattle.write_image.specs.Image.{partnersIn, logsIn, marksIn, keysIn, splitCost, denseBy, isDense, groupBytes, bytesIn, anyDense, keyBytes, numbers, partnerBytes, startsFrom, offsetBytes, widthOf, logBytes, bit, octet, octets, tombBytes, stride, fenceBytes, fencesFrom, fenceCount, fencesOf}
 
 -- ---- a part of the edges, one edge further
 
@@ -247,14 +247,6 @@ module _ (es : List Edge) (k : ℕ) where
   pub logs-end : k ≡ length es → logBytes (drop k es) ≡ []
   unfolding numbers logsIn
   logs-end e = rw (e, drop-length es)
-
-  pub dead-step : k < length es → anyDead (drop k es) ≡ (getD es k none .dead || anyDead (drop (k + 1) es))
-  unfolding anyDead
-  dead-step h = ap anyDead (edge-on h)
-
-  pub dead-end : k ≡ length es → anyDead (drop k es) ≡ false
-  unfolding anyDead
-  dead-end e = rw (e, drop-length es)
 
   -- the mark of edge k, 0 past the last
   octet-nil : (m : ℕ) → octet m [] ≡ 0
