@@ -3,7 +3,7 @@ use mathlib.Core.Path.{_≡_}
 use mathlib.Core.Logic.{_⊎_}
 use Prim.Native.Nat.{ℕ, zero, suc, _+_, _-_, _^_, _≤_, _<_}
 use mathlib.Core.List.{List, [], _∷_, _++_}
-use mathlib.Core.Bool.{Bool, true, false}
+use mathlib.Core.Bool.{Bool, true, false, _||_}
 use lib.ListN.{length, getD, take, drop}
 use lib.Dec.{eqb}
 use Rattle.base.specs.Pick.{pick}
@@ -15,6 +15,10 @@ pub mod Laws
 -- what `getD` gives past the last edge
 abbrev pub none : Edge
 none = record { key = record { hi = 0; lo = 0 }; partner = record { hi = 0; lo = 0 }; log = 0; dead = false }
+
+unfoldable pub anyDead : List Edge → Bool
+anyDead [] = false
+anyDead (e ∷ es) = e .dead || anyDead es
 
 -- ---- groups
 

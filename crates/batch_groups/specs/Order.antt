@@ -5,7 +5,7 @@ use native.Mathlib.Omega.{arith}
 use native.Mathlib.Nat.{add-zero}
 use native.Mathlib.Decide.{decLt}
 use mathlib.Core.Logic.{_⊎_, inl, inr}
-use mathlib.Core.List.{List, [], _∷_}
+use mathlib.Core.List.{List, [], _∷_, _++_}
 use mathlib.Core.Bool.{Bool, true, false, true≢false, _&&_, _||_}
 use lib.ListN.{length, getD}
 use lib.Dec.{ltb, leb, eqb}
@@ -48,11 +48,7 @@ module _ (a b : Edge) where
   unfolding before
   before-equal h = simp (le-ltb (idNumber (a .key)) (idNumber (b .key)) (omega arith), eq-eqb (idNumber (a .key)) (idNumber (b .key)) h)
 
-pub order-first : (s : List ℕ) (e : ℕ) → e ≡ 0 → inOrder s e ≡ true
-unfolding inOrder
-order-first s e h = rw h
-
-pub order-next : (s : List ℕ) (e : ℕ) → 0 < e → inOrder s e ≡ before (edgeAt s (place (e - 1))) (edgeAt s (place e))
+order-next : (s : List ℕ) (e : ℕ) → 0 < e → inOrder s e ≡ before (edgeAt s (place (e - 1))) (edgeAt s (place e))
 unfolding inOrder
 order-next s e h = let q : e ≡ suc (e - 1) = omega arith in
     let z : inOrder s (suc (e - 1)) ≡ before (edgeAt s (place (e - 1))) (edgeAt s (place (suc (e - 1)))) = refl in
@@ -108,6 +104,15 @@ length-edgesAt (suc d) s e = ap suc (length-edgesAt d s (e + 1))
 pub edges-count : (s : List ℕ) → length (edgesOf s) ≡ recordCount s
 unfolding edgesOf
 edges-count s = length-edgesAt (recordCount s) s 0
+
+-- the last of them
+pub edges-last : (d : ℕ) (s : List ℕ) (e : ℕ) → edgesAt (suc d) s e ≡ edgesAt d s e ++ (edgeAt s (place (e + d)) ∷ [])
+unfolding edgesAt
+edges-last zero s e = ap (λ (t : ℕ). edgeAt s (place t) ∷ []) (sym (add-zero e))
+edges-last (suc d) s e =
+    let q : e + 1 + d ≡ e + suc d = omega arith in
+    ap (λ (t : List Edge). edgeAt s (place e) ∷ t)
+    (edges-last d s (e + 1) ∙ ap (λ (t : ℕ). edgesAt d s (e + 1) ++ (edgeAt s (place t) ∷ [])) q)
 
 edges-at : (d : ℕ) (s : List ℕ) (e k : ℕ) → k < d → getD (edgesAt d s e) k none ≡ edgeAt s (place (e + k))
 unfolding edgesAt

@@ -27,9 +27,9 @@ use Rattle.group.specs.Group.Laws.{partners-good}
 use Rattle.group.specs.Written.{written-back}
 use Rattle.lookup.specs.Lookup.{groupCheck, markAt}
 use Rattle.batch.specs.declared.Edge.{Edge}
-use Rattle.batch_groups.specs.Groups.{Group, flat, IdFits, Run, Grouped}
+use Rattle.batch_groups.specs.Groups.{anyDead, Group, flat, IdFits, Run, Grouped}
 use Rattle.batch_groups.specs.Groups.Laws.{flat-append}
-use Rattle.write_image.specs.Image.{keysIn, anyDead, isDense, groupBytes, bytesIn, anyDense, keyBytes, partnerBytes, startsFrom, offsetBytes, logBytes, octets, tombBytes, bit}
+use Rattle.write_image.specs.Image.{keysIn, isDense, groupBytes, bytesIn, anyDense, keyBytes, partnerBytes, startsFrom, offsetBytes, logBytes, octets, tombBytes, bit}
 use Rattle.write_image.specs.Image.Laws.{length-partners, run-partners, group-is, group-some, length-keysIn}
 use Rattle.full_check.specs.Full.{denseOf, groupIn, groupsFrom, degreesFrom, denseFrom}
 use Rattle.readout.specs.Edges.{edgeOf, edgesFrom, degreeIn, keyEdges, readFrom}

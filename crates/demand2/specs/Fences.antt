@@ -45,14 +45,14 @@ module _ (all : List Group) (o : Grouped 0 all) where
       (rw k fits, ap (keyAt (keyBytes all)) (sym q) ∙ group-key all gs g hs e fits ∙ ap idNumber (sym k))
 
   -- m fences from fence i on, which stand after p
-  fences-read : (m i : ℕ) (x p : List ℕ) → x ≡ p ++ image.fencesFrom m (keysIn all) i → length p ≡ 8 + 24 * i → (i + m) * 256 < length all + 256 → i + m ≤ 16777216
+  fences-read : (m i : ℕ) (x p : List ℕ) → x ≡ p ++ image.fenceKeysFrom m (keysIn all) i → length p ≡ 8 + 24 * i → (i + m) * 256 < length all + 256 → i + m ≤ 16777216
       → fencesFrom m x (keyBytes all) 256 i ≡ true
-  unfolding fencesFrom image.fencesFrom fenceGood
+  unfolding fencesFrom image.fenceKeysFrom fenceGood
   fences-read zero i x p e l h few = refl
   fences-read (suc m) i x p e l h few =
       let k : Id = getD (keysIn all) (i * 256) (none .key) in
       let v : ℕ = 16 * (i * 256) in
-      let rest : List ℕ = image.fencesFrom m (keysIn all) (i + 1) in
+      let rest : List ℕ = image.fenceKeysFrom m (keysIn all) (i + 1) in
       let here = key-of (i * 256) (omega arith) in
       let whole : fenceBytes k i ++ rest ≡ idBytes k ++ (leBytes 8 v ++ rest) = ap (λ (t : List ℕ). t ++ rest) (fence-is k i) ∙ append-assoc (idBytes k) (leBytes 8 v) rest in
       let key-at : x ≡ p ++ (idBytes k ++ (leBytes 8 v ++ rest)) = e ∙ ap (λ (t : List ℕ). p ++ t) whole in
@@ -72,10 +72,10 @@ module _ (all : List Group) (o : Grouped 0 all) where
     x = fencesOf (keysIn all)
 
     abbrev count : ℕ
-    count = image.fencesTold (length (keysIn all))
+    count = image.fenceCount (length (keysIn all))
 
     abbrev rows : List ℕ
-    rows = image.fencesFrom count (keysIn all) 0
+    rows = image.fenceKeysFrom count (keysIn all) 0
 
     x-is : x ≡ leBytes 4 256 ++ (leBytes 4 count ++ rows)
     x-is = fences-are (keysIn all)

@@ -30,9 +30,9 @@ use Rattle.laid_out.specs.Rows.{rowsIn, Small, small-is, leAt-at, count-back, b
 use Rattle.laid_out.specs.Laid.{length-laid, body-back, size-fine, tail-fine, sum-fine, file-rows, ranges-fine}
 use Rattle.batch.specs.declared.Edge.{Edge}
 use Rattle.batch.specs.Batch.{Heading, batchBytes}
-use Rattle.batch_groups.specs.Groups.{Group, groupsOf, flat, Grouped}
+use Rattle.batch_groups.specs.Groups.{anyDead, Group, groupsOf, flat, Grouped}
 use Rattle.batch_groups.specs.Groups.Laws.{flat-groups, groups-count}
-use Rattle.write_image.specs.Image.{anyDead, anyDense, keysIn, keyBytes, partnerBytes, widthOf, offsetBytes, logBytes, tombBytes, fencesOf, fenced, bit, flagsBy, lastSections, sectionsBy, layoutBy, layoutOf, fileOf}
+use Rattle.write_image.specs.Image.{anyDense, keysIn, keyBytes, partnerBytes, widthOf, offsetBytes, logBytes, tombBytes, fencesOf, fenced, bit, flagsBy, lastSections, sectionsBy, layoutBy, layoutOf, fileOf}
 use Rattle.write_image.specs.Image.Laws.{length-keys, length-offsets, length-logBytes, length-tombs, width-most}
 use Rattle.full_check.specs.Full.{sumsFrom, groupsFrom, degreesFrom, denseFrom, deadFrom, dataGood, edgesCheck, fullCheck}
 use Rattle.readout.specs.Edges.{readFrom, edgesIn}

@@ -20,8 +20,8 @@ use Rattle.codes.specs.Ids.Laws.{halves-back, length-idBytes}
 use Rattle.group.specs.Group.{bytesOf}
 use Rattle.group.specs.Group.Laws.{length-bytesOf}
 use Rattle.batch.specs.declared.Edge.{Edge}
-use Rattle.batch_groups.specs.Groups.{Group, IdFits}
-use Rattle.write_image.specs.Image.{keysIn, anyDead, bytesIn, numbers, partnerBytes, startsFrom, widthOf, bit, octet, octets}
+use Rattle.batch_groups.specs.Groups.{anyDead, Group, IdFits}
+use Rattle.write_image.specs.Image.{keysIn, bytesIn, numbers, partnerBytes, startsFrom, widthOf, bit, octet, octets}
 use Rattle.write_image.specs.Image.Laws.{length-numbers}
 
 -- ---- numbers of w bytes

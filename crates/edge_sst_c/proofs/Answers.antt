@@ -77,7 +77,7 @@ needed-says κs a r e p = ap writtenFrom p ∙ written-back _
 pub write-says : Every c-write.ended c-write-reads.Post (λ κs a r e. writtenFrom r ≡ writtenOf (now (a .0)) (length (now (a .1 .0))))
 write-says κs a r e p = ap writtenFrom (p .answer) ∙ written-back _
 
-pub sections-says : Every c-sections.ended c-sections-reads.Post (λ κs a r e. listedFrom r ≡ list.lookedOf (now (a .0)) (length (now (a .1 .0)) / 7))
+pub sections-says : Every c-sections.ended c-sections-reads.Post (λ κs a r e. listedFrom r ≡ list.listedOf (now (a .0)) (length (now (a .1 .0)) / 7))
 sections-says κs a r e p = ap listedFrom (p .0) ∙ listed-back _
 
 -- ---- number
@@ -113,8 +113,8 @@ needed-number κs a r e p = rw p (written-tells (neededOf (now (a .0))))
 pub write-number : Every c-write.ended c-write-reads.Post (λ κs a r e. Tells Written.Refused (writtenOf (now (a .0)) (length (now (a .1 .0)))) (r .number))
 write-number κs a r e p = rw (p .answer) (written-tells (writtenOf (now (a .0)) (length (now (a .1 .0)))))
 
-pub sections-number : Every c-sections.ended c-sections-reads.Post (λ κs a r e. Tells Listed.Refused (list.lookedOf (now (a .0)) (length (now (a .1 .0)) / 7)) (r .number))
-sections-number κs a r e p = rw (p .0) (listed-tells (list.lookedOf (now (a .0)) (length (now (a .1 .0)) / 7)))
+pub sections-number : Every c-sections.ended c-sections-reads.Post (λ κs a r e. Tells Listed.Refused (list.listedOf (now (a .0)) (length (now (a .1 .0)) / 7)) (r .number))
+sections-number κs a r e p = rw (p .0) (listed-tells (list.listedOf (now (a .0)) (length (now (a .1 .0)) / 7)))
 
 -- ---- outputs
 

@@ -123,15 +123,15 @@ edges-stay {x} {o = o} {l = l} {m = m} t h =
 pub read-stays : (f o : List ℕ) {r : EdgeSstDone} {out : List ℕ} → r ≡ readTold (readOutOf f (length o)) → out ≡ readOutLeaves f o → 1 ≤ r .number → out ≡ o
 read-stays f o a b h =
     let s = read-tells (readOutOf f (length o)) .some (rw a at h) in
-    b ∙ read-out.refused-leaves f o (s .0) (s .1)
+    b ∙ read-out.read-out-refused-leaves f o (s .0) (s .1)
 
 pub write-stays : {s o out : List ℕ} {r : EdgeSstDone} → WroteTold s o r out → 1 ≤ r .number → out ≡ o
 write-stays {s} {o} t h =
     let q = written-tells (writtenOf s (length o)) .some (rw (t .answer) at h) in
-    t .output ∙ writer.refused-leaves s o (q .0) (q .1)
+    t .output ∙ writer.write-refused-leaves s o (q .0) (q .1)
 
-pub sections-stay : (f o : List ℕ) {r : EdgeSstListed} {out : List ℕ} → r ≡ listedTold (list.lookedOf f (length o / 7))
+pub sections-stay : (f o : List ℕ) {r : EdgeSstListed} {out : List ℕ} → r ≡ listedTold (list.listedOf f (length o / 7))
     → out ≡ numbered f (planOf f (length o / 7) .n) o → 1 ≤ r .number → out ≡ o
 sections-stay f o a b h =
-    let s = listed-tells (list.lookedOf f (length o / 7)) .some (rw a at h) in
+    let s = listed-tells (list.listedOf f (length o / 7)) .some (rw a at h) in
     b ∙ ap (λ (n : ℕ). numbered f n o) (plan-refused f (length o / 7) (s .0) (s .1)) ∙ sym (numbered-none f o)

@@ -59,14 +59,14 @@ abbrev pub Absent : Looked → Type 0
 Absent r = (n : ℕ) × (r ≡ Looked.Absent n)
 
 -- such an outcome leaves what there was
-left-refused : (x : Outcome) (o l m : List ℕ) → Refused (look.answerOf x) → (partnersLeft x o ≡ o) × (logsLeft x l ≡ l) × (marksLeft x m ≡ m)
-unfolding look.answerOf partnersLeft logsLeft marksLeft
+left-refused : (x : Outcome) (o l m : List ℕ) → Refused (look.lookedOf x) → (partnersLeft x o ≡ o) × (logsLeft x l ≡ l) × (marksLeft x m ≡ m)
+unfolding look.lookedOf partnersLeft logsLeft marksLeft
 left-refused (found i c ps logs marks) o l m (q, e) = let z : _≡_ {A = ℕ} 0 1 = cc in absurd (omega arith)
 left-refused (absent c) o l m (q, e) = let z : _≡_ {A = ℕ} 0 1 = cc in absurd (omega arith)
 left-refused (refused r) o l m (q, e) = (refl, refl, refl)
 
-left-absent : (x : Outcome) (o l m : List ℕ) → Absent (look.answerOf x) → (partnersLeft x o ≡ o) × (logsLeft x l ≡ l) × (marksLeft x m ≡ m)
-unfolding look.answerOf partnersLeft logsLeft marksLeft
+left-absent : (x : Outcome) (o l m : List ℕ) → Absent (look.lookedOf x) → (partnersLeft x o ≡ o) × (logsLeft x l ≡ l) × (marksLeft x m ≡ m)
+unfolding look.lookedOf partnersLeft logsLeft marksLeft
 left-absent (found i c ps logs marks) o l m (n, e) = let z : _≡_ {A = ℕ} 0 1 = cc in absurd (omega arith)
 left-absent (absent c) o l m (n, e) = (refl, refl, refl)
 left-absent (refused r) o l m (n, e) = let z : _≡_ {A = ℕ} 0 1 = cc in absurd (omega arith)
@@ -121,10 +121,10 @@ lookup-with-absent κs a r w such call =
 -- ---- the read-out
 
 batch-stays : (f o : List ℕ) (q : Refusal) → readOutOf f (length o) ≡ ReadOut.Refused q → readOutLeaves f o ≡ o
-unfolding readOutOf readOutLeaves out.answerOf readLeaves
+unfolding readOutOf readOutLeaves out.readAnswer readLeaves
 batch-stays f o q e = go (readCheck f (length o)) e
   where
-    go : (c : Check) → out.answerOf c (neededFor f) ≡ ReadOut.Refused q → readLeaves c (batchIn f) o ≡ o
+    go : (c : Check) → out.readAnswer c (neededFor f) ≡ ReadOut.Refused q → readLeaves c (batchIn f) o ≡ o
     go Check.Fine h = let z : _≡_ {A = ℕ} 0 1 = cc in absurd (omega arith)
     go (Check.Bad r) h = refl
 

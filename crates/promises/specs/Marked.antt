@@ -20,8 +20,8 @@ use Rattle.group.specs.Group.{Decoded, good, onVarint, splitStep, denseStep, st
 use Rattle.group.specs.Written.{splitFrom, splitBytes, denseBytes}
 use Rattle.lookup.specs.Lookup.{groupCheck}
 use Rattle.batch.specs.Batch.{headingOf, edgeAt, edgesAt, edgesOf, before, inOrder, faultFrom, headed, batchCheck, partnersIn, logsIn, marksIn}
-use Rattle.batch_groups.specs.Groups.{join, groupsOf}
-use Rattle.write_image.specs.Image.{keysIn, anyDead, splitCost, denseBy, isDense, groupBytes, anyDense, numbers, partnerBytes, startsFrom, widthOf, octet, octets, fenceBytes, fenceKeysFrom, fencesOf, lastSections, sectionsBy, layoutBy, layoutOf, fileOf}
+use Rattle.batch_groups.specs.Groups.{anyDead, join, groupsOf}
+use Rattle.write_image.specs.Image.{keysIn, splitCost, denseBy, isDense, groupBytes, anyDense, numbers, partnerBytes, startsFrom, widthOf, octet, octets, fenceBytes, fenceKeysFrom, fencesOf, lastSections, sectionsBy, layoutBy, layoutOf, fileOf}
 use Rattle.write_plan.specs.Bounds.{tooMany}
 use Rattle.write_file.specs.declared.Written.{Written}
 use Rattle.write_file.specs.Written.{writtenAnswer, neededCheck, neededOf}

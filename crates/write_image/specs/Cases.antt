@@ -17,8 +17,8 @@ use Rattle.group.specs.Group.{bytesOf}
 use Rattle.group.specs.Written.{splitFrom, splitBytes, denseBytes}
 use Rattle.batch.specs.declared.Edge.{Edge}
 use Rattle.batch.specs.Batch.{headingOf, edgeAt, edgesAt, edgesOf, partnersIn, logsIn, marksIn}
-use Rattle.batch_groups.specs.Groups.{Group, join, groupsOf}
-use Rattle.write_image.specs.Image.{keysIn, anyDead, splitCost, denseBy, isDense, groupBytes, anyDense, numbers, partnerBytes, startsFrom, widthOf, octet, octets, fenced, fenceCount, fenceBytes, fenceKeysFrom, fencesOf, keyBytes, offsetBytes, logBytes, tombBytes, lastSections, sectionsBy, layoutBy, layoutOf, fileOf}
+use Rattle.batch_groups.specs.Groups.{anyDead, Group, join, groupsOf}
+use Rattle.write_image.specs.Image.{keysIn, splitCost, denseBy, isDense, groupBytes, anyDense, numbers, partnerBytes, startsFrom, widthOf, octet, octets, fenced, fenceCount, fenceBytes, fenceKeysFrom, fencesOf, keyBytes, offsetBytes, logBytes, tombBytes, lastSections, sectionsBy, layoutBy, layoutOf, fileOf}
 use Rattle.write_image.specs.Image.Laws.{length-fences}
 
 -- ---- a group: dense or split

@@ -16,7 +16,7 @@ use Rattle.group.specs.Group.{bytesOf}
 use Rattle.group.specs.Written.{writtenAs}
 use Rattle.batch.specs.declared.Edge.{Edge}
 use Rattle.batch.specs.Batch.{Heading, partnersIn, logsIn, marksIn}
-use Rattle.batch_groups.specs.Groups.{none, Group, groupsOf}
+use Rattle.batch_groups.specs.Groups.{none, anyDead, Group, groupsOf}
 pub mod Laws
 
 -- ---- what groups hold
@@ -24,10 +24,6 @@ pub mod Laws
 unfoldable pub keysIn : List Group → List Id
 keysIn [] = []
 keysIn (g ∷ gs) = g .key ∷ keysIn gs
-
-unfoldable pub anyDead : List Edge → Bool
-anyDead [] = false
-anyDead (e ∷ es) = e .dead || anyDead es
 
 -- ---- a group
 

@@ -13,7 +13,7 @@ use Rattle.frame.specs.Layout.{Section, Layout, rawSection, headBytes, payload,
 use Rattle.batch.specs.declared.Edge.{Edge}
 use Rattle.batch.specs.Batch.{Heading}
 use Rattle.batch_groups.specs.Groups.{Group, groupsOf}
-use Rattle.write_image.specs.Image.{keysIn, anyDead, anyDense, keyBytes, offsetBytes, partnerBytes, widthOf, logBytes, bit, tombBytes, fencesOf, fenceCount, fenced, flagsBy, lastSections, sectionsBy, layoutBy, layoutOf, fileOf}
+use Rattle.write_image.specs.Image.{keysIn, anyDense, keyBytes, offsetBytes, partnerBytes, widthOf, logBytes, bit, tombBytes, fencesOf, fenceCount, fenced, flagsBy, lastSections, sectionsBy, layoutBy, layoutOf, fileOf}
 use Rattle.write_image.specs.Image.Laws.{length-keys, length-keysIn, length-offsets, length-logBytes, length-tombs, length-fences}
 use Rattle.write_frame.specs.Standing.{Extent, entriesIn, total, extents, PlainSections}
 use Rattle.write_frame.specs.Runs.{length-head, rowBytes, length-row, entry-row, length-trailer, countBytes, length-counts}

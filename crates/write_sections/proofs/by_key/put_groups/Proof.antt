@@ -131,8 +131,8 @@ add-base-2 c = let a = c .before .before .before .args in let es = sourceEdges (
 loop-holds : tie.Need-loop-holds Inv-loop μ-loop
 loop-holds c = let a = c .before .before .before .args in let es = sourceEdges (a .kind) (a .a .now) (a .b .now) in begins es (a .n) (a .keys) (a .w) (a .out .now) (a .at) _ _ (c .before .before .before .pre .2) refl refl (c .before .before .before .pre .4)
 
-group-end-requires : tie.Need-group-end-requires Inv-loop μ-loop
-group-end-requires c κs = omega arith
+span-at-requires : tie.Need-span-at-requires Inv-loop μ-loop
+span-at-requires c κs = (c .before .before .before .before .before .pre .0, c .before .before .before .before .before .pre .1, omega arith, c .before .loop .inv .rest)
 
 sub-start : tie.Need-sub-start Inv-loop μ-loop
 sub-start c = let u = c .before .before .loop .inv .above in omega arith
@@ -142,33 +142,33 @@ put-group-requires c κs =
     let a = c .before .before .before .before .before .before .before .args in
     let l = c .before .before .before .loop in
     let es = sourceEdges (a .kind) (a .a .now) (a .b .now) in
-    let g = c .before .group-end .ensures in
+    let g = c .before .span-at .ensures .ends in
     let r = room es (a .n) (a .keys) (a .w) (a .out .now) (a .at) _ (l .out) (l .i) (l .k) (l .o) (l .p) (l .inv) _ g (c .before .before .before .before .before .before .before .pre .5) in
-    (g .above, g .within, omega (arith, g .within), c .before .before .before .before .before .before .before .pre .3, rises es (l .i) _ g (l .inv .rest), r .0, r .1, r .2)
+    (c .before .span-at .ensures, omega (arith, g .within), c .before .before .before .before .before .before .before .pre .3, rises es (l .i) _ g (l .inv .rest), r .0, r .1, r .2)
 
 add-k : tie.Need-add-k Inv-loop μ-loop
 add-k c =
     let a = c .before .before .before .before .before .before .before .before .before .before .args in
     let l = c .before .before .before .before .before .before .loop in
     let es = sourceEdges (a .kind) (a .a .now) (a .b .now) in
-    let g = c .before .before .before .before .group-end .ensures in let r = room es (a .n) (a .keys) (a .w) (a .out .now) (a .at) _ (l .out) (l .i) (l .k) (l .o) (l .p) (l .inv) _ g (c .before .before .before .before .before .before .before .before .before .before .pre .5) in omega (arith, r .0)
+    let g = c .before .before .before .before .span-at .ensures .ends in let r = room es (a .n) (a .keys) (a .w) (a .out .now) (a .at) _ (l .out) (l .i) (l .k) (l .o) (l .p) (l .inv) _ g (c .before .before .before .before .before .before .before .before .before .before .pre .5) in omega (arith, r .0)
 
 add-o-2 : tie.Need-add-o-2 Inv-loop μ-loop
 add-o-2 c =
     let a = c .before .before .before .before .before .before .before .before .before .before .args in
     let l = c .before .before .before .before .before .before .loop in
     let es = sourceEdges (a .kind) (a .a .now) (a .b .now) in
-    let g = c .before .before .before .before .group-end .ensures in let r = room es (a .n) (a .keys) (a .w) (a .out .now) (a .at) _ (l .out) (l .i) (l .k) (l .o) (l .p) (l .inv) _ g (c .before .before .before .before .before .before .before .before .before .before .pre .5) in omega (arith, r .1)
+    let g = c .before .before .before .before .span-at .ensures .ends in let r = room es (a .n) (a .keys) (a .w) (a .out .now) (a .at) _ (l .out) (l .i) (l .k) (l .o) (l .p) (l .inv) _ g (c .before .before .before .before .before .before .before .before .before .before .pre .5) in omega (arith, r .1)
 
 loop-less : tie.Need-loop-less Inv-loop μ-loop
-loop-less c = let g = c .before .before .before .before .group-end .ensures in omega (arith, g .above, g .within)
+loop-less c = let g = c .before .before .before .before .span-at .ensures .ends in omega (arith, g .above, g .within)
 
 loop-again : tie.Need-loop-again Inv-loop μ-loop
 loop-again c =
     let a = c .before .before .before .before .before .before .before .before .before .before .args in
     let l = c .before .before .before .before .before .before .loop in
     let es = sourceEdges (a .kind) (a .a .now) (a .b .now) in
-    let g = c .before .before .before .before .group-end .ensures in let q = c .before .before .put-group .ensures in again es (a .n) (a .keys) (a .w) (a .out .now) (a .at) _ (l .out) (l .i) (l .k) (l .o) (l .p) (l .inv) _ g _ _ (omega (arith, g .within)) (q .0) (q .1)
+    let g = c .before .before .before .before .span-at .ensures .ends in let q = c .before .before .put-group .ensures in again es (a .n) (a .keys) (a .w) (a .out .now) (a .at) _ (l .out) (l .i) (l .k) (l .o) (l .p) (l .inv) _ g _ _ (omega (arith, g .within)) (q .0) (q .1)
 
 sub-start-2 : tie.Need-sub-start-2 Inv-loop μ-loop
 sub-start-2 c = let u = c .before .loop .inv .above in omega arith
@@ -202,7 +202,7 @@ put-groups-spec =
     mul-base
     add-base-2
     loop-holds
-    group-end-requires
+    span-at-requires
     sub-start
     put-group-requires
     add-k

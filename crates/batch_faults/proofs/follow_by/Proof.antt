@@ -1,43 +1,14 @@
 use mathlib.Core.Path.{_≡_, sym, ap₂, _∙_}
-use Prim.Native.Nat.{ℕ, _+_, _<_}
-use native.Mathlib.Omega.{arith}
+use Prim.Native.Nat.{ℕ, _+_}
 use mathlib.Core.List.{List}
-use mathlib.Core.Bool.{true, false}
-use lib.Dec.{ltb}
-use borrow.Author.Tests.{lt-ltb, le-ltb}
 use Rattle.codes.specs.declared.ids.Id.{Id}
 use Rattle.codes.specs.declared.ids.Order.{Order}
 use Rattle.codes.specs.Ids.{idNumber, order, halvesAt}
-use Rattle.batch.specs.declared.Edge.{Edge}
-use Rattle.batch.specs.Batch.{edgeAt, before}
-use Rattle.batch_groups.specs.Order.{less-back, equal-back, greater-back, before-less, before-greater, before-equal}
+use Rattle.batch.specs.Batch.{edgeAt}
+use Rattle.batch_faults.specs.Tally.Laws.{key-less, key-greater, partner-less, partner-equal, partner-greater}
 use borrow.Author.Needs.{needs}
-use Rattle.batch_faults.proofs.before.Statement.{statement}
-use Rattle.batch_faults.proofs.before.Tie as tie
-
-module _ (a b : Edge) where
-  key-less : order (idNumber (a .key)) (idNumber (b .key)) ≡ Order.Less → true ≡ before a b
-  key-less q = sym (before-less a b (less-back _ _ q))
-
-  key-greater : order (idNumber (a .key)) (idNumber (b .key)) ≡ Order.Greater → false ≡ before a b
-  key-greater q = sym (before-greater a b (greater-back _ _ q))
-
-  module _ (q : order (idNumber (a .key)) (idNumber (b .key)) ≡ Order.Equal) where
-    equal : before a b ≡ ltb (idNumber (a .partner)) (idNumber (b .partner))
-    equal = before-equal a b (equal-back _ _ q)
-
-    partner-less : order (idNumber (a .partner)) (idNumber (b .partner)) ≡ Order.Less → true ≡ before a b
-    partner-less r = sym (equal ∙ lt-ltb _ _ (less-back _ _ r))
-
-    partner-equal : order (idNumber (a .partner)) (idNumber (b .partner)) ≡ Order.Equal → false ≡ before a b
-    partner-equal r =
-        let z : idNumber (a .partner) ≡ idNumber (b .partner) = equal-back _ _ r in
-        sym (equal ∙ le-ltb (idNumber (a .partner)) (idNumber (b .partner)) (omega arith))
-
-    partner-greater : order (idNumber (a .partner)) (idNumber (b .partner)) ≡ Order.Greater → false ≡ before a b
-    partner-greater r =
-        let z : idNumber (b .partner) < idNumber (a .partner) = greater-back _ _ r in
-        sym (equal ∙ le-ltb (idNumber (a .partner)) (idNumber (b .partner)) (omega arith))
+use Rattle.batch_faults.proofs.follow_by.Statement.{statement}
+use Rattle.batch_faults.proofs.follow_by.Tie as tie
 
 -- the ids that are compared are those of the two edges
 module _ (s : List ℕ) (i j : ℕ) (x y : Id) (o : Order) (t : order (idNumber x) (idNumber y) ≡ o) where
@@ -124,8 +95,8 @@ returns-5 c =
     (keys (a .s .now) (a .i) (a .j) _ _ _ (sym (c .before .before .before .before .before .before .before .compare .ensures) ∙ c .before .before .before .before .before .enum-told3 .given .1) (c .before .before .before .before .before .before .before .before .before .id-at .ensures) (c .before .before .before .before .before .before .before .before .id-at2 .ensures))
     (partners (a .s .now) (a .i) (a .j) _ _ _ (sym (c .before .before .compare2 .ensures) ∙ c .enum-told6 .given .1) (c .before .before .before .before .id-at3 .ensures) (c .before .before .before .id-at4 .ensures))
 
-pub before-spec : {M : Type 1} → statement M
-before-spec =
+pub follow-by-spec : {M : Type 1} → statement M
+follow-by-spec =
     tie.close
     (tie.spec
     add-id-at
