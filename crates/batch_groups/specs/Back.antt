@@ -6,13 +6,13 @@ use native.Mathlib.Numerals.{add-one}
 use mathlib.Core.List.{List, [], _∷_, _++_}
 use mathlib.Core.Bool.{Bool, true, false, false≢true, _&&_}
 use lib.ListN.{length, getD, take, drop, length-drop, take-append-drop, drop-of-length-le}
-use lib.Seq.{take-suc, drop-cons, getD-drop, drop-drop, take-add}
+use lib.Seq.{take-at, take-suc, drop-cons, getD-drop, drop-drop, take-add}
 use lib.Dec.{leb, eqb}
 use borrow.Author.Tests.{eqb-true, leb-true}
 use Rattle.base.specs.Pick.{pick}
 use Rattle.base.specs.Over.{part}
 use Rattle.codes.specs.Little.{leAt, leBytes}
-use Rattle.codes.specs.Little.Laws.{leAt-low}
+use Rattle.codes.specs.Little.Laws.{length-leBytes, le-stood}
 use Rattle.codes.specs.Ids.{beAt, beBytes, halvesAt, idBytes}
 use Rattle.refusal.specs.declared.Refusal.{Refusal}
 use Rattle.refusal.specs.declared.Check.{Check}
@@ -26,15 +26,7 @@ back-step a b h = (omega arith, omega arith)
 
 module _ (s : List ℕ) (b : (j : ℕ) → getD s j 0 < 2 ^ 8) where
   le-same : (n i : ℕ) → i + n ≤ length s → leBytes n (leAt s i n) ≡ take n (drop i s)
-  unfolding leBytes
-  le-same zero i h = refl
-  le-same (suc n) i h =
-      let q = back-step (leAt s (i + 1) n) (getD s i 0) (b i) in
-      let d : drop i s ≡ getD s i 0 ∷ drop (i + 1) s = drop-cons s i 0 (omega arith) ∙ ap (λ (t : ℕ). getD s i 0 ∷ drop t s) (sym (add-one i)) in
-      ap (leBytes (suc n)) (leAt-low s i n)
-      ∙ ap₂ (λ (u v : ℕ). u ∷ leBytes n v) (q .1) (q .0)
-      ∙ ap (λ (t : List ℕ). getD s i 0 ∷ t) (le-same n (i + 1) (omega arith))
-      ∙ ap (take (suc n)) (sym d)
+  le-same n i h = sym (ap (take n) (le-stood n s i b h) ∙ take-at (leBytes n (leAt s i n)) (drop (i + n) s) n (length-leBytes n (leAt s i n)))
 
   be-same : (n i : ℕ) → i + n ≤ length s → beBytes n (beAt s i n) ≡ take n (drop i s)
   unfolding beBytes beAt

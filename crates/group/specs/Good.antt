@@ -12,7 +12,7 @@ use lib.Arith.{digits-div, digits-mod}
 use Rattle.codes.specs.declared.ids.Id.{Id}
 use Rattle.codes.specs.declared.varint.Varint.the-variants.{Value}
 use Rattle.codes.specs.Little.{leAt, leBytes}
-use Rattle.codes.specs.Little.Laws.{leAt-low, leAt-lt}
+use Rattle.codes.specs.Little.Laws.{leAt-lt, le-stood}
 use Rattle.codes.specs.Ids.{beAt, beBytes, numberOf, idBytes, halvesAt}
 use Rattle.codes.specs.Ids.Laws.{beAt-lt}
 use Rattle.codes.specs.Varint.{varintAt, varBytes}
@@ -28,20 +28,6 @@ abbrev pub Bytes : List ℕ → Type 0
 Bytes g = (j : ℕ) → getD g j 0 < 2 ^ 8
 
 -- ---- what is read as a number is what is written for it
-
-le-stood : (n : ℕ) (g : List ℕ) (i : ℕ) → Bytes g → i + n ≤ length g → drop i g ≡ leBytes n (leAt g i n) ++ drop (i + n) g
-unfolding leBytes
-le-stood zero g i b h = ap (λ (t : ℕ). drop t g) (sym (add-zero i))
-le-stood (suc n) g i b h =
-    let x : ℕ = getD g i 0 in
-    let y : ℕ = leAt g (i + 1) n in
-    let low : leAt g i (suc n) ≡ y * 256 + x = leAt-low g i n in
-    let first : leAt g i (suc n) % 256 ≡ x = rw low (digits-mod y (b i)) in
-    let others : leAt g i (suc n) / 256 ≡ y = rw low (digits-div y (b i)) in
-    let ih = le-stood n g (i + 1) b (omega arith) in
-    let place : i + 1 + n ≡ i + suc n = omega arith in
-    rw (first, others)
-    (rw (add-one i) (drop-cons g i 0 (omega arith)) ∙ ap (λ (t : List ℕ). x ∷ t) (ih ∙ ap (λ (t : ℕ). leBytes n y ++ drop t g) place))
 
 be-stood : (n : ℕ) (g : List ℕ) (i : ℕ) → Bytes g → i + n ≤ length g → drop i g ≡ beBytes n (beAt g i n) ++ drop (i + n) g
 unfolding beAt beBytes

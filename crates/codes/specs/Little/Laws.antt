@@ -5,12 +5,12 @@ use native.Mathlib.Nat.{lt-of-lt-of-le, add-comm, add-zero, add-suc, add-assoc, 
 use native.Mathlib.Numerals.{add-one}
 use native.Mathlib.Omega.{arith}
 use mathlib.Core.List.{List, [], _∷_, _++_}
-use lib.ListN.{length, getD, set, length-set, length-append, List·getD-append}
-use lib.Arith.{digits-lt}
+use lib.ListN.{length, getD, drop, set, length-set, length-append, List·getD-append}
+use lib.Arith.{digits-lt, digits-div, digits-mod}
 use lib.Bits.{bitOr, or-shifted-r}
 use lib.Dec.{lit<}
 use lib.Pow.{pow-add, pow-mono, shl-exact}
-use lib.Seq.{sets, getD-set-same, append-snoc, getD-append-seam, getD-append-add, getD-take, getD-drop}
+use lib.Seq.{sets, getD-set-same, append-snoc, drop-cons, getD-append-seam, getD-append-add, getD-take, getD-drop}
 use Rattle.base.specs.Over.{getD-sets-below}
 use Rattle.codes.specs.Little.{leAt, leBytes}
 
@@ -104,6 +104,21 @@ leAt-put (suc n) o i x h b =
     (rw add-one (leAt-put n o′ (suc i) (x / 256) (rw length-set (omega arith)) (shorter n x b)))
     (getD-sets-below (leBytes n (x / 256)) o′ (suc i) i 0 (omega arith) ∙ getD-set-same o i (x % 256) 0 inside)
     ∙ div-add-mod' x 256
+
+-- what is read as a number is what is written for it
+pub le-stood : (n : ℕ) (s : List ℕ) (i : ℕ) → ((j : ℕ) → getD s j 0 < 2 ^ 8) → i + n ≤ length s → drop i s ≡ leBytes n (leAt s i n) ++ drop (i + n) s
+unfolding leBytes
+le-stood zero s i b h = ap (λ (t : ℕ). drop t s) (sym (add-zero i))
+le-stood (suc n) s i b h =
+    let x : ℕ = getD s i 0 in
+    let y : ℕ = leAt s (i + 1) n in
+    let low : leAt s i (suc n) ≡ y * 256 + x = leAt-low s i n in
+    let first : leAt s i (suc n) % 256 ≡ x = rw low (digits-mod y (b i)) in
+    let others : leAt s i (suc n) / 256 ≡ y = rw low (digits-div y (b i)) in
+    let ih = le-stood n s (i + 1) b (omega arith) in
+    let place : i + 1 + n ≡ i + suc n = omega arith in
+    rw (first, others)
+    (rw (add-one i) (drop-cons s i 0 (omega arith)) ∙ ap (λ (t : List ℕ). x ∷ t) (ih ∙ ap (λ (t : ℕ). leBytes n y ++ drop t s) place))
 
 -- two numbers of n bytes have different bytes
 pub leBytes-one : (n x y : ℕ) → x < 2 ^ (8 * n) → y < 2 ^ (8 * n) → leBytes n x ≡ leBytes n y → x ≡ y
