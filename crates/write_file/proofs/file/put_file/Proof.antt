@@ -154,7 +154,7 @@ flags-of-requires : tie.Need-flags-of-requires
 flags-of-requires c κs = search needs
 
 put-header-requires : tie.Need-put-header-requires
-put-header-requires c κs = let a = c .before .before .before .before .before .before .args in room₀ (record { direction = a .direction; ids = a .ids .now }) (edgesIn (a .kind) (a .a .now) (a .b .now)) (a .plan) (c .before .before .before .before .before .before .pre .0) (c .before .before .before .before .before .before .pre .2) (a .out .now) (c .before .before .before .before .before .before .pre .3)
+put-header-requires c κs = let a = c .before .before .before .before .before .before .args in (room₀ (record { direction = a .direction; ids = a .ids .now }) (edgesIn (a .kind) (a .a .now) (a .b .now)) (a .plan) (c .before .before .before .before .before .before .pre .0) (c .before .before .before .before .before .before .pre .2) (a .out .now) (c .before .before .before .before .before .before .pre .3), c .before .before .before .before .before .before .pre .2)
 
 put-payload-requires : tie.Need-put-payload-requires
 put-payload-requires c κs = let a = c .before .before .before .before .before .before .before .before .before .before .args in let b = bounds (record { direction = a .direction; ids = a .ids .now }) (edgesIn (a .kind) (a .a .now) (a .b .now)) (a .plan) (c .before .before .before .before .before .before .before .before .before .before .pre .0) (c .before .before .before .before .before .before .before .before .before .before .pre .2) (a .out .now) (c .before .before .before .before .before .before .before .before .before .before .pre .3) in (b .0, b .1, b .2, b .3, c .before .before .before .before .before .before .before .before .before .before .pre .1, room₁ (record { direction = a .direction; ids = a .ids .now }) (edgesIn (a .kind) (a .a .now) (a .b .now)) (a .plan) (c .before .before .before .before .before .before .before .before .before .before .pre .0) (c .before .before .before .before .before .before .before .before .before .before .pre .2) (a .out .now) (c .before .before .before .before .before .before .before .before .before .before .pre .3) _ (c .before .before .before .before .before .flags-of .ensures) (c .before .before .before .put-header .ensures))
