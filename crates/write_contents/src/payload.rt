@@ -55,7 +55,7 @@ pub fn put_payload(
     out: &mut [u8],
     at: usize,
 ) -> usize
-    requires { ⌜ (n ≡ length (edgesIn kind (now a) (now b))) × (n ≤ 67108864) × (keys ≡ length (groupsOf (edgesIn kind (now a) (now b)))) × (keys ≤ 67108864) × Grouped 0 (groupsOf (edgesIn kind (now a) (now b))) × (at + length (payload (sectionsBy keys w dead (edgesIn kind (now a) (now b)) (groupsOf (edgesIn kind (now a) (now b))))) ≤ length (now out)) ⌝ }
+    requires { ⌜ (n ≡ length (edgesIn kind (now a) (now b))) × (n ≤ 67108864) × (keys ≡ length (groupsOf (edgesIn kind (now a) (now b)))) × (keys ≤ 67108864) × Grouped 0 (groupsOf (edgesIn kind (now a) (now b))) × (at + length (payload (sectionsBy keys w dead (edgesIn kind (now a) (now b)) (groupsOf (edgesIn kind (now a) (now b))))) ≤ length (now out)) × (3 ≤ w) × (w ≤ 4) ⌝ }
     ensures { λ r. ⌜ Put (now (out .entry)) (now (out .exit)) at r (payload (sectionsBy keys w dead (edgesIn kind (now (a .entry)) (now (b .entry))) (groupsOf (edgesIn kind (now (a .entry)) (now (b .entry)))))) ⌝ }
 {
     let p = put_groups(kind, a, b, n, keys, w, out, at);

@@ -13,10 +13,10 @@ ghost use Rattle.batch_groups.specs.Groups.{none, groupsOf, Grouped};
 ghost use Rattle.write_image.specs.Image.{partnersIn, groupBytes, anyDense, keyBytes, offsetBytes, partnerBytes};
 ghost use Rattle.write_image.specs.Image.Laws.{Rise};
 ghost use Rattle.write_source.specs.Source.{edgesIn};
-use write_group::block_size;
-use write_group::put_block;
 use codes::ids::put_id;
 use codes::little::put_le;
+use write_group::block_size;
+use write_group::put_block;
 use write_source::edge_of;
 use write_source::group_end;
 
@@ -49,6 +49,18 @@ pub fn partners_size(kind: u8, a: &[u8], b: &[u8], n: usize, keys: usize) -> Tot
     Total { bytes, dense }
 }
 
+// Writes an offset of w bytes, each width by itself: the compiler then knows how many bytes it stores.
+fn put_offset(out: &mut [u8], at: usize, w: usize, x: u64)
+    requires { ⌜ (at + w ≤ length (now out)) × (3 ≤ w) × (w ≤ 4) ⌝ }
+    ensures { λ _. ⌜ now (out .exit) ≡ sets (now (out .entry)) at (leBytes w x) ⌝ }
+{
+    if w == 3 {
+        put_le(out, at, 3, x);
+        return;
+    }
+    put_le(out, at, 4, x);
+}
+
 // The group of the edges i up to j: its key at k, its offset at o, its bytes at p. Answers the place after these.
 fn put_group(
     kind: u8,
@@ -64,13 +76,13 @@ fn put_group(
     o: usize,
     p: usize,
 ) -> usize
-    requires { ⌜ (i < j) × (j ≤ length (edgesIn kind (now a) (now b))) × (j ≤ 67108864) × (keys ≤ 67108864) × Rise 0 (partnersIn (part (edgesIn kind (now a) (now b)) i j)) × (k + 16 ≤ length (now out)) × (o + w ≤ length (now out)) × (p + length (groupBytes keys (partnersIn (part (edgesIn kind (now a) (now b)) i j))) ≤ length (now out)) ⌝ }
+    requires { ⌜ (i < j) × (j ≤ length (edgesIn kind (now a) (now b))) × (j ≤ 67108864) × (keys ≤ 67108864) × Rise 0 (partnersIn (part (edgesIn kind (now a) (now b)) i j)) × (k + 16 ≤ length (now out)) × (o + w ≤ length (now out)) × (p + length (groupBytes keys (partnersIn (part (edgesIn kind (now a) (now b)) i j))) ≤ length (now out)) × (3 ≤ w) × (w ≤ 4) ⌝ }
     ensures { λ r. ⌜ (r ≡ p + length (groupBytes keys (partnersIn (part (edgesIn kind (now (a .entry)) (now (b .entry))) i j)))) × (now (out .exit) ≡ sets (sets (sets (now (out .entry)) k (idBytes (getD (edgesIn kind (now (a .entry)) (now (b .entry))) i none .key))) o (leBytes w start)) p (groupBytes keys (partnersIn (part (edgesIn kind (now (a .entry)) (now (b .entry))) i j)))) ⌝ }
 {
     let e = edge_of(kind, a, b, i);
     let key = e.key;
     put_id(out, k, key);
-    put_le(out, o, w, start);
+    put_offset(out, o, w, start);
     let z = block_size(kind, a, b, i, j, keys);
     put_block(kind, a, b, i, j, z.dense, out, p)
 }
@@ -86,7 +98,7 @@ pub fn put_groups(
     out: &mut [u8],
     at: usize,
 ) -> usize
-    requires { ⌜ (n ≡ length (edgesIn kind (now a) (now b))) × (n ≤ 67108864) × (keys ≡ length (groupsOf (edgesIn kind (now a) (now b)))) × (keys ≤ 67108864) × Grouped 0 (groupsOf (edgesIn kind (now a) (now b))) × (at + length (keyBytes (groupsOf (edgesIn kind (now a) (now b))) ++ (offsetBytes w keys 0 (groupsOf (edgesIn kind (now a) (now b))) ++ partnerBytes keys (groupsOf (edgesIn kind (now a) (now b))))) ≤ length (now out)) ⌝ }
+    requires { ⌜ (n ≡ length (edgesIn kind (now a) (now b))) × (n ≤ 67108864) × (keys ≡ length (groupsOf (edgesIn kind (now a) (now b)))) × (keys ≤ 67108864) × Grouped 0 (groupsOf (edgesIn kind (now a) (now b))) × (at + length (keyBytes (groupsOf (edgesIn kind (now a) (now b))) ++ (offsetBytes w keys 0 (groupsOf (edgesIn kind (now a) (now b))) ++ partnerBytes keys (groupsOf (edgesIn kind (now a) (now b))))) ≤ length (now out)) × (3 ≤ w) × (w ≤ 4) ⌝ }
     ensures { λ r. ⌜ Put (now (out .entry)) (now (out .exit)) at r (keyBytes (groupsOf (edgesIn kind (now (a .entry)) (now (b .entry)))) ++ (offsetBytes w keys 0 (groupsOf (edgesIn kind (now (a .entry)) (now (b .entry)))) ++ partnerBytes keys (groupsOf (edgesIn kind (now (a .entry)) (now (b .entry)))))) ⌝ }
 {
     let mut i: usize = 0;
@@ -103,6 +115,6 @@ pub fn put_groups(
         i = j;
     }
     let start = p - base;
-    put_le(out, o, w, start as u64);
+    put_offset(out, o, w, start as u64);
     p
 }

@@ -397,6 +397,14 @@ pub width-large : (size : ℕ) → 2 ^ 24 ≤ size → widthOf size ≡ 4
 unfolding widthOf
 width-large size h = simp (le-ltb size (2 ^ 24) h)
 
+pub width-least : (size : ℕ) → 3 ≤ widthOf size
+unfolding widthOf
+width-least size = go (ltb size (2 ^ 24))
+  where
+    go : (b : Bool) → 3 ≤ pick b 3 4
+    go true = omega arith
+    go false = omega arith
+
 pub width-most : (size : ℕ) → widthOf size ≤ 4
 unfolding widthOf
 width-most size = go (ltb size (2 ^ 24))

@@ -32,8 +32,8 @@ edge-of-requires c κs = search needs
 put-id-requires : tie.Need-put-id-requires
 put-id-requires c κs = search needs
 
-put-le-requires : tie.Need-put-le-requires
-put-le-requires c κs = search needs
+put-offset-requires : tie.Need-put-offset-requires
+put-offset-requires c κs = search needs
 
 block-size-requires : tie.Need-block-size-requires
 block-size-requires c κs = (omega arith, c .before .before .before .before .before .before .before .before .before .before .before .before .before .pre .1, c .before .before .before .before .before .before .before .before .before .before .before .before .before .pre .2, c .before .before .before .before .before .before .before .before .before .before .before .before .before .pre .4, c .before .before .before .before .before .before .before .before .before .before .before .before .before .pre .3)
@@ -52,7 +52,7 @@ returns c = let a = c .before .before .before .before .before .before .before .b
     let ps = partnersIn (part es (a .i) (a .j)) in
     let q = done (a .keys) ps _ (c .before .before .before .before .block-size .ensures .0) (c .before .before .put-block .ensures) in
     let key = ap (λ (t : Edge). idBytes (t .key)) (c .before .before .before .before .before .before .before .before .before .before .before .before .before .before .edge-of .ensures) in
-    let stored = c .before .before .before .before .before .before .before .put-le .ensures ∙ ap (λ (t : List ℕ). sets t (a .o) (leBytes (a .w) (a .start))) (c .before .before .before .before .before .before .before .before .before .before .before .put-id .ensures ∙ ap (sets (a .out .now) (a .k)) key) in
+    let stored = c .before .before .before .before .before .before .before .put-offset .ensures ∙ ap (λ (t : List ℕ). sets t (a .o) (leBytes (a .w) (a .start))) (c .before .before .before .before .before .before .before .before .before .before .before .put-id .ensures ∙ ap (sets (a .out .now) (a .k)) key) in
     (q .0, q .1 ∙ ap (λ (t : List ℕ). sets t (a .p) (groupBytes (a .keys) ps)) stored)
 
 pub put-group-spec : {M : Type 1} → statement M
@@ -61,7 +61,7 @@ put-group-spec =
     (tie.spec
     edge-of-requires
     put-id-requires
-    put-le-requires
+    put-offset-requires
     block-size-requires
     put-block-requires
     same-length
