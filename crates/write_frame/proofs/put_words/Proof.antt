@@ -49,7 +49,7 @@ loop-holds : tie.Need-loop-holds Inv-loop μ-loop
 loop-holds c = let a = c .before .before .args in begin (a .s .now) (a .out .now) (a .at)
 
 le64-requires : tie.Need-le64-requires Inv-loop μ-loop
-le64-requires c κs = let a = c .before .before .before .before .args in let l = c .before .loop in inside (a .s .now) (a .out .now) (a .at) (l .out) (l .k) (l .inv) (omega arith) (c .before .before .before .before .pre .1)
+le64-requires c κs = let a = c .before .before .before .before .args in let l = c .before .loop in let i = inside (a .s .now) (a .out .now) (a .at) (l .out) (l .k) (l .inv) (omega arith) (c .before .before .before .before .pre .1) in omega arith
 
 add-put-le : tie.Need-add-put-le Inv-loop μ-loop
 add-put-le c = omega arith
