@@ -11,7 +11,7 @@ use lib.Seq.{append-snoc, drop-cons, drop-drop}
 use lib.Arith.{digits-div, digits-mod}
 use Rattle.codes.specs.declared.ids.Id.{Id}
 use Rattle.codes.specs.declared.varint.Varint.the-variants.{Value}
-use Rattle.codes.specs.Little.{leAt, leBytes}
+use Rattle.codes.specs.Little.{leAt}
 use Rattle.codes.specs.Little.Laws.{leAt-lt, le-stood}
 use Rattle.codes.specs.Ids.{beAt, beBytes, numberOf, idBytes, halvesAt}
 use Rattle.codes.specs.Ids.Laws.{beAt-lt}

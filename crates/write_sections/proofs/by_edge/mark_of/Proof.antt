@@ -1,7 +1,5 @@
-use mathlib.Core.Path.{_≡_, sym, ap, _∙_}
-use Prim.Native.Nat.{ℕ}
+use mathlib.Core.Path.{sym, ap, _∙_}
 use native.Mathlib.Omega.{arith}
-use mathlib.Core.Bool.{Bool, true, false}
 use Rattle.write_image.specs.Image.{bit}
 use borrow.Author.Needs.{needs}
 use Rattle.write_sections.proofs.by_edge.mark_of.Statement.{statement}
