@@ -50,6 +50,18 @@ pub fn partners_size(kind: u8, a: &[u8], b: &[u8], n: usize, keys: usize) -> Tot
     Total { bytes, dense }
 }
 
+// Writes an offset of w bytes, each width by itself: the compiler then knows how many bytes it stores.
+fn put_offset(out: &mut [u8], at: usize, w: usize, x: u64)
+    requires { ⌜ (at + w ≤ length (now out)) × (3 ≤ w) × (w ≤ 4) ⌝ }
+    ensures { λ _. ⌜ now (out .exit) ≡ sets (now (out .entry)) at (leBytes w x) ⌝ }
+{
+    if w == 3 {
+        put_le(out, at, 3, x);
+        return;
+    }
+    put_le(out, at, 4, x);
+}
+
 // The group g that begins at edge i: its key at k, its offset at o, its bytes at p. Answers the place after these.
 fn put_group(
     kind: u8,
@@ -65,13 +77,13 @@ fn put_group(
     o: usize,
     p: usize,
 ) -> usize
-    requires { ⌜ Spans (sourceEdges kind (now a) (now b)) i g × (g .end ≤ mostEdges) × (keys ≤ mostEdges) × Rise 0 (partnersIn (part (sourceEdges kind (now a) (now b)) i (g .end))) × (k + 16 ≤ length (now out)) × (o + w ≤ length (now out)) × (p + length (groupBytes keys (partnersIn (part (sourceEdges kind (now a) (now b)) i (g .end)))) ≤ length (now out)) ⌝ }
+    requires { ⌜ Spans (sourceEdges kind (now a) (now b)) i g × (g .end ≤ mostEdges) × (keys ≤ mostEdges) × Rise 0 (partnersIn (part (sourceEdges kind (now a) (now b)) i (g .end))) × (k + 16 ≤ length (now out)) × (o + w ≤ length (now out)) × (p + length (groupBytes keys (partnersIn (part (sourceEdges kind (now a) (now b)) i (g .end)))) ≤ length (now out)) × (3 ≤ w) × (w ≤ 4) ⌝ }
     ensures { λ r. ⌜ (r ≡ p + length (groupBytes keys (partnersIn (part (sourceEdges kind (now (a .entry)) (now (b .entry))) i (g .end))))) × (now (out .exit) ≡ sets (sets (sets (now (out .entry)) k (idBytes (getD (sourceEdges kind (now (a .entry)) (now (b .entry))) i none .key))) o (leBytes w start)) p (groupBytes keys (partnersIn (part (sourceEdges kind (now (a .entry)) (now (b .entry))) i (g .end))))) ⌝ }
 {
     let e = edge_of(kind, a, b, i);
     let key = e.key;
     put_id(out, k, key);
-    put_le(out, o, w, start);
+    put_offset(out, o, w, start);
     let j = g.end;
     let dense = dense_by(keys, j - i, g.cost);
     put_block(kind, a, b, i, j, dense, out, p)
@@ -88,7 +100,7 @@ pub fn put_groups(
     out: &mut [u8],
     at: usize,
 ) -> usize
-    requires { ⌜ (n ≡ length (sourceEdges kind (now a) (now b))) × (n ≤ 67108864) × (keys ≡ length (groupsOf (sourceEdges kind (now a) (now b)))) × (keys ≤ 67108864) × Grouped 0 (groupsOf (sourceEdges kind (now a) (now b))) × (at + length (keyBytes (groupsOf (sourceEdges kind (now a) (now b))) ++ (offsetBytes w keys 0 (groupsOf (sourceEdges kind (now a) (now b))) ++ partnerBytes keys (groupsOf (sourceEdges kind (now a) (now b))))) ≤ length (now out)) ⌝ }
+    requires { ⌜ (n ≡ length (sourceEdges kind (now a) (now b))) × (n ≤ 67108864) × (keys ≡ length (groupsOf (sourceEdges kind (now a) (now b)))) × (keys ≤ 67108864) × Grouped 0 (groupsOf (sourceEdges kind (now a) (now b))) × (at + length (keyBytes (groupsOf (sourceEdges kind (now a) (now b))) ++ (offsetBytes w keys 0 (groupsOf (sourceEdges kind (now a) (now b))) ++ partnerBytes keys (groupsOf (sourceEdges kind (now a) (now b))))) ≤ length (now out)) × (3 ≤ w) × (w ≤ 4) ⌝ }
     ensures { λ r. ⌜ Put (now (out .entry)) (now (out .exit)) at r (keyBytes (groupsOf (sourceEdges kind (now (a .entry)) (now (b .entry)))) ++ (offsetBytes w keys 0 (groupsOf (sourceEdges kind (now (a .entry)) (now (b .entry)))) ++ partnerBytes keys (groupsOf (sourceEdges kind (now (a .entry)) (now (b .entry)))))) ⌝ }
 {
     let mut i: usize = 0;
@@ -105,6 +117,6 @@ pub fn put_groups(
         i = g.end;
     }
     let start = p - base;
-    put_le(out, o, w, start as u64);
+    put_offset(out, o, w, start as u64);
     p
 }

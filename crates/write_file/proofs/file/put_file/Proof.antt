@@ -12,7 +12,7 @@ use Rattle.frame.specs.Layout.{Section, payload, bodyBytes, trailer, headBytes}
 use Rattle.batch.specs.Batch.{Heading}
 use Rattle.batch_groups.specs.Groups.{groupsOf}
 use Rattle.write_image.specs.Image.{flagsBy, sectionsBy, layoutBy, fileOf}
-use Rattle.write_image.specs.Image.Laws.{width-most}
+use Rattle.write_image.specs.Image.Laws.{width-least, width-most}
 use Rattle.write_source.specs.Source.{sourceEdges}
 use Rattle.write_frame.specs.Standing.{stands}
 use Rattle.write_frame.specs.Runs.{length-head, length-trailer}
@@ -65,13 +65,14 @@ module _ (h : Heading) (es : List Edge) (p : Plan) (fits : PlanFits es p) (ids :
   room₀ : 16 + length (h .ids) ≤ length o
   room₀ = let r = P.room head (payload ss ++ (body ++ tail)) todo room in let l = head-long in omega arith
 
-  bounds : (p .edges ≡ length es) × (p .edges ≤ 67108864) × (p .keys ≡ length (groupsOf es)) × (p .keys ≤ 67108864) × (p .width ≤ 4)
+  bounds : (p .edges ≡ length es) × (p .edges ≤ 67108864) × (p .keys ≡ length (groupsOf es)) × (p .keys ≤ 67108864) × (p .width ≤ 4) × (3 ≤ p .width)
   bounds =
       let f = fits .fitting in
       let k = fits .keys-few in
       let e = fits .edges-few in
       let w : p .width ≤ 4 = subst (λ (t : ℕ). t ≤ 4) (sym (f .width-is)) (width-most (p .partners)) in
-      (f .edges-is, e, f .keys-is, omega arith, w)
+      let v : 3 ≤ p .width = subst (λ (t : ℕ). 3 ≤ t) (sym (f .width-is)) (width-least (p .partners)) in
+      (f .edges-is, e, f .keys-is, omega arith, w, v)
 
   module _ (fl : ℕ) (same-flags : fl ≡ flags) {o₁ : List ℕ} (e : o₁ ≡ sets o 0 (headBytes 0 fl (h .ids))) where
     l₁ : Left o₁ 64 (payload ss ++ (body ++ tail)) o 0 whole
@@ -154,10 +155,10 @@ flags-for-requires : tie.Need-flags-for-requires
 flags-for-requires c κs = search needs
 
 put-header-requires : tie.Need-put-header-requires
-put-header-requires c κs = let a = c .before .before .before .before .before .before .args in room₀ (record { direction = a .direction; ids = a .ids .now }) (sourceEdges (a .kind) (a .a .now) (a .b .now)) (a .plan) (c .before .before .before .before .before .before .pre .0) (c .before .before .before .before .before .before .pre .2) (a .out .now) (c .before .before .before .before .before .before .pre .3)
+put-header-requires c κs = let a = c .before .before .before .before .before .before .args in (room₀ (record { direction = a .direction; ids = a .ids .now }) (sourceEdges (a .kind) (a .a .now) (a .b .now)) (a .plan) (c .before .before .before .before .before .before .pre .0) (c .before .before .before .before .before .before .pre .2) (a .out .now) (c .before .before .before .before .before .before .pre .3), c .before .before .before .before .before .before .pre .2)
 
 put-payload-requires : tie.Need-put-payload-requires
-put-payload-requires c κs = let a = c .before .before .before .before .before .before .before .before .before .before .args in let b = bounds (record { direction = a .direction; ids = a .ids .now }) (sourceEdges (a .kind) (a .a .now) (a .b .now)) (a .plan) (c .before .before .before .before .before .before .before .before .before .before .pre .0) (c .before .before .before .before .before .before .before .before .before .before .pre .2) (a .out .now) (c .before .before .before .before .before .before .before .before .before .before .pre .3) in (b .0, b .1, b .2, b .3, c .before .before .before .before .before .before .before .before .before .before .pre .1, room₁ (record { direction = a .direction; ids = a .ids .now }) (sourceEdges (a .kind) (a .a .now) (a .b .now)) (a .plan) (c .before .before .before .before .before .before .before .before .before .before .pre .0) (c .before .before .before .before .before .before .before .before .before .before .pre .2) (a .out .now) (c .before .before .before .before .before .before .before .before .before .before .pre .3) _ (c .before .before .before .before .before .flags-for .ensures) (c .before .before .before .put-header .ensures))
+put-payload-requires c κs = let a = c .before .before .before .before .before .before .before .before .before .before .args in let b = bounds (record { direction = a .direction; ids = a .ids .now }) (sourceEdges (a .kind) (a .a .now) (a .b .now)) (a .plan) (c .before .before .before .before .before .before .before .before .before .before .pre .0) (c .before .before .before .before .before .before .before .before .before .before .pre .2) (a .out .now) (c .before .before .before .before .before .before .before .before .before .before .pre .3) in (b .0, b .1, b .2, b .3, c .before .before .before .before .before .before .before .before .before .before .pre .1, room₁ (record { direction = a .direction; ids = a .ids .now }) (sourceEdges (a .kind) (a .a .now) (a .b .now)) (a .plan) (c .before .before .before .before .before .before .before .before .before .before .pre .0) (c .before .before .before .before .before .before .before .before .before .before .pre .2) (a .out .now) (c .before .before .before .before .before .before .before .before .before .before .pre .3) _ (c .before .before .before .before .before .flags-for .ensures) (c .before .before .before .put-header .ensures), b .5, b .4)
 
 put-body-requires : tie.Need-put-body-requires
 put-body-requires c κs = let a = c .before .before .before .before .before .before .before .before .before .before .before .before .before .before .args in let b = bounds (record { direction = a .direction; ids = a .ids .now }) (sourceEdges (a .kind) (a .a .now) (a .b .now)) (a .plan) (c .before .before .before .before .before .before .before .before .before .before .before .before .before .before .pre .0) (c .before .before .before .before .before .before .before .before .before .before .before .before .before .before .pre .2) (a .out .now) (c .before .before .before .before .before .before .before .before .before .before .before .before .before .before .pre .3) in let r = room₂ (record { direction = a .direction; ids = a .ids .now }) (sourceEdges (a .kind) (a .a .now) (a .b .now)) (a .plan) (c .before .before .before .before .before .before .before .before .before .before .before .before .before .before .pre .0) (c .before .before .before .before .before .before .before .before .before .before .before .before .before .before .pre .2) (a .out .now) (c .before .before .before .before .before .before .before .before .before .before .before .before .before .before .pre .3) _ (c .before .before .before .before .before .before .before .before .before .flags-for .ensures) (c .before .before .before .before .before .before .before .put-header .ensures) (c .before .before .before .put-payload .ensures) in (b .3, b .4, b .1, r .0, r .1, r .2)

@@ -34,8 +34,8 @@ edge-of-requires c κs = search needs
 put-id-requires : tie.Need-put-id-requires
 put-id-requires c κs = search needs
 
-put-le-requires : tie.Need-put-le-requires
-put-le-requires c κs = search needs
+put-offset-requires : tie.Need-put-offset-requires
+put-offset-requires c κs = search needs
 
 sub-dense-by : tie.Need-sub-dense-by
 sub-dense-by c = search needs
@@ -62,7 +62,7 @@ returns c = let a = c .before .before .before .before .before .before .before .b
     let d = c .before .before .before .before .dense-by .ensures ∙ span-dense es (a .i) (a .g) (c .before .before .before .before .before .before .before .before .before .before .before .before .before .before .before .before .before .before .pre .0) (a .keys) in
     let q = done (a .keys) ps _ d (c .before .before .put-block .ensures) in
     let key = ap (λ (t : Edge). idBytes (t .key)) (c .before .before .before .before .before .before .before .before .before .before .before .before .before .before .edge-of .ensures) in
-    let stored = c .before .before .before .before .before .before .before .put-le .ensures ∙ ap (λ (t : List ℕ). sets t (a .o) (leBytes (a .w) (a .start))) (c .before .before .before .before .before .before .before .before .before .before .before .put-id .ensures ∙ ap (sets (a .out .now) (a .k)) key) in
+    let stored = c .before .before .before .before .before .before .before .put-offset .ensures ∙ ap (λ (t : List ℕ). sets t (a .o) (leBytes (a .w) (a .start))) (c .before .before .before .before .before .before .before .before .before .before .before .put-id .ensures ∙ ap (sets (a .out .now) (a .k)) key) in
     (q .0, q .1 ∙ ap (λ (t : List ℕ). sets t (a .p) (groupBytes (a .keys) ps)) stored)
 
 pub put-group-spec : {M : Type 1} → statement M
@@ -71,7 +71,7 @@ put-group-spec =
     (tie.spec
     edge-of-requires
     put-id-requires
-    put-le-requires
+    put-offset-requires
     sub-dense-by
     dense-by-requires
     put-block-requires
