@@ -3,9 +3,9 @@ use mathlib.Core.Path.{_≡_, sym}
 use Prim.Native.Nat.{ℕ, _+_, _*_, _^_, _<_}
 use native.Mathlib.Omega.{arith}
 use borrow.Author.Tests.{eq-eqb, ne-eqb}
 use Rattle.codes.specs.Ids.{idNumber}
-use Rattle.write_group.proofs.same_id.Statement.{statement}
-use Rattle.write_group.proofs.same_id.Tie as tie
+use Rattle.codes.proofs.ids.same_id.Statement.{statement}
+use Rattle.codes.proofs.ids.same_id.Tie as tie
 
 hi-differ : (p q v w : ℕ) → v < 2 ^ 64 → w < 2 ^ 64 → (p ≡ q → ⊥) → p * 2 ^ 64 + v ≡ q * 2 ^ 64 + w → ⊥
 hi-differ p q v w f g n e = n (omega arith)
