@@ -25,7 +25,7 @@ use Rattle.group.specs.Group.{bytesOf}
 use Rattle.group.specs.Group.Laws.{tagOf, length-bytesOf}
 use Rattle.group.specs.Written.{Halves, Above, splitFrom, payloadOf, writtenAs, written-is}
 use Rattle.batch.specs.declared.Edge.{Edge}
-use Rattle.batch_groups.specs.Groups.{none, Group, groupsOf, GroupEnd, Run, Grouped}
+use Rattle.batch_groups.specs.Groups.{none, anyDead, Group, groupsOf, GroupEnd, Run, Grouped}
 use Rattle.batch_groups.specs.Groups.Laws.{grouped-step, groups-end}
 use Rattle.write_image.specs.Image.{keysIn, splitCost, denseBy, isDense, groupBytes, bytesIn, anyDense, keyBytes, numbers, partnerBytes, startsFrom, offsetBytes, widthOf, logBytes, bit, octet, octets, tombBytes, stride, fenceBytes, fenceKeysFrom, fenceCount, fencesOf}
 
