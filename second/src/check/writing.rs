@@ -21,7 +21,7 @@ pub fn check(tally: &mut Tally) {
     check_bounds(tally);
     let small = write_batches::small();
     let large = write_batches::large();
-    test_check(tally, &small, &large);
+    check_corpus(tally, &small, &large);
     for batch in &small {
         check_batch(tally, batch, ROOM, 1);
     }
@@ -130,7 +130,7 @@ fn check_bounds(tally: &mut Tally) {
     }
 }
 
-fn test_check(tally: &mut Tally, small: &[WriteBatch], large: &[WriteBatch]) {
+fn check_corpus(tally: &mut Tally, small: &[WriteBatch], large: &[WriteBatch]) {
     let named = |batch: &WriteBatch| (batch.name.clone(), batch.bytes.clone());
     let items: Vec<Named> = small.iter().chain(large).map(named).collect();
     check_names(tally, &items);
