@@ -14,10 +14,10 @@ use super::groups::groups_of;
 use super::marks::Marks;
 use super::marks::marks_of;
 use codes::little::le32;
-use open_counts::alike;
-use open_counts::flag_of;
 use frame::Opened;
 use frame::bytes_of;
+use open_counts::alike;
+use open_counts::flag_of;
 use refusal::Check;
 use refusal::Refusal;
 

@@ -15,9 +15,9 @@ use frame::Range;
 use frame::Row;
 use frame::bytes_of;
 use frame::ends::body_of;
+use open_table::row_at;
 use refusal::Check;
 use refusal::Refusal;
-use open_table::row_at;
 use xxh3::xxh3;
 
 // The sum of the bytes from `start` on.

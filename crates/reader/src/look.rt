@@ -13,8 +13,6 @@ ghost use Rattle.lookup.specs.Calls.{alone, lent, Alone, Whole};
 use super::open::open;
 use codes::ids::Id;
 use codes::ids::id_at;
-use open_counts::sizes_good;
-use open_counts::width_good;
 use frame::Opened;
 use frame::Opening;
 use frame::Range;
@@ -22,6 +20,8 @@ use frame::bounds::Bounds;
 use lookup::Looked;
 use lookup::partners::partners_of;
 use lookup::whole::edges_of_key;
+use open_counts::sizes_good;
+use open_counts::width_good;
 use refusal::Refusal;
 
 // Does a range lie within so many bytes? Its start and length may be any numbers.

@@ -7,10 +7,10 @@ ghost use Rattle.batch_groups.specs.Groups.{groupsOf, Grouped};
 ghost use Rattle.write_image.specs.Image.{bit, flagsBy, fileOf};
 ghost use Rattle.write_source.specs.Source.{edgesIn};
 ghost use Rattle.write_plan.specs.Bounds.{Fits};
-use write_frame::put_header;
-use write_frame::put_trailer;
 use write_contents::footer::put_body;
 use write_contents::payload::put_payload;
+use write_frame::put_header;
+use write_frame::put_trailer;
 use write_plan::Plan;
 
 fn bit_of(b: bool) -> u64

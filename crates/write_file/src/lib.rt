@@ -10,11 +10,11 @@ ghost use Rattle.write_file.specs.Written.{neededOf, Wrote};
 use batch::Edge;
 use batch_faults::check_batch;
 use file::put_file;
+use refusal::Check;
+use refusal::Refusal;
 use write_plan::Counted;
 use write_plan::Plan;
 use write_plan::measure;
-use refusal::Check;
-use refusal::Refusal;
 
 pub mod file;
 

@@ -13,10 +13,10 @@ ghost use Rattle.batch_groups.specs.Groups.{none, groupsOf, Grouped};
 ghost use Rattle.write_image.specs.Image.{partnersIn, groupBytes, anyDense, keyBytes, offsetBytes, partnerBytes};
 ghost use Rattle.write_image.specs.Image.Laws.{Rise};
 ghost use Rattle.write_source.specs.Source.{edgesIn};
-use write_group::block_size;
-use write_group::put_block;
 use codes::ids::put_id;
 use codes::little::put_le;
+use write_group::block_size;
+use write_group::put_block;
 use write_source::edge_of;
 use write_source::group_end;
 
