@@ -12,10 +12,9 @@ use Rattle.codes.specs.Ids.Laws.{halves-same}
 use Rattle.frame.specs.declared.ends.Header.{Header}
 use Rattle.frame.specs.Frame.{headerIn, recordOf}
 use Rattle.frame.specs.Open.{knownOf}
-use Rattle.frame.specs.Open.Laws.{opens-fine}
 use Rattle.batch.specs.Batch.{headingBytes, recordsOf, batchBytes}
 use Rattle.reader.specs.declared.header.HeaderRead.{HeaderRead}
-use Rattle.reader.specs.Header.{headerOf, header-opens, header-there}
+use Rattle.reader.specs.Header.{headerOf, header-opens, header-long}
 use Rattle.readout.specs.Edges.{edgesIn}
 use Rattle.readout.specs.ReadOut.{headingIn, batchIn}
 
@@ -57,6 +56,4 @@ module _ (f : List ℕ) (there : 64 ≤ length f) where
 -- of every file that has a header: where the full check passes, the bytes of `batchIn f` are what the read-out leaves
 pub same-heading : (f : List ℕ) (h : Header) → headerOf f ≡ HeaderRead.Good h → h ≡ headerFor (h .minor) (h .flags) (batchIn f)
 same-heading f h e =
-    let p = header-opens f h .0 e in
-    let there = header-there f (recordOf f) (opens-fine f .1 (p .0)) in
-    rw (p .1) at (fields f (omega arith))
+    let there = header-long f h e in rw (header-opens f h .0 e .1) at (fields f (omega arith))

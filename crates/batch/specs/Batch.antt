@@ -8,8 +8,9 @@ use lib.ListN.{length, getD}
 use lib.Dec.{ltb, leb, eqb}
 use Rattle.base.specs.Pick.{pick}
 use Rattle.base.specs.Over.{part}
+use Rattle.codes.specs.declared.ids.Id.{Id}
 use Rattle.codes.specs.Little.{leAt, leBytes}
-use Rattle.codes.specs.Ids.{halvesAt, numberOf, idBytes}
+use Rattle.codes.specs.Ids.{halvesAt, idNumber, idBytes}
 use Rattle.refusal.specs.declared.Refusal.{Refusal}
 use Rattle.refusal.specs.declared.Check.{Check}
 use Rattle.refusal.specs.Check.{_⊳_, refuse}
@@ -41,12 +42,26 @@ edgesAt zero s e = []
 edgesAt (suc d) s e = edgeAt s (place e) ∷ edgesAt d s (e + 1)
 
 -- how many whole records follow the heading
-abbrev pub countOf : List ℕ → ℕ
-countOf s = (length s - 50) / 41
+abbrev pub recordCount : List ℕ → ℕ
+recordCount s = (length s - 50) / 41
 
 -- the edges of a batch without fault
 unfoldable pub edgesOf : List ℕ → List Edge
-edgesOf s = edgesAt (countOf s) s 0
+edgesOf s = edgesAt (recordCount s) s 0
+
+-- ---- what edges hold
+
+unfoldable pub partnersIn : List Edge → List Id
+partnersIn [] = []
+partnersIn (e ∷ es) = e .partner ∷ partnersIn es
+
+unfoldable pub logsIn : List Edge → List ℕ
+logsIn [] = []
+logsIn (e ∷ es) = e .log ∷ logsIn es
+
+unfoldable pub marksIn : List Edge → List Bool
+marksIn [] = []
+marksIn (e ∷ es) = e .dead ∷ marksIn es
 
 -- ---- and back
 
@@ -71,8 +86,8 @@ batchBytes h es = headingBytes h ++ recordsOf es
 -- by key, then partner
 unfoldable pub before : Edge → Edge → Bool
 before a b =
-    ltb (numberOf (a .key)) (numberOf (b .key))
-    || (eqb (numberOf (a .key)) (numberOf (b .key)) && ltb (numberOf (a .partner)) (numberOf (b .partner)))
+    ltb (idNumber (a .key)) (idNumber (b .key))
+    || (eqb (idNumber (a .key)) (idNumber (b .key)) && ltb (idNumber (a .partner)) (idNumber (b .partner)))
 
 -- edge e is above the one before it
 unfoldable pub inOrder : List ℕ → ℕ → Bool
@@ -95,4 +110,4 @@ unfoldable pub headed : List ℕ → Bool
 headed s = leb 50 (length s) && (eqb (getD s 0 0) 3 && leb (getD s 1 0) 1)
 
 unfoldable pub batchCheck : List ℕ → Check
-batchCheck s = pick (headed s) (faultFrom (countOf s) s 0) (Check.Bad (Refusal.Batch 0))
+batchCheck s = pick (headed s) (faultFrom (recordCount s) s 0) (Check.Bad (Refusal.Batch 0))

@@ -11,6 +11,7 @@ use lib.Dec.{leb, eqb}
 use borrow.Author.Tests.{leb-true}
 use Rattle.base.specs.Pick.{pick}
 use Rattle.base.specs.Over.{length-part}
+use Rattle.base.specs.Bytes.{Bytes}
 use Rattle.refusal.specs.declared.Refusal.{Refusal}
 use Rattle.refusal.specs.declared.Check.{Check}
 use Rattle.refusal.specs.Check.Laws.{and-parts, pick-fine}
@@ -20,7 +21,7 @@ use Rattle.frame.specs.Open.{knownOf, openOf}
 use Rattle.lookup.specs.Lookup.{Rooms, lookOf, lookWith}
 use Rattle.lookup.specs.Calls.{alone}
 use Rattle.batch.specs.declared.Edge.{Edge}
-use Rattle.batch.specs.Batch.{Heading, headingOf, edgesOf, countOf, faultFrom, headed, batchCheck, batchBytes}
+use Rattle.batch.specs.Batch.{Heading, headingOf, edgesOf, recordCount, faultFrom, headed, batchCheck, batchBytes}
 use Rattle.batch_groups.specs.Groups.{groupsOf}
 use Rattle.batch_groups.specs.Groups.Laws.{grouped}
 use Rattle.batch_groups.specs.Order.{batch-ordered, fine-long}
@@ -33,7 +34,7 @@ use Rattle.agreement.specs.Heading.{headerFor, same-heading}
 use Rattle.reader.specs.declared.header.HeaderRead.{HeaderRead}
 use Rattle.reader.specs.Header.{headerOf, header-good}
 use Rattle.reader.specs.Look.{of-good, with-record}
-use Rattle.demand2.specs.File.{Written, minor-is, flags-is, file-opens, known-keys, passes, edges-again, batch-back}
+use Rattle.demand2.specs.File.{WrittenFile, minor-is, flags-is, file-opens, known-keys, passes, edges-again, batch-back}
 use Rattle.demand2.specs.Answers.{outcomeFor, Placed, look-placed, outcome-is}
 
 -- the file of a batch
@@ -53,7 +54,7 @@ pub record Limits (s : List ℕ) : Type 0 where
 
 -- a batch that demand 2 speaks of: bytes, without fault, within the limits; of either direction
 pub record Lawful (s : List ℕ) : Type 0 where
-  pub bytes : (j : ℕ) → getD s j 0 < 2 ^ 8
+  pub bytes : Bytes s
   pub fine : batchCheck s ≡ Check.Fine
   pub limits : Limits s
 
@@ -80,7 +81,7 @@ pub record Demand2 (s : List ℕ) : Type 0 where
       → lookWith false (alone n) key (fileFor s) (recordOf (fileFor s)) ≡ outcomeFor false key (edgesOf s)
 
 -- whatever bytes the batch's check takes within the bounds are lawful
-pub lawful-is : (s : List ℕ) → ((j : ℕ) → getD s j 0 < 2 ^ 8) → batchCheck s ≡ Check.Fine
+pub lawful-is : (s : List ℕ) → Bytes s → batchCheck s ≡ Check.Fine
     → length (groupsOf (edgesOf s)) ≤ 2 ^ 24 → length (edgesOf s) ≤ 2 ^ 26 → length (fileFor s) ≤ 2 ^ 30 → Lawful s
 lawful-is s bytes fine keys edges size = record { bytes = bytes; fine = fine; limits = record { keys = keys; edges = edges; bytes = size } }
 
@@ -88,7 +89,7 @@ lawful-is s bytes fine keys edges size = record { bytes = bytes; fine = fine; li
 way : (s : List ℕ) → batchCheck s ≡ Check.Fine → getD s 1 0 ≤ 1
 unfolding batchCheck headed
 way s e =
-    let h = pick-fine (headed s) (faultFrom (countOf s) s 0) (Refusal.Batch 0) e .0 in
+    let h = pick-fine (headed s) (faultFrom (recordCount s) s 0) (Refusal.Batch 0) e .0 in
     let a = and-parts (leb 50 (length s)) (eqb (getD s 0 0) 3 && leb (getD s 1 0) 1) h .1 in
     leb-true (getD s 1 0) 1 (and-parts (eqb (getD s 0 0) 3) (leb (getD s 1 0) 1) a .1)
 
@@ -99,7 +100,7 @@ module _ (s : List ℕ) (lawful : Lawful s) where
   fine : batchCheck s ≡ Check.Fine
   fine = lawful .fine
 
-  written : Written (headingOf s) (edgesOf s)
+  written : WrittenFile (headingOf s) (edgesOf s)
   unfolding headingOf
   written = record {
     way = way s fine;

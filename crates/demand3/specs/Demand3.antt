@@ -7,6 +7,7 @@ use mathlib.Core.Logic.{_↔_}
 use Prim.Native.Nat.{ℕ}
 use mathlib.Core.List.{List}
 use mathlib.Core.Bool.{Bool, true, not}
+use Rattle.base.specs.Bytes.{Bytes}
 use Rattle.frame.specs.declared.Opened.{Opened}
 use Rattle.frame.specs.declared.Opening.{Opening}
 use Rattle.frame.specs.declared.ends.Header.{Header}
@@ -20,7 +21,7 @@ use Rattle.reader.specs.Header.{headerOf, header-opens, header-good}
 use Rattle.reader.specs.Look.{with-record}
 use Rattle.laid_out.specs.Laid.{file-rows}
 use Rattle.demand3.specs.Stripped.{Stripped, Later, opened-later, copy-opens, copy-answers, added-opens}
-use Rattle.demand3.specs.Strip.{strip, stripped, Bytes, is-copy, h64, small, fits}
+use Rattle.demand3.specs.Strip.{strip, stripped, is-copy, h64, small, fits}
 use Rattle.demand3.specs.Whole.{Byted, byted-strip, none-unknown}
 
 -- f opens to o, and g is a copy of it without the unknown sections

@@ -54,14 +54,14 @@ unfoldable pub endFrom : ℕ → List ℕ → ℕ → ℕ
 endFrom zero b i = i
 endFrom (suc d) b i = endFrom d b (nextAt b i)
 
-abbrev pub countOf : List ℕ → ℕ
-countOf b = leAt b 0 2
+abbrev pub entryCount : List ℕ → ℕ
+entryCount b = leAt b 0 2
 
 unfoldable pub rowsOf : List ℕ → List Row
-rowsOf b = rowsFrom (countOf b) b 2
+rowsOf b = rowsFrom (entryCount b) b 2
 
 unfoldable pub endOf : List ℕ → ℕ
-endOf b = endFrom (countOf b) b 2
+endOf b = endFrom (entryCount b) b 2
 
 abbrev pub keyCount : List ℕ → ℕ
 keyCount b = leAt b (length b - kind.countsSize) 8
@@ -79,9 +79,9 @@ unfoldable pub has : ℕ → List Row → Bool
 has k [] = false
 has k (r ∷ rs) = eqb (r .kind) k || has k rs
 
-unfoldable pub twice : ℕ → List Row → Bool
-twice k [] = false
-twice k (r ∷ rs) = pick (eqb (r .kind) k) (has k rs) (twice k rs)
+unfoldable pub repeated : ℕ → List Row → Bool
+repeated k [] = false
+repeated k (r ∷ rs) = pick (eqb (r .kind) k) (has k rs) (repeated k rs)
 
 -- where the first section of kind k lies; none: an empty range
 abbrev pub rangeOf : Row → Range
@@ -129,7 +129,7 @@ nameGood r = leb (r .namelen) kind.longestName && (not (kind.fixed (r .kind)) ||
 
 -- kind q stands there as often as it may: exactly once, or at most once
 abbrev pub onceGood : List Row → kind.Kind → Bool
-onceGood rs q = not (twice (q .number) rs) && (not (q .needed) || has (q .number) rs)
+onceGood rs q = not (repeated (q .number) rs) && (not (q .needed) || has (q .number) rs)
 
 unfoldable pub kindsGood : List Row → Bool
 kindsGood rs = all (onceGood rs) kind.kinds
@@ -140,7 +140,7 @@ fills b = eqb (endOf b + kind.countsSize) (length b)
 
 unfoldable pub tableGood : List ℕ → Bool
 tableGood b =
-    leb 1 (countOf b) && (leb (countOf b) kind.mostSections && (fills b && (all nameGood (rowsOf b) && kindsGood (rowsOf b))))
+    leb 1 (entryCount b) && (leb (entryCount b) kind.mostSections && (fills b && (all nameGood (rowsOf b) && kindsGood (rowsOf b))))
 
 -- ---- rules 10 and 11, at the first such entry
 

@@ -102,7 +102,7 @@ pub record OneResult : Type 2 where
   pub needed : Determined c-needed.ended c-needed-reads.Pre c-needed-reads.Post
   -- `write`
   pub write : Determined c-write.ended c-write-reads.Pre c-write-reads.Post
-  -- `check_batch`: the first faulty record of a batch
+  -- `check_batch`: the first faulty record of a batch, or what is counted of its edges
   pub check-batch : Determined c-check-batch.ended c-check-batch-reads.Pre c-check-batch-reads.Post
   -- `list_sections`: proved by hand, with what its contract says written out
   pub sections : Determined c-sections.ended (λ κs a. Unit {0}) Listed-post

@@ -23,7 +23,7 @@ use Rattle.readout.specs.declared.ReadOut.{ReadOut}
 use Rattle.readout.specs.ReadOut.{readOutOf}
 use Rattle.readout.specs.ReadOut.Laws.{read-full}
 use Rattle.listing.specs.declared.Listed.{Listed}
-use Rattle.listing.specs.List.{answerOf}
+use Rattle.listing.specs.List.{listedOf}
 use Rattle.listing.specs.List.Laws.{list-opening}
 
 -- the answer a is a refusal, number n at place p, with s beside it
@@ -54,7 +54,7 @@ pub record Every (f : List ℕ) (n p s : ℕ) (A : Type 0) : Type 0 where
   pub check : Gives Check.Bad (fullCheck f) n p s ↔ A
   pub checked : Gives Opening.Refused (checkedOf f) n p s ↔ A
   pub read-out : (room : ℕ) → Gives ReadOut.Refused (readOutOf f room) n p s ↔ A
-  pub sections : (room : ℕ) → Gives Listed.Refused (answerOf f room) n p s ↔ A
+  pub sections : (room : ℕ) → Gives Listed.Refused (listedOf f room) n p s ↔ A
 
 -- the full check's answers are one
 pub checked-is : (f : List ℕ) (r : Refusal) → (checkedOf f ≡ Opening.Refused r) ↔ (fullCheck f ≡ Check.Bad r)
@@ -70,5 +70,5 @@ every f r h is =
       check = Iff·trans (gives-is Check.Bad (fullCheck f) r) full;
       checked = Iff·trans (gives-is Opening.Refused (checkedOf f) r) (Iff·trans (checked-is f r) full);
       read-out = λ room. Iff·trans (gives-is ReadOut.Refused (readOutOf f room) r) (Iff·trans (read-full f room r (λ e. omega arith)) full);
-      sections = λ room. Iff·trans (gives-is Listed.Refused (answerOf f room) r) (Iff·trans (list-opening f room r (λ e. omega arith)) is);
+      sections = λ room. Iff·trans (gives-is Listed.Refused (listedOf f room) r) (Iff·trans (list-opening f room r (λ e. omega arith)) is);
     }

@@ -58,6 +58,9 @@ module _ (f : List ℕ) where
     pub header-there : kind.headerSize ≤ length f
     header-there = let h = size-parts (length f) (opens-parts f o e .frames .size) in omega arith
 
+  pub header-long : (h : Header) → headerOf f ≡ HeaderRead.Good h → kind.headerSize ≤ length f
+  header-long h e = header-there (recordOf f) (opens-fine f .1 (header-opens h .0 e .0))
+
   -- of the flags, bits 0 to 3 alone may be set
   pub header-flags : (h : Header) → headerOf f ≡ HeaderRead.Good h → h .flags ≤ 15
   unfolding headerIn

@@ -31,16 +31,16 @@ readCheck f room = fullCheck f ⊳ refuse (Refusal.Room (neededFor f)) (ltb room
 
 -- ---- what the call answers, and what it leaves in the output
 
-unfoldable pub answerOf : Check → ℕ → ReadOut
-answerOf Check.Fine bytes = ReadOut.Done bytes
-answerOf (Check.Bad r) bytes = ReadOut.Refused r
+unfoldable pub readAnswer : Check → ℕ → ReadOut
+readAnswer Check.Fine bytes = ReadOut.Done bytes
+readAnswer (Check.Bad r) bytes = ReadOut.Refused r
 
-unfoldable pub leaves : Check → List ℕ → List ℕ → List ℕ
-leaves Check.Fine batch out = over batch out
-leaves (Check.Bad r) batch out = out
+unfoldable pub readLeaves : Check → List ℕ → List ℕ → List ℕ
+readLeaves Check.Fine batch out = over batch out
+readLeaves (Check.Bad r) batch out = out
 
 unfoldable pub readOutOf : List ℕ → ℕ → ReadOut
-readOutOf f room = answerOf (readCheck f room) (neededFor f)
+readOutOf f room = readAnswer (readCheck f room) (neededFor f)
 
 unfoldable pub readOutLeaves : List ℕ → List ℕ → List ℕ
-readOutLeaves f out = leaves (readCheck f (length out)) (batchIn f) out
+readOutLeaves f out = readLeaves (readCheck f (length out)) (batchIn f) out

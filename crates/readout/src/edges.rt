@@ -10,14 +10,14 @@ ghost use Rattle.full_check.specs.Full.{checkedOf};
 ghost use Rattle.readout.specs.Edges.{readFrom, edgesIn};
 ghost use Rattle.readout.specs.Edges.Laws.{Readable};
 ghost use Rattle.readout.specs.ReadOut.{headingIn};
-use super::group_edges::put_group;
+use super::group_edges::put_group_edges;
 use batch::Edge;
 use codes::little::le32;
 use frame::Opened;
 use frame::bytes_of;
 use index::keys::key_at;
 use index::offsets::offset_at;
-use lookup::whole::dead_of;
+use lookup::whole::tombstones_of;
 
 // Writes the edges of n keys, whose groups are good.
 fn put_all(
@@ -39,7 +39,7 @@ fn put_all(
     while i < n {
         let e = offset_at(offs, w, i + 1) as usize;
         let key = key_at(keys, i);
-        first = put_group(&partners[a..e], key, logs, dead, first, out);
+        first = put_group_edges(&partners[a..e], key, logs, dead, first, out);
         a = e;
         i = i + 1;
     }
@@ -61,7 +61,7 @@ pub fn put_edges_of(file: &[u8], o: Opened, out: &mut [u8])
         (o.bits / 8) as usize,
         o.keycount as usize,
         bytes_of(file, logs),
-        dead_of(file, o),
+        tombstones_of(file, o),
         out,
     );
 }

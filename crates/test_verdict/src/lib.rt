@@ -8,7 +8,7 @@ use frame::ends::Header;
 use reader::header::HeaderRead;
 use reader::header::header;
 use reader::open::open;
-use reader::rows::Section;
+use reader::rows::SectionAt;
 use reader::rows::section_at;
 use refusal::Refusal;
 use refusal::told_of;
@@ -114,8 +114,8 @@ pub fn row(r: Row) {
 // The line of entry i, or none.
 fn row_line(file: &[u8], i: usize) {
     match section_at(file, i) {
-        Section::Entry { row: r } => row(r),
-        Section::Missing => {}
+        SectionAt::Entry { row: r } => row(r),
+        SectionAt::Missing => {}
     }
 }
 

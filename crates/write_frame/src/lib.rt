@@ -1,6 +1,6 @@
 // The two ends of a file, written: header, and footer with trailer.
 ghost use mathlib.Core.Path.{_≡_};
-ghost use Prim.Native.Nat.{_+_, _*_, _<_, _≤_, _^_};
+ghost use Prim.Native.Nat.{_+_, _*_, _%_, _<_, _≤_, _^_};
 ghost use mathlib.Core.List.{[]};
 ghost use lib.ListN.{length};
 ghost use lib.Seq.{sets};
@@ -10,26 +10,28 @@ ghost use Rattle.base.specs.Put.{Put};
 ghost use Rattle.frame.specs.Layout.{headBytes, trailer};
 ghost use Rattle.write_frame.specs.Standing.{entryIn};
 ghost use Rattle.write_frame.specs.Runs.{rowBytes, countBytes};
+use codes::little::le64;
 use codes::little::put_le;
 use frame::Row;
 use frame::ends::Header;
 use xxh3::xxh3;
 
-// Copies s to `at`.
-fn put_bytes(out: &mut [u8], at: usize, s: &[u8])
-    requires { ⌜ at + length (now s) ≤ length (now out) ⌝ }
+// Copies s to `at`, by words of 8 bytes.
+fn put_words(out: &mut [u8], at: usize, s: &[u8])
+    requires { ⌜ (at + length (now s) ≤ length (now out)) × (length (now s) % 8 ≡ 0) ⌝ }
     ensures { λ _. ⌜ now (out .exit) ≡ sets (now (out .entry)) at (now (s .entry)) ⌝ }
 {
     let mut k: usize = 0;
     while k < s.len() {
-        out[at + k] = s[k];
-        k = k + 1;
+        let word = le64(s, k);
+        put_le(out, at + k, 8, word);
+        k = k + 8;
     }
 }
 
 // Writes the header: magic, major 1, minor 0, header size, flags, the three ids.
 pub fn put_header(out: &mut [u8], flags: u64, ids: &[u8])
-    requires { ⌜ 16 + length (now ids) ≤ length (now out) ⌝ }
+    requires { ⌜ (16 + length (now ids) ≤ length (now out)) × (length (now ids) ≡ 48) ⌝ }
     ensures { λ _. ⌜ now (out .exit) ≡ sets (now (out .entry)) 0 (headBytes 0 flags (now (ids .entry))) ⌝ }
 {
     put_le(out, 0, 8, Header::MAGIC);
@@ -37,7 +39,7 @@ pub fn put_header(out: &mut [u8], flags: u64, ids: &[u8])
     put_le(out, 9, 1, 0);
     put_le(out, 10, 2, 64);
     put_le(out, 12, 4, flags);
-    put_bytes(out, 16, ids);
+    put_words(out, 16, ids);
 }
 
 // Writes a table entry without a name.

@@ -6,12 +6,10 @@ ghost use lib.ListN.{length};
 ghost use Rattle.base.specs.Pick.{pick};
 ghost use Rattle.batch_groups.specs.Groups.{groupsOf, Grouped};
 ghost use Rattle.write_image.specs.Image.{widthOf};
-ghost use Rattle.write_source.specs.Source.{edgesIn};
-ghost use Rattle.write_plan.specs.Size.{tombSize, fencesSize, sectionCount, fileSize};
+ghost use Rattle.write_source.specs.Source.{sourceEdges};
+ghost use Rattle.write_plan.specs.Size.{tombSize, fencesSize, sectionCount, fileSize, Tallied};
 ghost use Rattle.write_plan.specs.Bounds.{Measured};
 use write_sections::by_key::partners_size;
-use write_source::any_dead;
-use write_source::count_keys;
 
 // The counts: edges, keys, bytes of an offset, bytes of the partner section, whether a group is dense, whether an edge is
 // dead, bytes of the file.
@@ -83,15 +81,14 @@ fn file_size(keys: usize, w: usize, bytes: usize, n: usize, dead: bool) -> usize
     64 + (sections + (19 + 28 * count + 20))
 }
 
-// Counts the n edges.
-pub fn measure(kind: u8, a: &[u8], b: &[u8], n: usize) -> Counted
-    requires { ⌜ (n ≡ length (edgesIn kind (now a) (now b))) × Grouped 0 (groupsOf (edgesIn kind (now a) (now b))) ⌝ }
-    ensures { λ r. ⌜ Measured (edgesIn kind (now (a .entry)) (now (b .entry))) r ⌝ }
+// Counts the n edges, of which the keys and whether one is dead are known already.
+pub fn measure(kind: u8, a: &[u8], b: &[u8], n: usize, keys: usize, dead: bool) -> Counted
+    requires { ⌜ Tallied (sourceEdges kind (now a) (now b)) n keys dead × Grouped 0 (groupsOf (sourceEdges kind (now a) (now b))) ⌝ }
+    ensures { λ r. ⌜ Measured (sourceEdges kind (now (a .entry)) (now (b .entry))) r ⌝ }
 {
     if 67108864 < n {
         return Counted::TooMany;
     }
-    let keys = count_keys(kind, a, b, n);
     if 16777216 < keys {
         return Counted::TooMany;
     }
@@ -99,7 +96,6 @@ pub fn measure(kind: u8, a: &[u8], b: &[u8], n: usize) -> Counted
     let partners = total.bytes;
     let dense = total.dense;
     let width = width_of(partners);
-    let dead = any_dead(kind, a, b, n);
     let bytes = file_size(keys, width, partners, n, dead);
     if 1073741824 < bytes {
         return Counted::TooMany;

@@ -3,7 +3,7 @@ ghost use mathlib.Core.Path.{_≡_};
 ghost use Prim.Native.Nat.{_+_, _*_, _≤_};
 ghost use lib.ListN.{length};
 ghost use Rattle.base.specs.Put.{Put};
-ghost use Rattle.write_image.specs.Image.{fenceBytes, fencesFrom, fenceCount, fencesOf};
+ghost use Rattle.write_image.specs.Image.{fenceBytes, fenceKeysFrom, fenceCount, fencesOf};
 ghost use Rattle.write_sections.specs.Ids.{idsAt};
 use codes::ids::Id;
 use codes::ids::id_at;
@@ -22,8 +22,8 @@ fn put_fence(out: &mut [u8], at: usize, key: Id, i: usize) -> usize
 
 // Writes the fences of the keys that stand in out from `first` on, below `at`.
 fn put_rows(out: &mut [u8], first: usize, keys: usize, at: usize) -> usize
-    requires { ⌜ (keys ≤ 67108864) × (first + 16 * keys ≤ at) × (at + length (fencesFrom (fenceCount keys) (idsAt keys (now out) first) 0) ≤ length (now out)) ⌝ }
-    ensures { λ r. ⌜ Put (now (out .entry)) (now (out .exit)) at r (fencesFrom (fenceCount keys) (idsAt keys (now (out .entry)) first) 0) ⌝ }
+    requires { ⌜ (keys ≤ 67108864) × (first + 16 * keys ≤ at) × (at + length (fenceKeysFrom (fenceCount keys) (idsAt keys (now out) first) 0) ≤ length (now out)) ⌝ }
+    ensures { λ r. ⌜ Put (now (out .entry)) (now (out .exit)) at r (fenceKeysFrom (fenceCount keys) (idsAt keys (now (out .entry)) first) 0) ⌝ }
 {
     let m = (keys + 255) / 256;
     let mut i: usize = 0;

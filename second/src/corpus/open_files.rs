@@ -38,7 +38,7 @@ pub enum Verdict {
     Refused(Refusal),
 }
 
-fn expect(number: u8, place: u64) -> Verdict {
+const fn expect(number: u8, place: u64) -> Verdict {
     Verdict::Refused(Refusal { number, place })
 }
 
