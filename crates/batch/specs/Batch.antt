@@ -17,6 +17,13 @@ use Rattle.refusal.specs.Check.{_⊳_, refuse}
 use Rattle.batch.specs.declared.Edge.{Edge}
 pub mod Laws
 
+-- bytes of the heading's record, and of an edge's
+abbrev pub headingSize : ℕ
+headingSize = 50
+
+abbrev pub recordSize : ℕ
+recordSize = 41
+
 -- ---- records, from bytes
 
 pub record Heading : Type 0 where
@@ -26,7 +33,7 @@ pub record Heading : Type 0 where
   pub ids : List ℕ
 
 unfoldable pub headingOf : List ℕ → Heading
-headingOf s = record { direction = getD s 1 0; ids = part s 2 50 }
+headingOf s = record { direction = getD s 1 0; ids = part s 2 headingSize }
 
 -- the edge in the record at i
 unfoldable pub edgeAt : List ℕ → ℕ → Edge
@@ -34,7 +41,7 @@ edgeAt s i = record { key = halvesAt s (i + 1); partner = halvesAt s (i + 17); l
 
 -- where the record of edge e begins
 abbrev pub place : ℕ → ℕ
-place e = 50 + 41 * e
+place e = headingSize + recordSize * e
 
 -- d edges from edge e on
 unfoldable pub edgesAt : ℕ → List ℕ → ℕ → List Edge
@@ -43,7 +50,7 @@ edgesAt (suc d) s e = edgeAt s (place e) ∷ edgesAt d s (e + 1)
 
 -- how many whole records follow the heading
 abbrev pub recordCount : List ℕ → ℕ
-recordCount s = (length s - 50) / 41
+recordCount s = (length s - headingSize) / recordSize
 
 -- the edges of a batch without fault
 unfoldable pub edgesOf : List ℕ → List Edge
@@ -107,7 +114,7 @@ faultFrom (suc d) s e =
 
 -- a whole heading of direction 0 or 1 stands first
 unfoldable pub headed : List ℕ → Bool
-headed s = leb 50 (length s) && (eqb (getD s 0 0) 3 && leb (getD s 1 0) 1)
+headed s = leb headingSize (length s) && (eqb (getD s 0 0) 3 && leb (getD s 1 0) 1)
 
 unfoldable pub batchCheck : List ℕ → Check
 batchCheck s = pick (headed s) (faultFrom (recordCount s) s 0) (Check.Bad (Refusal.Batch 0))

@@ -6,7 +6,7 @@ ghost use lib.ListN.{length};
 ghost use mathlib.Core.Bool.{_||_};
 ghost use lib.Dec.{eqb};
 ghost use Rattle.refusal.specs.declared.Refusal.{Refusal};
-ghost use Rattle.batch.specs.Batch.{place, edgeAt, edgesAt, isEdge, faultFrom};
+ghost use Rattle.batch.specs.Batch.{recordSize, place, edgeAt, edgesAt, isEdge, faultFrom};
 ghost use Rattle.batch_faults.specs.declared.Tally.{Tally};
 ghost use Rattle.batch_faults.specs.Tally.{followBy, followAt, tallyBy, tallyOf};
 use batch::Edge;
@@ -30,7 +30,7 @@ pub enum Tally {
 
 // How the edge in the record at j follows the one at i, by key, then partner. What else the records hold is not read.
 fn follow_by(s: &[u8], i: usize, j: usize) -> Follow
-    requires { ⌜ (i + 41 ≤ length (now s)) × (j + 41 ≤ length (now s)) ⌝ }
+    requires { ⌜ (i + recordSize ≤ length (now s)) × (j + recordSize ≤ length (now s)) ⌝ }
     ensures { λ r. ⌜ r ≡ followBy (edgeAt (now (s .entry)) i) (edgeAt (now (s .entry)) j) ⌝ }
 {
     match compare(id_at(s, i + 1), id_at(s, j + 1)) {
@@ -46,7 +46,7 @@ fn follow_by(s: &[u8], i: usize, j: usize) -> Follow
 
 // How edge e follows the one before it.
 fn follow_at(s: &[u8], e: usize) -> Follow
-    requires { ⌜ place e + 41 ≤ length (now s) ⌝ }
+    requires { ⌜ place e + recordSize ≤ length (now s) ⌝ }
     ensures { λ r. ⌜ r ≡ followAt (now (s .entry)) e ⌝ }
 {
     if e == 0 {

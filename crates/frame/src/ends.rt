@@ -42,6 +42,9 @@ pub struct Footer {}
 impl Footer {
     pub const LEAST: usize = 39;
 
+    // Bytes of a body without entries: the section count, and what ends it.
+    pub const EMPTY: usize = 19;
+
     // Key count, edge count and offset bits, which end the body.
     pub const COUNTS: usize = 17;
 }

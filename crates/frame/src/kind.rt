@@ -37,6 +37,13 @@ pub struct Offsets {}
 impl Offsets {
     pub const KIND: u16 = 2;
 
+    // The writer's offsets have three bytes where the partners have fewer bytes than this, otherwise four.
+    pub const NARROW: usize = 1 << 24;
+
+    pub const SHORT: usize = 3;
+
+    pub const LONG: usize = 4;
+
     pub const SLOT: usize = 1;
 
     // One more than there are keys, of `width` bytes each.
@@ -133,8 +140,10 @@ impl Fences {
 
     pub const SLOT: usize = 5;
 
-    // The writer's stride.
+    // The writer's stride, and one less, by which a count of fences is rounded up.
     pub const STRIDE: u64 = 256;
+
+    pub const ROUND: u64 = 255;
 
     // The length that the counts give.
     pub fn bytes(entries: u64) -> u64

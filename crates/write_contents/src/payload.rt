@@ -5,11 +5,14 @@ ghost use mathlib.Core.List.{[], _++_};
 ghost use lib.ListN.{length};
 ghost use Rattle.base.specs.Pick.{pick};
 ghost use Rattle.base.specs.Put.{Put};
+ghost use Rattle.frame.specs.Kind.{mostEdges};
 ghost use Rattle.frame.specs.Layout.{payload};
-ghost use Rattle.batch_groups.specs.Groups.{groupsOf, Grouped};
+ghost use Rattle.batch_groups.specs.Groups.{groupsOf};
 ghost use Rattle.write_image.specs.Image.{logBytes, tombBytes, fencesOf, fenced, sectionsBy};
 ghost use Rattle.write_sections.specs.Ids.{idsAt};
+ghost use Rattle.write_sections.specs.Asked.{Placed};
 ghost use Rattle.write_source.specs.Source.{sourceEdges};
+use frame::bounds::Bounds;
 use write_sections::by_edge::put_logs;
 use write_sections::by_edge::put_logs_tombs;
 use write_sections::by_key::put_groups;
@@ -25,7 +28,7 @@ fn put_by_edge(
     out: &mut [u8],
     at: usize,
 ) -> usize
-    requires { ⌜ (n ≡ length (sourceEdges kind (now a) (now b))) × (n ≤ 67108864) × (at + length (logBytes (sourceEdges kind (now a) (now b)) ++ pick dead (tombBytes (sourceEdges kind (now a) (now b))) []) ≤ length (now out)) ⌝ }
+    requires { ⌜ (n ≡ length (sourceEdges kind (now a) (now b))) × (n ≤ mostEdges) × (at + length (logBytes (sourceEdges kind (now a) (now b)) ++ pick dead (tombBytes (sourceEdges kind (now a) (now b))) []) ≤ length (now out)) ⌝ }
     ensures { λ r. ⌜ Put (now (out .entry)) (now (out .exit)) at r (logBytes (sourceEdges kind (now (a .entry)) (now (b .entry))) ++ pick dead (tombBytes (sourceEdges kind (now (a .entry)) (now (b .entry)))) []) ⌝ }
 {
     if dead {
@@ -35,10 +38,10 @@ fn put_by_edge(
 }
 
 fn put_fences_if(out: &mut [u8], first: usize, keys: usize, at: usize) -> usize
-    requires { ⌜ (keys ≤ 67108864) × (first + 16 * keys ≤ at) × (at + length (pick (fenced keys) (fencesOf (idsAt keys (now out) first)) []) ≤ length (now out)) ⌝ }
+    requires { ⌜ (keys ≤ mostEdges) × (first + 16 * keys ≤ at) × (at + length (pick (fenced keys) (fencesOf (idsAt keys (now out) first)) []) ≤ length (now out)) ⌝ }
     ensures { λ r. ⌜ Put (now (out .entry)) (now (out .exit)) at r (pick (fenced keys) (fencesOf (idsAt keys (now (out .entry)) first)) []) ⌝ }
 {
-    if 65536 < keys {
+    if (Bounds::UNFENCED as usize) < keys {
         return put_fences(out, first, keys, at);
     }
     at
@@ -56,7 +59,7 @@ pub fn put_payload(
     out: &mut [u8],
     at: usize,
 ) -> usize
-    requires { ⌜ (n ≡ length (sourceEdges kind (now a) (now b))) × (n ≤ 67108864) × (keys ≡ length (groupsOf (sourceEdges kind (now a) (now b)))) × (keys ≤ 67108864) × Grouped 0 (groupsOf (sourceEdges kind (now a) (now b))) × (at + length (payload (sectionsBy keys w dead (sourceEdges kind (now a) (now b)) (groupsOf (sourceEdges kind (now a) (now b))))) ≤ length (now out)) × (3 ≤ w) × (w ≤ 4) ⌝ }
+    requires { ⌜ Placed (sourceEdges kind (now a) (now b)) n keys w at (length (payload (sectionsBy keys w dead (sourceEdges kind (now a) (now b)) (groupsOf (sourceEdges kind (now a) (now b)))))) (now out) ⌝ }
     ensures { λ r. ⌜ Put (now (out .entry)) (now (out .exit)) at r (payload (sectionsBy keys w dead (sourceEdges kind (now (a .entry)) (now (b .entry))) (groupsOf (sourceEdges kind (now (a .entry)) (now (b .entry)))))) ⌝ }
 {
     let p = put_groups(kind, a, b, n, keys, w, out, at);

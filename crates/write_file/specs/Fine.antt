@@ -37,27 +37,27 @@ module _ (s : List ℕ) (b : Bytes s) (keys : ℕ) (dead : Bool) (c : Clean s ke
   ids-long : length (part s 2 50) ≡ 48
   ids-long = length-part s 2 50 (fine-long s (c .check))
 
-  pub many : Measured (sourceEdges 0 s s) Counted.TooMany → tooMany (headingOf s) (edgesOf s) ≡ true
+  pub batch-many : Measured (sourceEdges 0 s s) Counted.TooMany → tooMany (headingOf s) (edgesOf s) ≡ true
   unfolding headingOf
-  many m = ap (tooMany (headingOf s)) (sym edges-are) ∙ many-measured (sourceEdges 0 s s) m (headingOf s) ids-long
+  batch-many m = ap (tooMany (headingOf s)) (sym edges-are) ∙ many-measured (sourceEdges 0 s s) m (headingOf s) ids-long
 
   module _ (p : Plan) (m : Measured (sourceEdges 0 s s) (Counted.Fits p)) where
-    pub fits : PlanFits (edgesOf s) p
-    fits = subst (λ (t : List Edge). PlanFits t p) edges-are (fits-measured (sourceEdges 0 s s) p m)
+    pub batch-fits : PlanFits (edgesOf s) p
+    batch-fits = subst (λ (t : List Edge). PlanFits t p) edges-are (fits-measured (sourceEdges 0 s s) p m)
 
-    pub size : p .bytes ≡ length (fileIn s)
+    pub batch-size : p .bytes ≡ length (fileIn s)
     unfolding headingOf
-    size =
-        fits .size
-        ∙ sym (length-file (headingOf s) (edgesOf s) (p .edges) (p .keys) (p .width) (p .partners) (p .dense) (p .dead) (fits .fitting) ids-long)
+    batch-size =
+        batch-fits .size
+        ∙ sym (length-file (headingOf s) (edgesOf s) (p .edges) (p .keys) (p .width) (p .partners) (p .dense) (p .dead) (batch-fits .fitting) ids-long)
 
-    pub within : tooMany (headingOf s) (edgesOf s) ≡ false
-    within =
-        let g = fits .fitting in
+    pub batch-within : tooMany (headingOf s) (edgesOf s) ≡ false
+    batch-within =
+        let g = batch-fits .fitting in
         let k = g .keys-is in
         let e = g .edges-is in
-        let z = size in
-        let x = fits .keys-few in
-        let y = fits .edges-few in
-        let w = fits .bytes-few in
+        let z = batch-size in
+        let x = batch-fits .keys-few in
+        let y = batch-fits .edges-few in
+        let w = batch-fits .bytes-few in
         few (headingOf s) (edgesOf s) (omega arith) (omega arith) (omega arith)

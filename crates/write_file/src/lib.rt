@@ -86,7 +86,7 @@ fn write_plan(batch: &[u8], plan: Plan, out: &mut [u8]) -> Written
         };
     }
     let direction = batch[1];
-    put_file(0, batch, batch, direction, &batch[2..50], plan, out);
+    put_file(0, batch, batch, direction, &batch[2..Edge::HEAD], plan, out);
     Written::Done {
         bytes: bytes as u64,
     }

@@ -7,6 +7,7 @@ ghost use lib.Seq.{sets};
 ghost use Rattle.batch.specs.Batch.{marksIn};
 ghost use Rattle.base.specs.Over.{part};
 ghost use Rattle.base.specs.Put.{Put};
+ghost use Rattle.frame.specs.Kind.{mostEdges};
 ghost use Rattle.batch_groups.specs.Groups.{none};
 ghost use Rattle.write_image.specs.Image.{logBytes, bit, octet, tombBytes};
 ghost use Rattle.write_source.specs.Source.{sourceEdges};
@@ -75,7 +76,7 @@ fn put_octet(kind: u8, a: &[u8], b: &[u8], i: usize, j: usize, out: &mut [u8], p
 // Log numbers and tombstones of n edges, one section after the other from `at` on, by eight edges: of eight, the compiler
 // writes the loops out. Answers the place after them.
 pub fn put_logs_tombs(kind: u8, a: &[u8], b: &[u8], n: usize, out: &mut [u8], at: usize) -> usize
-    requires { ⌜ (n ≡ length (sourceEdges kind (now a) (now b))) × (n ≤ 67108864) × (at + length (logBytes (sourceEdges kind (now a) (now b)) ++ tombBytes (sourceEdges kind (now a) (now b))) ≤ length (now out)) ⌝ }
+    requires { ⌜ (n ≡ length (sourceEdges kind (now a) (now b))) × (n ≤ mostEdges) × (at + length (logBytes (sourceEdges kind (now a) (now b)) ++ tombBytes (sourceEdges kind (now a) (now b))) ≤ length (now out)) ⌝ }
     ensures { λ r. ⌜ Put (now (out .entry)) (now (out .exit)) at r (logBytes (sourceEdges kind (now (a .entry)) (now (b .entry))) ++ tombBytes (sourceEdges kind (now (a .entry)) (now (b .entry)))) ⌝ }
 {
     let full = n / 8;

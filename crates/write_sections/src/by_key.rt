@@ -1,24 +1,21 @@
 // Keys, offsets and partners: one part of each for every group, so they are written side by side in one pass.
 ghost use mathlib.Core.Path.{_≡_};
 ghost use Prim.Native.Nat.{_+_, _*_, _≤_};
-ghost use mathlib.Core.List.{_++_};
 ghost use mathlib.Core.Bool.{_||_};
-ghost use lib.ListN.{length, getD};
+ghost use lib.ListN.{length};
 ghost use lib.Seq.{sets};
-ghost use Rattle.batch.specs.Batch.{partnersIn};
-ghost use Rattle.base.specs.Over.{part};
 ghost use Rattle.base.specs.Put.{Put};
 ghost use Rattle.codes.specs.Little.{leBytes};
-ghost use Rattle.codes.specs.Ids.{idBytes};
 ghost use Rattle.frame.specs.Kind.{mostEdges};
-ghost use Rattle.batch_groups.specs.Groups.{none, groupsOf, Grouped};
-ghost use Rattle.write_image.specs.Image.{groupBytes, anyDense, keyBytes, offsetBytes, partnerBytes};
-ghost use Rattle.write_image.specs.Image.Laws.{Rise};
+ghost use Rattle.batch_groups.specs.Groups.{groupsOf, Grouped};
+ghost use Rattle.write_image.specs.Image.{anyDense, partnerBytes};
 ghost use Rattle.write_source.specs.Source.{sourceEdges};
-ghost use Rattle.write_group.specs.Span.{Spans};
+ghost use Rattle.write_sections.specs.Asked.{Width, Placed, groupSections, GroupRoom, GroupPut};
 use base::either;
 use codes::ids::put_id;
 use codes::little::put_le;
+use frame::kind::Keys;
+use frame::kind::Offsets;
 use write_group::Span;
 use write_group::block_size;
 use write_group::dense_by;
@@ -33,7 +30,7 @@ pub struct Total {
 }
 
 pub fn partners_size(kind: u8, a: &[u8], b: &[u8], n: usize, keys: usize) -> Total
-    requires { ⌜ (n ≡ length (sourceEdges kind (now a) (now b))) × (n ≤ 67108864) × (keys ≤ 67108864) × Grouped 0 (groupsOf (sourceEdges kind (now a) (now b))) ⌝ }
+    requires { ⌜ (n ≡ length (sourceEdges kind (now a) (now b))) × (n ≤ mostEdges) × (keys ≤ mostEdges) × Grouped 0 (groupsOf (sourceEdges kind (now a) (now b))) ⌝ }
     ensures { λ r. ⌜ (r .bytes ≡ length (partnerBytes keys (groupsOf (sourceEdges kind (now (a .entry)) (now (b .entry)))))) × (r .dense ≡ anyDense keys (groupsOf (sourceEdges kind (now (a .entry)) (now (b .entry))))) × (r .bytes ≤ 29 * n) ⌝ }
 {
     let mut i: usize = 0;
@@ -52,14 +49,14 @@ pub fn partners_size(kind: u8, a: &[u8], b: &[u8], n: usize, keys: usize) -> Tot
 
 // Writes an offset of w bytes, each width by itself: the compiler then knows how many bytes it stores.
 fn put_offset(out: &mut [u8], at: usize, w: usize, x: u64)
-    requires { ⌜ (at + w ≤ length (now out)) × (3 ≤ w) × (w ≤ 4) ⌝ }
+    requires { ⌜ (at + w ≤ length (now out)) × Width w ⌝ }
     ensures { λ _. ⌜ now (out .exit) ≡ sets (now (out .entry)) at (leBytes w x) ⌝ }
 {
-    if w == 3 {
-        put_le(out, at, 3, x);
+    if w == Offsets::SHORT {
+        put_le(out, at, Offsets::SHORT, x);
         return;
     }
-    put_le(out, at, 4, x);
+    put_le(out, at, Offsets::LONG, x);
 }
 
 // The group g that begins at edge i: its key at k, its offset at o, its bytes at p. Answers the place after these.
@@ -77,8 +74,8 @@ fn put_group(
     o: usize,
     p: usize,
 ) -> usize
-    requires { ⌜ Spans (sourceEdges kind (now a) (now b)) i g × (g .end ≤ mostEdges) × (keys ≤ mostEdges) × Rise 0 (partnersIn (part (sourceEdges kind (now a) (now b)) i (g .end))) × (k + 16 ≤ length (now out)) × (o + w ≤ length (now out)) × (p + length (groupBytes keys (partnersIn (part (sourceEdges kind (now a) (now b)) i (g .end)))) ≤ length (now out)) × (3 ≤ w) × (w ≤ 4) ⌝ }
-    ensures { λ r. ⌜ (r ≡ p + length (groupBytes keys (partnersIn (part (sourceEdges kind (now (a .entry)) (now (b .entry))) i (g .end))))) × (now (out .exit) ≡ sets (sets (sets (now (out .entry)) k (idBytes (getD (sourceEdges kind (now (a .entry)) (now (b .entry))) i none .key))) o (leBytes w start)) p (groupBytes keys (partnersIn (part (sourceEdges kind (now (a .entry)) (now (b .entry))) i (g .end))))) ⌝ }
+    requires { ⌜ GroupRoom (sourceEdges kind (now a) (now b)) i g keys w k o p (now out) ⌝ }
+    ensures { λ r. ⌜ GroupPut (sourceEdges kind (now (a .entry)) (now (b .entry))) i g keys w start k o p (now (out .entry)) (now (out .exit)) r ⌝ }
 {
     let e = edge_of(kind, a, b, i);
     let key = e.key;
@@ -100,19 +97,19 @@ pub fn put_groups(
     out: &mut [u8],
     at: usize,
 ) -> usize
-    requires { ⌜ (n ≡ length (sourceEdges kind (now a) (now b))) × (n ≤ 67108864) × (keys ≡ length (groupsOf (sourceEdges kind (now a) (now b)))) × (keys ≤ 67108864) × Grouped 0 (groupsOf (sourceEdges kind (now a) (now b))) × (at + length (keyBytes (groupsOf (sourceEdges kind (now a) (now b))) ++ (offsetBytes w keys 0 (groupsOf (sourceEdges kind (now a) (now b))) ++ partnerBytes keys (groupsOf (sourceEdges kind (now a) (now b))))) ≤ length (now out)) × (3 ≤ w) × (w ≤ 4) ⌝ }
-    ensures { λ r. ⌜ Put (now (out .entry)) (now (out .exit)) at r (keyBytes (groupsOf (sourceEdges kind (now (a .entry)) (now (b .entry)))) ++ (offsetBytes w keys 0 (groupsOf (sourceEdges kind (now (a .entry)) (now (b .entry)))) ++ partnerBytes keys (groupsOf (sourceEdges kind (now (a .entry)) (now (b .entry)))))) ⌝ }
+    requires { ⌜ Placed (sourceEdges kind (now a) (now b)) n keys w at (length (groupSections w keys (groupsOf (sourceEdges kind (now a) (now b))))) (now out) ⌝ }
+    ensures { λ r. ⌜ Put (now (out .entry)) (now (out .exit)) at r (groupSections w keys (groupsOf (sourceEdges kind (now (a .entry)) (now (b .entry))))) ⌝ }
 {
     let mut i: usize = 0;
     let mut k = at;
-    let mut o = at + 16 * keys;
+    let mut o = at + (Keys::ROW as usize) * keys;
     let base = o + (keys + 1) * w;
     let mut p = base;
     while i < n {
         let g = span_at(kind, a, b, n, i);
         let start = p - base;
         p = put_group(kind, a, b, i, g, keys, w, start as u64, out, k, o, p);
-        k = k + 16;
+        k = k + (Keys::ROW as usize);
         o = o + w;
         i = g.end;
     }

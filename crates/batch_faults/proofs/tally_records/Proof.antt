@@ -16,7 +16,7 @@ use Rattle.batch_groups.specs.Order.{fault-end, fault-rest, fault-kind, fault-o
 use Rattle.batch_faults.specs.declared.Tally.{Tally}
 use Rattle.batch_faults.specs.declared.Follow.{Follow}
 use Rattle.batch_faults.specs.Tally.{followAt, tallyBy}
-use Rattle.batch_faults.specs.Tally.Laws.{count-start, dead-start, dead-more, follows, tally-bad, tally-fine}
+use Rattle.batch_faults.specs.Tally.Laws.{count-start, dead-start, dead-next, follows, tally-bad, tally-fine}
 use borrow.Author.Needs.{needs}
 use Rattle.batch_faults.proofs.tally_records.Statement.{statement}
 use Rattle.batch_faults.proofs.tally_records.Tie as tie
@@ -49,7 +49,7 @@ module _ (s : List ℕ) (n e keys : ℕ) (dead : Bool) (h : Head s n e keys dead
           upto = omega arith;
           rest = sym (fault-next s e (n - (e + 1)) k o) ∙ whole;
           keys-are = q;
-          dead-is = d ∙ ap (λ (t : Bool). t || eqb (getD s (place e) 0) 2) (h .dead-is) ∙ sym (dead-more s e);
+          dead-is = d ∙ ap (λ (t : Bool). t || eqb (getD s (place e) 0) 2) (h .dead-is) ∙ sym (dead-next s e);
         }
 
         on-new : Follow.New ≡ followAt s e → Head s n (e + 1) (keys + 1) more

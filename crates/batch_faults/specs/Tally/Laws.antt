@@ -18,7 +18,7 @@ use Rattle.refusal.specs.declared.Check.{Check}
 use Rattle.batch.specs.declared.Edge.{Edge}
 use Rattle.batch.specs.Batch.{edgeAt, edgesAt, edgesOf, recordCount, place, before, inOrder, faultFrom, batchCheck}
 use Rattle.batch_groups.specs.Groups.{anyDead, groupsOf}
-use Rattle.batch_groups.specs.Groups.Laws.{count-one, count-last, count-none, dead-none, dead-last}
+use Rattle.batch_groups.specs.Groups.Laws.{count-one, count-last, count-empty, dead-empty, dead-last}
 use Rattle.batch_groups.specs.Order.{less-back, equal-back, greater-back, before-less, before-greater, before-equal, edges-last}
 use Rattle.batch_faults.specs.declared.Follow.{Follow}
 use Rattle.batch_faults.specs.declared.Tally.{Tally}
@@ -105,15 +105,15 @@ module _ (s : List ℕ) where
 
   pub count-start : 0 ≡ length (groupsOf (edgesAt 0 s 0))
   unfolding edgesAt
-  count-start = sym count-none
+  count-start = sym count-empty
 
   pub dead-start : false ≡ anyDead (edgesAt 0 s 0)
   unfolding edgesAt
-  dead-start = sym dead-none
+  dead-start = sym dead-empty
 
   keys-first : length (groupsOf (edgesAt (0 + 1) s 0)) ≡ length (groupsOf (edgesAt 0 s 0)) + 1
   unfolding edgesAt
-  keys-first = let z = count-none in count-one (edgeAt s (place 0)) ∙ omega arith
+  keys-first = let z = count-empty in count-one (edgeAt s (place 0)) ∙ omega arith
 
   keys-more : (e : ℕ) (b : Bool) → eqb (idNumber (edgeAt s (place e) .key)) (idNumber (edgeAt s (place (suc e)) .key)) ≡ b
       → length (groupsOf (edgesAt (suc e + 1) s 0)) ≡ length (groupsOf (edgesAt (suc e) s 0)) + pick b 0 1
@@ -125,9 +125,9 @@ module _ (s : List ℕ) where
       ∙ count-last (edgesAt e s 0) x y
       ∙ ap₂ (λ (t : List Edge) (c : Bool). length (groupsOf t) + pick c 0 1) (sym l) q
 
-  pub dead-more : (e : ℕ) → anyDead (edgesAt (e + 1) s 0) ≡ (anyDead (edgesAt e s 0) || eqb (getD s (place e) 0) 2)
+  pub dead-next : (e : ℕ) → anyDead (edgesAt (e + 1) s 0) ≡ (anyDead (edgesAt e s 0) || eqb (getD s (place e) 0) 2)
   unfolding edgeAt
-  dead-more e = ap anyDead (edges-more e) ∙ dead-last (edgesAt e s 0) (edgeAt s (place e))
+  dead-next e = ap anyDead (edges-more e) ∙ dead-last (edgesAt e s 0) (edgeAt s (place e))
 
   -- what the answer says of edge e: of its order, and of the keys with it
   pub record Follows (e : ℕ) (f : Follow) : Type 0 where

@@ -264,13 +264,13 @@ count-last (x ∷ y ∷ es) e f =
     let c = count-last (y ∷ es) e f in
     omega arith
 
-pub count-none : length (groupsOf []) ≡ 0
+pub count-empty : length (groupsOf []) ≡ 0
 unfolding groupsOf
-count-none = refl
+count-empty = refl
 
-pub dead-none : anyDead [] ≡ false
+pub dead-empty : anyDead [] ≡ false
 unfolding anyDead
-dead-none = refl
+dead-empty = refl
 
 pub dead-last : (es : List Edge) (e : Edge) → anyDead (es ++ (e ∷ [])) ≡ (anyDead es || e .dead)
 unfolding anyDead

@@ -5,7 +5,7 @@ use Rattle.batch_groups.specs.Order.{fine-long}
 use Rattle.write_source.specs.Source.{sourceEdges}
 use Rattle.write_plan.specs.Bounds.{Measured}
 use Rattle.write_file.specs.Written.Laws.{needed-many, wrote-refused}
-use Rattle.write_file.specs.Fine.{ready, many, fits, in-groups}
+use Rattle.write_file.specs.Fine.{ready, batch-many, batch-fits, in-groups}
 use borrow.Author.Needs.{needs}
 use Rattle.write_file.proofs.write_fine.Statement.{statement}
 use Rattle.write_file.proofs.write_fine.Tie as tie
@@ -28,7 +28,7 @@ write-plan-requires c κs =
     let p = c .before .before .before .before .before .before .before .pre in
     let s = a .batch .now in
     let m = subst (Measured (sourceEdges 0 s s)) (c .before .before .plan .given .1) (c .before .before .before .before .measure .ensures) in
-    (p .check, fits s (λ j. omega (arith, c .before .before .before .before .before .before .shared-slice-known .given j)) (a .keys) (a .dead) p _ m, in-groups s (λ j. omega (arith, c .before .before .before .before .before .before .shared-slice-known .given j)) (a .keys) (a .dead) p)
+    (p .check, batch-fits s (λ j. omega (arith, c .before .before .before .before .before .before .shared-slice-known .given j)) (a .keys) (a .dead) p _ m, in-groups s (λ j. omega (arith, c .before .before .before .before .before .before .shared-slice-known .given j)) (a .keys) (a .dead) p)
 
 returns : tie.Need-returns
 returns c =
@@ -36,7 +36,7 @@ returns c =
     let p = c .before .before .before .before .before .pre in
     let s = a .batch .now in
     wrote-refused s (a .out .now) Refusal.Bounds
-    (needed-many s (p .check) (many s (λ j. omega (arith, c .before .before .before .before .shared-slice-known .given j)) (a .keys) (a .dead) p (subst (Measured _) (c .enum-told .given .1) (c .before .before .measure .ensures))))
+    (needed-many s (p .check) (batch-many s (λ j. omega (arith, c .before .before .before .before .shared-slice-known .given j)) (a .keys) (a .dead) p (subst (Measured _) (c .enum-told .given .1) (c .before .before .measure .ensures))))
 
 same-length : tie.Need-same-length
 same-length c = search needs

@@ -7,7 +7,7 @@ use native.Mathlib.Numerals.{add-one}
 use mathlib.Core.List.{List, [], _∷_, _++_, append-nil, append-assoc}
 use mathlib.Core.Bool.{Bool, true, false, _&&_, _||_}
 use lib.ListN.{length, getD, take, drop, length-append, length-drop, take-append-drop}
-use lib.Seq.{drop-cons, drop-length, drop-drop, take-all}
+use lib.Seq.{take-suc, drop-cons, drop-length, drop-drop, getD-drop, take-all}
 use lib.Dec.{ltb, leb}
 use borrow.Author.Tests.{lt-ltb, le-ltb, le-leb, lt-leb}
 use Rattle.batch.specs.Batch.{partnersIn, logsIn, marksIn}
@@ -71,6 +71,23 @@ module _ (es : List Edge) (k j : ℕ) where
   -- up to the last edge there are no others
   pub logs-rest : j ≡ length es → logBytes (drop k es) ≡ logBytes (part es k j)
   logs-rest e = ap (λ (t : List Edge). logBytes t) (sym (take-all (j - k) (drop k es) (simp length-drop (omega arith))))
+
+partners-joined : (xs ys : List Edge) → partnersIn (xs ++ ys) ≡ partnersIn xs ++ partnersIn ys
+unfolding partnersIn
+partners-joined [] ys = refl
+partners-joined (x ∷ xs) ys = ap (λ (t : List Id). x .partner ∷ t) (partners-joined xs ys)
+
+-- the part, one edge longer
+pub partners-snoc : (es : List Edge) (i j : ℕ) → i ≤ j → j < length es → partnersIn (part es i (j + 1)) ≡ partnersIn (part es i j) ++ (getD es j none .partner ∷ [])
+unfolding partnersIn
+partners-snoc es i j h l =
+    let m : j + 1 - i ≡ suc (j - i) = omega arith in
+    let n : i + (j - i) ≡ j = omega arith in
+    let d : j - i < length (drop i es) = rw length-drop (omega arith) in
+    let x : getD (drop i es) (j - i) none ≡ getD es j none = getD-drop i es (j - i) none ∙ ap (λ (t : ℕ). getD es t none) n in
+    ap (λ (t : ℕ). partnersIn (take t (drop i es))) m
+    ∙ ap partnersIn (take-suc (drop i es) (j - i) none d ∙ ap (λ (t : Edge). part es i j ++ (t ∷ [])) x)
+    ∙ partners-joined (part es i j) (getD es j none ∷ [])
 
 pub length-partners : (es : List Edge) → length (partnersIn es) ≡ length es
 unfolding partnersIn
@@ -252,14 +269,6 @@ module _ (es : List Edge) (k : ℕ) where
   pub logs-end : k ≡ length es → logBytes (drop k es) ≡ []
   unfolding numbers logsIn
   logs-end e = rw (e, drop-length es)
-
-  pub dead-step : k < length es → anyDead (drop k es) ≡ (getD es k none .dead || anyDead (drop (k + 1) es))
-  unfolding anyDead
-  dead-step h = ap anyDead (edge-on h)
-
-  pub dead-end : k ≡ length es → anyDead (drop k es) ≡ false
-  unfolding anyDead
-  dead-end e = rw (e, drop-length es)
 
   pub mark-here : (m : ℕ) → k < length es → octet (suc m) (marksIn (drop k es)) ≡ bit (getD es k none .dead) + 2 * octet m (marksIn (drop (k + 1) es))
   unfolding marksIn octet

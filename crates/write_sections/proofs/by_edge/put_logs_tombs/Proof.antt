@@ -91,11 +91,11 @@ module _ (es : List Edge) (start : List ℕ) (at : ℕ) where
         room-last g = let r = T.rooms [] (here n) (mark n ∷ []) [] [] [] last g in (r .1, omega (arith, r .2))
 
         done : {out′ : List ℕ} → out′ ≡ sets (sets out p (here n)) t (mark n ∷ []) → Put start out′ at (t + 1) all
-        done e = T.last (T.on [] (here n) (mark n ∷ []) last (sym (add-zero at)) refl refl e) refl
+        done e = T.last-of-three (T.on [] (here n) (mark n ∷ []) last (sym (add-zero at)) refl refl e) refl
 
       none-left : n ≤ 8 * q → Put start out at t all
       none-left le =
-          T.last
+          T.last-of-three
           (T.are refl (logs-end es (8 * q) (omega arith)) (octets-end (marksIn (drop (8 * q) es)) count q (omega arith)) (h .two))
           refl
 
