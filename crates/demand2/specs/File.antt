@@ -210,7 +210,11 @@ module _ (h : Heading) (es : List Edge) (q : WrittenFile h es) where
 
   -- ---- the header
 
-  flags-is : flagsOf f ≡ flags
+  pub minor-is : getD f 9 0 ≡ 0
+  unfolding headBytes
+  minor-is = ap (λ (s : List ℕ). getD s 9 0) parts
+
+  pub flags-is : flagsOf f ≡ flags
   unfolding headBytes leBytes
   flags-is =
       let few = fl .few in

@@ -5,10 +5,14 @@ use mathlib.Core.Bool.{true, false}
 use Prim.Native.Nat.{_/_, _≤_}
 use lib.ListN.{length}
 use denote.Ref.{now}
+use Rattle.base.specs.Bytes.{Bytes}
+use Rattle.base.specs.Over.{part}
 use Rattle.codes.specs.Ids.{idAt}
 use Rattle.refusal.specs.declared.Check.{Check}
 use Rattle.frame.specs.declared.Opening.{Opening}
 use Rattle.frame.specs.Open.{openOf}
+use Rattle.reader.specs.declared.header.HeaderRead.{HeaderRead}
+use Rattle.reader.specs.Header.{headerOf}
 use Rattle.lookup.specs.declared.Looked.{Looked}
 use Rattle.lookup.specs.Lookup.{lookedOf, lookOf, lookWith}
 use Rattle.lookup.specs.Calls.{alone, lent, Alone, Whole}
@@ -20,11 +24,13 @@ use Rattle.write_file.specs.Written.{neededOf, writtenOf, Wrote}
 use Rattle.listing.specs.declared.Listed.{Listed}
 use Rattle.listing.specs.List as list
 use Rattle.edge_sst_c.specs.Look.{recordLent}
-use Rattle.edge_sst_c.specs.Back.{openingFrom, lookedFrom, checkFrom, readFrom, writtenFrom, listedFrom, opening-back, looked-back, check-back, read-out-back, written-back, listed-back}
-use Rattle.edge_sst_c.specs.Refused.{Tells, Unfound, opened-tells, looked-tells, check-tells, read-tells, written-tells, listed-tells, partners-stay, edges-stay, read-stays, write-stays, sections-stay}
+use Rattle.edge_sst_c.specs.Back.{openingFrom, headerFrom, lookedFrom, checkFrom, readFrom, writtenFrom, listedFrom, opening-back, header-back, header-bytes, looked-back, check-back, read-out-back, written-back, listed-back}
+use Rattle.edge_sst_c.specs.Refused.{Tells, Unfound, opened-tells, header-tells, looked-tells, check-tells, read-tells, written-tells, listed-tells, partners-stay, edges-stay, read-stays, write-stays, sections-stay}
 use Rattle.edge_sst_c.proofs.Every.{Every}
 use Rattle.edge_sst_c.proofs.edge_sst_open as c-open
 use Rattle.edge_sst_c.proofs.edge_sst_open.Reads as c-open-reads
+use Rattle.edge_sst_c.proofs.header.edge_sst_header as c-header
+use Rattle.edge_sst_c.proofs.header.edge_sst_header.Reads as c-header-reads
 use Rattle.edge_sst_c.proofs.look.edge_sst_partners as c-partners
 use Rattle.edge_sst_c.proofs.look.edge_sst_partners.Reads as c-partners-reads
 use Rattle.edge_sst_c.proofs.look.edge_sst_partners_with as c-partners-with
@@ -48,6 +54,15 @@ use Rattle.edge_sst_c.proofs.section_list.edge_sst_sections.Reads as c-
 
 pub open-says : Every c-open.ended c-open-reads.Post (λ κs a r e. openingFrom r ≡ openOf (now (a .0)))
 open-says κs a r e p = ap openingFrom p ∙ opening-back (now (a .0)) (openOf (now (a .0))) refl
+
+-- the lent bytes are bytes: the ids are told as theirs
+pub header-says : Every c-header.ended c-header-reads.Post (λ κs a r e. Bytes (now (a .0)) → headerFrom r ≡ headerOf (now (a .0)))
+header-says κs a r e p by = ap headerFrom p ∙ header-back (now (a .0)) by (headerOf (now (a .0))) refl
+
+-- and their bytes are the header's own
+pub header-ids : Every c-header.ended c-header-reads.Post (λ κs a r e. Bytes (now (a .0)) → r .number ≡ 0
+    → (r .edgetype ≡ part (now (a .0)) 16 32) × (r .source ≡ part (now (a .0)) 32 48) × (r .destination ≡ part (now (a .0)) 48 64))
+header-ids κs a r e p by = rw p (header-bytes (now (a .0)) by (headerOf (now (a .0))) refl)
 
 pub partners-says : Every c-partners.ended c-partners-reads.Post
     (λ κs a r e. lookedFrom r ≡ lookedOf (lookOf false (alone (length (now (a .1 .1 .0)))) (idAt (now (a .1 .0)) 0) (now (a .0))))
@@ -84,6 +99,9 @@ sections-says κs a r e p = ap listedFrom (p .0) ∙ listed-back _
 
 pub open-number : Every c-open.ended c-open-reads.Post (λ κs a r e. Tells Opening.Refused (openOf (now (a .0))) (r .number))
 open-number κs a r e p = rw p (opened-tells (openOf (now (a .0))))
+
+pub header-number : Every c-header.ended c-header-reads.Post (λ κs a r e. Tells HeaderRead.Refused (headerOf (now (a .0))) (r .number))
+header-number κs a r e p = rw p (header-tells (headerOf (now (a .0))))
 
 pub partners-number : Every c-partners.ended c-partners-reads.Post
     (λ κs a r e. Tells Looked.Refused (lookedOf (lookOf false (alone (length (now (a .1 .1 .0)))) (idAt (now (a .1 .0)) 0) (now (a .0)))) (r .number))

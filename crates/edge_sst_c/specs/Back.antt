@@ -1,15 +1,20 @@
 -- What the calls for C tell, read back by the words of include/edge_sst.h: the library's answers, and the record of
 -- `edge_sst_open` where it is lent to a lookup.
 use mathlib.Core.Path.{_≡_, refl, sym, ap, _∙_}
-use Prim.Native.Nat.{ℕ, _<_}
+use Prim.Native.Nat.{ℕ, _+_, _^_, _≤_, _<_}
 use native.Mathlib.Omega.{arith}
-use mathlib.Core.List.{List, [], _∷_}
+use mathlib.Core.List.{List, [], _∷_, append-nil}
 use mathlib.Core.Bool.{Bool, true, false}
-use lib.ListN.{length}
+use lib.ListN.{length, take, drop, replicate}
 use lib.Dec.{ltb}
 use borrow.Author.Tests.{lt-ltb}
+use Rattle.base.specs.Bytes.{Bytes}
 use Rattle.base.specs.Pick.{pick}
-use Rattle.codes.specs.Ids.{idAt}
+use Rattle.base.specs.Over.{part}
+use Rattle.codes.specs.declared.ids.Id.{Id}
+use Rattle.codes.specs.Ids.{beAt, idAt, halvesAt, idBytes}
+use Rattle.codes.specs.Ids.Laws.{beAt-lt, halves-is, halves-back}
+use Rattle.codes.specs.Stood.{id-same}
 use Rattle.refusal.specs.declared.Refusal.{Refusal}
 use Rattle.refusal.specs.declared.Check.{Check}
 use Rattle.refusal.specs.Refusal.{numberOf, placeOf, besideOf, refusalTold}
@@ -21,16 +26,21 @@ use Rattle.lookup.specs.declared.Looked.{Looked}
 use Rattle.lookup.specs.Record.{holds}
 use Rattle.lookup.specs.Lookup.{Outcome, Rooms, refused, lookWith, lookOf, lookedOf, partnersLeft, logsLeft, marksLeft}
 use Rattle.lookup.specs.Calls.{alone, lent}
+use Rattle.frame.specs.declared.ends.Header.{Header}
+use Rattle.reader.specs.declared.header.HeaderRead.{HeaderRead}
+use Rattle.reader.specs.Header.{headerOf, header-long, header-ids}
 use Rattle.reader.specs.Look.{with-bad, with-record, opened-holds}
 use Rattle.readout.specs.declared.ReadOut.{ReadOut}
 use Rattle.write_file.specs.declared.Written.{Written}
 use Rattle.listing.specs.declared.Listed.{Listed}
 use Rattle.edge_sst_c.specs.declared.EdgeSstOpened.{EdgeSstOpened}
+use Rattle.edge_sst_c.specs.declared.header.EdgeSstHeader.{EdgeSstHeader}
 use Rattle.edge_sst_c.specs.declared.look.EdgeSstLooked.{EdgeSstLooked}
 use Rattle.edge_sst_c.specs.declared.desk.EdgeSstTold.{EdgeSstTold}
 use Rattle.edge_sst_c.specs.declared.desk.EdgeSstDone.{EdgeSstDone}
 use Rattle.edge_sst_c.specs.declared.section_list.EdgeSstListed.{EdgeSstListed}
 use Rattle.edge_sst_c.specs.Told.{truth, recordWith, refusalWith, openedTold, told-good, told-refused}
+use Rattle.edge_sst_c.specs.Header.{headerTold}
 use Rattle.edge_sst_c.specs.Look.{lookedTold, recordLent, byte-small, PartnersTold, EdgesTold}
 use Rattle.edge_sst_c.specs.Desk.{checkTold, readTold}
 use Rattle.edge_sst_c.specs.Write.{writtenTold}
@@ -87,6 +97,67 @@ pub listed-back : (x : Listed) → listedFrom (listedTold x) ≡ x
 unfolding listedTold
 listed-back (Listed.Done n) = refl
 listed-back (Listed.Refused r) = unless-told Listed.Refused (Listed.Done 0) r
+
+-- ---- the header
+
+-- an id from its 16 bytes
+id-back : (f : List ℕ) → Bytes f → (i : ℕ) (d : Id) → d ≡ halvesAt f i → halvesAt (idBytes d) 0 ≡ d
+id-back f by i d e =
+    let p : Id = record { hi = beAt f i 8; lo = beAt f (i + 8) 8 } in
+    let same : d ≡ p = e ∙ halves-is f i in
+    let high : beAt f i 8 < 2 ^ 64 = beAt-lt f by i 8 in
+    let low : beAt f (i + 8) 8 < 2 ^ 64 = beAt-lt f by (i + 8) 8 in
+    ap (λ (x : Id). halvesAt (idBytes x) 0) same
+    ∙ ap (λ (t : List ℕ). halvesAt t 0) (sym (append-nil (idBytes p)))
+    ∙ halves-back [] [] p high low
+    ∙ sym same
+
+abbrev pub headerFrom : EdgeSstHeader → HeaderRead
+headerFrom r = unless HeaderRead.Refused (r .number) (r .place) (r .beside) (HeaderRead.Good (record {
+  minor = r .minor;
+  direction = r .direction;
+  flags = r .flags;
+  edgetype = halvesAt (r .edgetype) 0;
+  source = halvesAt (r .source) 0;
+  destination = halvesAt (r .destination) 0;
+}))
+
+-- no header: what is told beside a refusal
+abbrev noHeader : HeaderRead
+noHeader = HeaderRead.Good (record {
+  minor = 0;
+  direction = 0;
+  flags = 0;
+  edgetype = halvesAt (replicate 16 0) 0;
+  source = halvesAt (replicate 16 0) 0;
+  destination = halvesAt (replicate 16 0) 0;
+})
+
+-- of a file of bytes
+pub header-back : (f : List ℕ) → Bytes f → (x : HeaderRead) → headerOf f ≡ x → headerFrom (headerTold x) ≡ x
+unfolding headerTold
+header-back f by (HeaderRead.Good h) e =
+    let ids = header-ids f h e in λ i. HeaderRead.Good (record {
+      minor = h .minor;
+      direction = h .direction;
+      flags = h .flags;
+      edgetype = id-back f by 16 (h .edgetype) (ids .0) i;
+      source = id-back f by 32 (h .source) (ids .1) i;
+      destination = id-back f by 48 (h .destination) (ids .2) i;
+    })
+header-back f by (HeaderRead.Refused r) e = unless-told HeaderRead.Refused noHeader r
+
+-- the ids that are told are the header's bytes
+pub header-bytes : (f : List ℕ) → Bytes f → (x : HeaderRead) → headerOf f ≡ x → headerTold x .number ≡ 0
+    → (headerTold x .edgetype ≡ part f 16 32) × (headerTold x .source ≡ part f 32 48) × (headerTold x .destination ≡ part f 48 64)
+unfolding headerTold
+header-bytes f by (HeaderRead.Good h) e zero =
+    let ids = header-ids f h e in
+    let there = header-long f h e in
+    let bytes : (i : ℕ) (d : Id) → d ≡ halvesAt f i → i + 16 ≤ length f → idBytes d ≡ part f i (i + 16) =
+    (λ i d q l. ap idBytes q ∙ id-same f by i l ∙ ap (λ (n : ℕ). take n (drop i f)) (omega arith)) in
+    (bytes 16 (h .edgetype) (ids .0) (omega arith), bytes 32 (h .source) (ids .1) (omega arith), bytes 48 (h .destination) (ids .2) (omega arith))
+header-bytes f by (HeaderRead.Refused r) e zero = absurd (omega (arith, number-some r))
 
 -- ---- the opened record
 

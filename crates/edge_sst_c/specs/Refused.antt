@@ -16,6 +16,7 @@ use Rattle.frame.specs.declared.Opening.{Opening}
 use Rattle.lookup.specs.declared.Looked.{Looked}
 use Rattle.lookup.specs.Lookup.{Outcome, lookedOf}
 use Rattle.lookup.specs.Lookup.Laws.{unfound-leaves}
+use Rattle.reader.specs.declared.header.HeaderRead.{HeaderRead}
 use Rattle.readout.specs.declared.ReadOut.{ReadOut}
 use Rattle.readout.specs.ReadOut.{readOutOf, readOutLeaves}
 use Rattle.readout.specs.ReadOut.Laws as read-out
@@ -30,6 +31,7 @@ use Rattle.edge_sst_c.specs.declared.look.EdgeSstLooked.{EdgeSstLooked}
 use Rattle.edge_sst_c.specs.declared.desk.EdgeSstDone.{EdgeSstDone}
 use Rattle.edge_sst_c.specs.declared.section_list.EdgeSstListed.{EdgeSstListed}
 use Rattle.edge_sst_c.specs.Told.{openedTold}
+use Rattle.edge_sst_c.specs.Header.{headerTold}
 use Rattle.edge_sst_c.specs.Look.{lookedTold, PartnersTold, EdgesTold}
 use Rattle.edge_sst_c.specs.Desk.{checkTold, readTold}
 use Rattle.edge_sst_c.specs.Write.{writtenTold, WroteTold}
@@ -62,6 +64,11 @@ pub opened-tells : (x : Opening) → Tells Opening.Refused x (openedTold x .numb
 unfolding openedTold
 opened-tells (Opening.Good o) = answered (λ q e. let z : _≡_ {A = ℕ} 0 1 = cc in omega arith)
 opened-tells (Opening.Refused r) = refusing r
+
+pub header-tells : (x : HeaderRead) → Tells HeaderRead.Refused x (headerTold x .number)
+unfolding headerTold
+header-tells (HeaderRead.Good h) = answered (λ q e. let z : _≡_ {A = ℕ} 0 1 = cc in omega arith)
+header-tells (HeaderRead.Refused r) = refusing r
 
 pub looked-tells : (x : Looked) → Tells Looked.Refused x (lookedTold x .number)
 unfolding lookedTold

@@ -8,6 +8,7 @@ use lib.Dec.{ltb, leb, eqb}
 use Rattle.base.specs.Pick.{pick}
 use Rattle.base.specs.Over.{part}
 use Rattle.codes.specs.Little.{leAt}
+use Rattle.codes.specs.Ids.{halvesAt}
 use Rattle.xxh3_spec.specs.Xxh3.{xxh3}
 use Rattle.refusal.specs.declared.Refusal.{Refusal}
 use Rattle.refusal.specs.declared.Check.{Check}
@@ -16,6 +17,7 @@ use Rattle.frame.specs.declared.Row.{Row}
 use Rattle.frame.specs.declared.Range.{Range}
 use Rattle.frame.specs.declared.Opened.{Opened}
 use Rattle.frame.specs.declared.Framed.{Framed}
+use Rattle.frame.specs.declared.ends.Header.{Header}
 use Rattle.frame.specs.Kind as kind
 pub mod Laws
 
@@ -196,6 +198,32 @@ countsGood flags x = widthGood (x .opened .bits) && (sizesGood (x .opened) && pr
 -- "Magic `TGEDGE` and two zero bytes; major u8 = 1; minor u8, any; header size u16 = 64; flags u32"
 abbrev pub flagsOf : List ℕ → ℕ
 flagsOf h = leAt h 12 4
+
+-- "Flag bits: [..] 3 inverse file": 1 is an inverse file, 0 a forward one
+abbrev pub directionOf : ℕ → ℕ
+directionOf flags = flags / 8 % 2
+
+-- what it says besides, with "edge type, source label and destination label ids, 16 bytes each"
+unfoldable pub headerIn : List ℕ → Header
+headerIn h = record {
+  minor = getD h 9 0;
+  direction = directionOf (flagsOf h);
+  flags = flagsOf h;
+  edgetype = halvesAt h 16;
+  source = halvesAt h 32;
+  destination = halvesAt h 48;
+}
+
+-- the same header at another minor version
+abbrev pub atMinor : ℕ → Header → Header
+atMinor n h = record {
+  minor = n;
+  direction = h .direction;
+  flags = h .flags;
+  edgetype = h .edgetype;
+  source = h .source;
+  destination = h .destination;
+}
 
 -- "Trailer, 20 bytes. XXH3-64 of the body u64; footer length u32 (body plus 20); the header's eight magic bytes."
 abbrev pub footLen : List ℕ → ℕ

@@ -9,7 +9,7 @@ use mathlib.Core.List.{List, [], _∷_}
 use mathlib.Core.Bool.{Bool, true, false, not, _&&_, _||_}
 use lib.ListN.{length, getD}
 use lib.Dec.{ltb, eqb}
-use borrow.Author.Tests.{ltb-true, lt-ltb, eqb-true, eqb-false, eq-eqb, ne-eqb, not-true, not-false}
+use borrow.Author.Tests.{ltb-true, ltb-false, lt-ltb, eqb-true, eqb-false, eq-eqb, ne-eqb, not-true, not-false}
 use Rattle.base.specs.Bytes.{Bytes}
 use Rattle.codes.specs.Little.{leAt}
 use Rattle.codes.specs.Little.Laws.{leAt-lt}
@@ -18,7 +18,7 @@ use Rattle.refusal.specs.declared.Refusal.{Refusal}
 use Rattle.refusal.specs.declared.Check.{Check}
 use Rattle.refusal.specs.Refusal.{numberOf}
 use Rattle.refusal.specs.Check.{_⊳_, refuse}
-use Rattle.refusal.specs.Check.Laws.{then-assoc, by-first, by-second, refuse-bad, refuse-fine, refuse-own, Numbers, numbers-fine, numbers-bad, numbers-refuse, numbers-then, numbers-pick, below, above}
+use Rattle.refusal.specs.Check.Laws.{fine-parts, then-assoc, by-first, by-second, refuse-bad, refuse-fine, refuse-own, Numbers, numbers-fine, numbers-bad, numbers-refuse, numbers-then, numbers-pick, below, above}
 use Rattle.frame.specs.declared.Row.{Row}
 use Rattle.frame.specs.Kind as kind
 use Rattle.frame.specs.Frame.{codecGood, codecs, rangeGood, ranges, tableGood, countsGood, recordOf, framedOf, rowsOf, bodyOf, footLen, flag, flagsOf, sizeCheck, headCheck, tailCheck, sumCheck, countsCheck, endsCheck, rowsCheck, footerCheck, shapeCheck, frameCheck}
@@ -220,6 +220,14 @@ module _ (f : List ℕ) where
 
   abbrev flagsRule : Check
   flagsRule = refuse Refusal.Flags (moreFlags f)
+
+  -- where 5 passes, bits 0 to 3 alone are set
+  pub flags-few : headCheck f ≡ Check.Fine → flagsOf f ≤ 15
+  unfolding headCheck
+  flags-few e =
+      let a = fine-parts magicRule (majorRule ⊳ (sizeRule ⊳ flagsRule)) e in
+      let b = fine-parts majorRule (sizeRule ⊳ flagsRule) (a .1) in
+      ltb-false 15 (flagsOf f) (refuse-fine Refusal.Flags (moreFlags f) .0 (fine-parts sizeRule flagsRule (b .1) .1))
 
   begins : sizeCheck (length f) ≡ Check.Fine → magicRule ≡ Check.Fine → Begins f
   begins s m =

@@ -26,6 +26,8 @@ use Rattle.group.specs.Group.{isGood, groupOf}
 use Rattle.group.specs.Tag.{UnknownTag}
 use Rattle.lookup.specs.Lookup.{Rooms, refused, lookOf, lookWith}
 use Rattle.lookup.specs.Given.{TagIn}
+use Rattle.reader.specs.declared.header.HeaderRead.{HeaderRead}
+use Rattle.reader.specs.Header.{headerOf, header-opening}
 use Rattle.reader.specs.Opened.{opened-offsets}
 use Rattle.reader.specs.Given.{look-of-tag, look-with-tag}
 use Rattle.full_check.specs.Full.{sumsFrom, fullCheck, checkedOf}
@@ -73,8 +75,9 @@ pub record Tags (f : List ℕ) (i : ℕ) : Type 0 where
   pub check : Gives Check.Bad (fullCheck f) 16 i 0 ↔ TagChecked f i
   pub checked : Gives Opening.Refused (checkedOf f) 16 i 0 ↔ TagChecked f i
   pub read-out : (room : ℕ) → Gives ReadOut.Refused (readOutOf f room) 16 i 0 ↔ TagChecked f i
-  -- opening and the section list look at no group
+  -- opening, the header and the section list look at no group
   pub opening : Gives Opening.Refused (openOf f) 16 i 0 → ⊥
+  pub header : Gives HeaderRead.Refused (headerOf f) 16 i 0 → ⊥
   pub sections : (room : ℕ) → Gives Listed.Refused (listedOf f room) 16 i 0 → ⊥
 
 module _ (f : List ℕ) (i : ℕ) where
@@ -122,5 +125,6 @@ module _ (f : List ℕ) (i : ℕ) where
         checked = Iff·trans (gives-is Opening.Refused (checkedOf f) r) (Iff·trans (checked-is f r) full);
         read-out = λ room. Iff·trans (gives-is ReadOut.Refused (readOutOf f room) r) (Iff·trans (read-full f room r (λ e. omega arith)) full);
         opening = λ g. unopened (opens-refused f r .0 (gives-is Opening.Refused (openOf f) r .0 g));
+        header = λ g. unopened (header-opening f r .0 (gives-is HeaderRead.Refused (headerOf f) r .0 g));
         sections = λ room g. unopened (list-opening f room r (λ e. omega arith) .0 (gives-is Listed.Refused (listedOf f room) r .0 g));
       }

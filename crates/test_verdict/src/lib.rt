@@ -1,8 +1,12 @@
 // Prints what opening says of a file, and reads corpora: for the programs over them.
+use codes::ids::Id;
 use frame::Opened;
 use frame::Opening;
 use frame::Range;
 use frame::Row;
+use frame::ends::Header;
+use reader::header::HeaderRead;
+use reader::header::header;
 use reader::open::open;
 use reader::rows::SectionAt;
 use reader::rows::section_at;
@@ -61,6 +65,38 @@ fn record(o: Opened) {
     number(o.bits as u64);
 }
 
+fn id(d: Id) {
+    io::write_all(OUT, b" ");
+    io::print_hex(OUT, d.hi, 16);
+    io::print_hex(OUT, d.lo, 16);
+}
+
+fn fields(h: Header) {
+    let edgetype = h.edgetype;
+    let source = h.source;
+    let destination = h.destination;
+    io::write_all(OUT, b"minor");
+    number(h.minor as u64);
+    io::write_all(OUT, b" direction");
+    number(h.direction as u64);
+    io::write_all(OUT, b" flags");
+    number(h.flags as u64);
+    io::write_all(OUT, b" ids");
+    id(edgetype);
+    id(source);
+    id(destination);
+}
+
+// The line of the header, or of its refusal.
+fn header_line(file: &[u8]) {
+    io::write_all(OUT, b"  header ");
+    match header(file) {
+        HeaderRead::Refused { refusal } => refused(refusal),
+        HeaderRead::Good { header: h } => fields(h),
+    }
+    io::write_all(OUT, b"\n");
+}
+
 // The line of a section.
 pub fn row(r: Row) {
     io::write_all(OUT, b"  section");
@@ -91,7 +127,7 @@ fn rows(file: &[u8]) {
     }
 }
 
-// The verdict on a file: its refusal, or its record and sections.
+// The verdict on a file: its refusal or its record, what its header is said to be, and its sections.
 pub fn verdict(name: &[u8], file: &[u8]) {
     io::write_all(OUT, name);
     io::write_all(OUT, b": ");
@@ -99,10 +135,12 @@ pub fn verdict(name: &[u8], file: &[u8]) {
         Opening::Refused { refusal } => {
             refused(refusal);
             io::write_all(OUT, b"\n");
+            header_line(file);
         }
         Opening::Good { opened } => {
             record(opened);
             io::write_all(OUT, b"\n");
+            header_line(file);
             rows(file);
         }
     }

@@ -77,6 +77,18 @@ pub number-halves : (s : List ℕ) (i : ℕ) → idNumber (halvesAt s i) ≡ idA
 unfolding halvesAt
 number-halves s i = sym (id-halves s i)
 
+-- the bytes decide: the same bytes elsewhere make the same number and the same id
+pub beAt-same : (s t : List ℕ) (i j n : ℕ) → ((k : ℕ) → k < n → getD s (i + k) 0 ≡ getD t (j + k) 0) → beAt s i n ≡ beAt t j n
+unfolding beAt
+beAt-same s t i j zero h = refl
+beAt-same s t i j (suc n) h = ap₂ (λ (x b : ℕ). x * 256 + b) (beAt-same s t i j n (λ k l. h k (omega arith))) (h n (omega arith))
+
+pub halves-same : (s t : List ℕ) (i j : ℕ) → ((k : ℕ) → k < 16 → getD s (i + k) 0 ≡ getD t (j + k) 0) → halvesAt s i ≡ halvesAt t j
+unfolding halvesAt
+halves-same s t i j h =
+    let low : (k : ℕ) → k < 8 → getD s (i + 8 + k) 0 ≡ getD t (j + 8 + k) 0 = (λ k l. rw (add-assoc i 8 k, add-assoc j 8 k) (h (8 + k) (omega arith))) in
+    ap₂ (λ (u v : ℕ). record { hi = u; lo = v }) (beAt-same s t i j 8 (λ k l. h k (omega arith))) (beAt-same s t (i + 8) (j + 8) 8 low)
+
 -- ---- the order of two ids, by their halves
 
 module _ (a b : Id) where

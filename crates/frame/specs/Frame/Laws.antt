@@ -12,6 +12,7 @@ use borrow.Author.Tests.{eqb-true, eqb-false, leb-true, eq-eqb, ne-eqb, le-leb, 
 use Rattle.base.specs.Pick.{pick}
 use Rattle.codes.specs.Little.{leAt, leBytes}
 use Rattle.codes.specs.Little.Laws.{leAt-same}
+use Rattle.codes.specs.Ids.Laws.{halves-same}
 use Rattle.refusal.specs.declared.Refusal.{Refusal}
 use Rattle.refusal.specs.declared.Check.{Check}
 use Rattle.refusal.specs.Check.Laws.{pick-fine, fine-pick, and-parts, and-both}
@@ -19,7 +20,7 @@ use Rattle.frame.specs.declared.Row.{Row}
 use Rattle.frame.specs.declared.Range.{Range}
 use Rattle.frame.specs.Kind as kind
 use Rattle.frame.specs.Kind.Laws.{numberAt, slot-found}
-use Rattle.frame.specs.Frame.{rowAt, nextAt, rowsFrom, endFrom, entryCount, rowsOf, endOf, keyCount, edgeCount, bitsOf, has, repeated, sectionOf, rangeOf, nowhere, rangeGood, ranges, all, nameGood, onceGood, kindsGood, fills, tableGood, codecGood, codecs, widthGood, sizesGood, presenceGood, countsGood, flagsOf, headCheck, recordFrom, framedFrom}
+use Rattle.frame.specs.Frame.{rowAt, nextAt, rowsFrom, endFrom, entryCount, rowsOf, endOf, keyCount, edgeCount, bitsOf, has, repeated, sectionOf, rangeOf, nowhere, rangeGood, ranges, all, nameGood, onceGood, kindsGood, fills, tableGood, codecGood, codecs, widthGood, sizesGood, presenceGood, countsGood, flagsOf, directionOf, headerIn, atMinor, headCheck, recordFrom, framedFrom}
 
 -- the magic's number is that of its bytes
 pub magic-is : leBytes 8 kind.magic ≡ kind.magicBytes
@@ -275,3 +276,13 @@ module _ (g h : List ℕ) (same : ButMinor g h) where
       let magic = leAt-same g h 0 0 8 (λ k l. same (0 + k) (omega arith) (λ e. omega arith)) in
       let size = leAt-same g h 10 10 2 (λ k l. same (10 + k) (omega arith) (λ e. omega arith)) in
       rw (magic, same 8 (omega arith) (λ e. omega arith), size, flags-minor)
+
+  -- of what the header says, it alone may be another
+  pub header-minor : headerIn g ≡ atMinor (getD g 9 0) (headerIn h)
+  unfolding headerIn
+  header-minor =
+      let flags = flags-minor in
+      let first = halves-same g h 16 16 (λ k l. same (16 + k) (omega arith) (λ e. omega arith)) in
+      let second = halves-same g h 32 32 (λ k l. same (32 + k) (omega arith) (λ e. omega arith)) in
+      let third = halves-same g h 48 48 (λ k l. same (48 + k) (omega arith) (λ e. omega arith)) in
+      λ i. record { minor = getD g 9 0; direction = directionOf (flags i); flags = flags i; edgetype = first i; source = second i; destination = third i }
