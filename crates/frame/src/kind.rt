@@ -141,9 +141,9 @@ impl Fences {
     pub const SLOT: usize = 5;
 
     // The writer's stride, and one less, by which a count of fences is rounded up.
-    pub const STRIDE: u64 = 256;
+    pub const STRIDE: usize = 256;
 
-    pub const ROUND: u64 = 255;
+    pub const ROUND: usize = 255;
 
     // The length that the counts give.
     pub fn bytes(entries: u64) -> u64

@@ -74,8 +74,7 @@ pub fn fences_size(keys: usize) -> usize
     counted_if(
         (Bounds::UNFENCED as usize) < keys,
         (Fences::HEAD as usize)
-            + (Fences::ROW as usize)
-                * ((keys + (Fences::ROUND as usize)) / (Fences::STRIDE as usize)),
+            + (Fences::ROW as usize) * ((keys + Fences::ROUND) / Fences::STRIDE),
     )
 }
 

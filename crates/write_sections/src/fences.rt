@@ -23,7 +23,7 @@ fn put_fence(out: &mut [u8], at: usize, key: Id, i: usize) -> usize
         out,
         at + (Keys::ROW as usize),
         8,
-        ((Keys::ROW as usize) * (i * (Fences::STRIDE as usize))) as u64,
+        ((Keys::ROW as usize) * (i * Fences::STRIDE)) as u64,
     );
     at + (Fences::ROW as usize)
 }
@@ -33,14 +33,11 @@ fn put_rows(out: &mut [u8], first: usize, keys: usize, at: usize) -> usize
     requires { ⌜ (keys ≤ mostEdges) × (first + 16 * keys ≤ at) × (at + length (fenceKeysFrom (fenceCount keys) (idsAt keys (now out) first) 0) ≤ length (now out)) ⌝ }
     ensures { λ r. ⌜ Put (now (out .entry)) (now (out .exit)) at r (fenceKeysFrom (fenceCount keys) (idsAt keys (now (out .entry)) first) 0) ⌝ }
 {
-    let m = (keys + (Fences::ROUND as usize)) / (Fences::STRIDE as usize);
+    let m = (keys + Fences::ROUND) / Fences::STRIDE;
     let mut i: usize = 0;
     let mut to = at;
     while i < m {
-        let key = id_at(
-            out,
-            first + (Keys::ROW as usize) * (i * (Fences::STRIDE as usize)),
-        );
+        let key = id_at(out, first + (Keys::ROW as usize) * (i * Fences::STRIDE));
         to = put_fence(out, to, key, i);
         i = i + 1;
     }
@@ -52,12 +49,12 @@ pub fn put_fences(out: &mut [u8], first: usize, keys: usize, at: usize) -> usize
     requires { ⌜ (keys ≤ mostEdges) × (first + 16 * keys ≤ at) × (at + length (fencesOf (idsAt keys (now out) first)) ≤ length (now out)) ⌝ }
     ensures { λ r. ⌜ Put (now (out .entry)) (now (out .exit)) at r (fencesOf (idsAt keys (now (out .entry)) first)) ⌝ }
 {
-    put_le(out, at, 4, Fences::STRIDE);
+    put_le(out, at, 4, Fences::STRIDE as u64);
     put_le(
         out,
         at + 4,
         4,
-        ((keys + (Fences::ROUND as usize)) / (Fences::STRIDE as usize)) as u64,
+        ((keys + Fences::ROUND) / Fences::STRIDE) as u64,
     );
     put_rows(out, first, keys, at + (Fences::HEAD as usize))
 }

@@ -144,7 +144,7 @@ put-group-requires c κs =
     let es = sourceEdges (a .kind) (a .a .now) (a .b .now) in
     let g = c .before .span-at .ensures .ends in
     let r = room es (a .n) (a .keys) (a .w) (a .out .now) (a .at) _ (l .out) (l .i) (l .k) (l .o) (l .p) (l .inv) _ g (c .before .before .before .before .before .before .before .pre .5) in
-    (c .before .span-at .ensures, omega (arith, g .within), c .before .before .before .before .before .before .before .pre .3, rises es (l .i) _ g (l .inv .rest), r .0, r .1, r .2, c .before .before .before .before .before .before .before .pre .6, c .before .before .before .before .before .before .before .pre .7)
+    (c .before .span-at .ensures, omega (arith, g .within), c .before .before .before .before .before .before .before .pre .3, rises es (l .i) _ g (l .inv .rest), r .0, r .1, r .2, c .before .before .before .before .before .before .before .pre .6)
 
 add-k : tie.Need-add-k Inv-loop μ-loop
 add-k c =
@@ -178,7 +178,7 @@ put-offset-requires c κs =
     let a = c .before .before .before .before .before .before .args in
     let l = c .before .before .loop in
     let es = sourceEdges (a .kind) (a .a .now) (a .b .now) in
-    let u = l .inv .upto in (room-last es (a .n) (a .keys) (a .w) (a .out .now) (a .at) _ (l .out) (l .i) (l .k) (l .o) (l .p) (l .inv) (omega arith) (c .before .before .before .before .before .before .pre .5), c .before .before .before .before .before .before .pre .6, c .before .before .before .before .before .before .pre .7)
+    let u = l .inv .upto in (room-last es (a .n) (a .keys) (a .w) (a .out .now) (a .at) _ (l .out) (l .i) (l .k) (l .o) (l .p) (l .inv) (omega arith) (c .before .before .before .before .before .before .pre .5), c .before .before .before .before .before .before .pre .6)
 
 same-length : tie.Need-same-length Inv-loop μ-loop
 same-length c = omega arith
