@@ -22,11 +22,11 @@ use Rattle.lookup.specs.Lookup.{Rooms, lookOf, lookWith}
 use Rattle.lookup.specs.Calls.{alone}
 use Rattle.batch.specs.declared.Edge.{Edge}
 use Rattle.batch.specs.Batch.{Heading, headingOf, edgesOf, recordCount, faultFrom, headed, batchCheck, batchBytes}
-use Rattle.batch_groups.specs.Groups.{groupsOf}
+use Rattle.batch_groups.specs.Groups.{anyDead, groupsOf}
 use Rattle.batch_groups.specs.Groups.Laws.{grouped}
 use Rattle.batch_groups.specs.Order.{batch-ordered, fine-long}
 use Rattle.batch_groups.specs.Back.{batch-same}
-use Rattle.write_image.specs.Image.{anyDead, anyDense, flagsBy, fileOf}
+use Rattle.write_image.specs.Image.{anyDense, flagsBy, fileOf}
 use Rattle.full_check.specs.Full.{fullCheck}
 use Rattle.readout.specs.ReadOut.{batchIn}
 use Rattle.agreement.specs.SameEdges.{ofKey, Says, Enough, edgesOfFile, same-edges, same-partners}
