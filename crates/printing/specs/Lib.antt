@@ -1,1 +1,1 @@
-pub mod Dead
+pub mod Printed
