@@ -1,18 +1,32 @@
 // Prints a file of at most 65,536 bytes from standard input; for more it prints `too long`. A file of that size has at most
 // 3,855 edges (17 bytes each at least), so its batch has room in 262,144 bytes.
-const OUT: i32 = 1;
+use printing::print_file;
+use streams::read_input;
+use streams::say;
+use streams::wrote;
 
-fn is_long(n: usize) -> bool {
-    n > 65536
+// The most bytes of a file that is printed.
+const LONGEST: usize = 65536;
+
+// Prints the input; false where a write failed.
+fn printed(file: &[u8]) -> bool {
+    if LONGEST < file.len() {
+        return wrote(b"too long\n");
+    }
+    let mut room = [0u8; 262144];
+    let mut out = io::large_buffer();
+    print_file(file, &mut room, &mut out)
 }
 
 fn main() {
-    let mut file = [0u8; 65537];
-    let n = io::read_full(0, &mut file);
-    if is_long(n) {
-        io::write_all(OUT, b"too long\n");
+    let mut space = [0u8; 65537];
+    let input = read_input(&mut space);
+    if input.failed {
+        say(b"cannot read\n");
         return;
     }
-    let mut room = [0u8; 262144];
-    printing::print_file(&file[..n], &mut room);
+    let n = input.bytes;
+    if !printed(&space[0..n]) {
+        say(b"cannot write\n");
+    }
 }

@@ -1,9 +1,14 @@
-// Prints a file as the program `edge_sst` does: its heading, a line for each edge, `ok`; or its refusal.
+// Prints a file: a line for it, a line for each edge, `ok`; or its refusal. Lines are collected in a lent output, which is
+// written when the next line might not fit; the first write that fails ends the print.
 ghost use mathlib.Core.Path.{_≡_};
-ghost use Prim.Native.Nat.{_/_};
+ghost use Prim.Native.Nat.{_+_, _-_, _≤_, _<_};
 ghost use lib.ListN.{length};
 ghost use Rattle.base.specs.Pick.{pick};
-ghost use Rattle.printing.specs.Dead.{deadFrom};
+ghost use Rattle.base.specs.Put.{Put};
+ghost use Rattle.batch.specs.Batch.{recordCount, edgesOf};
+ghost use Rattle.printing.specs.Printed.{idText, lifeEnd, edgeLine, directionWord, firstLine, deadIn, lineAt, linesFrom, lineCount};
+ghost use Rattle.text.specs.Text.{decimal};
+ghost use mathlib.Core.List.{_++_};
 use batch::Edge;
 use batch::edge_at;
 use codes::ids::Id;
@@ -12,42 +17,89 @@ use frame::Opening;
 use reader::open::open;
 use readout::ReadOut;
 use readout::read_out;
-use test_verdict::number;
-use test_verdict::refused;
+use refusal::Refusal;
+use text::put_hex;
+use text::put_labelled;
+use text::put_refused;
+use text::put_word;
 
-const OUT: i32 = 1;
+// The most bytes that a line takes: the first line's words and four numbers of 20 digits.
+const LINE: usize = 128;
 
-fn id(x: Id) {
-    io::print_hex(OUT, x.hi, 16);
-    io::print_hex(OUT, x.lo, 16);
+// Where the minor version stands in the header, and the direction in a batch's heading.
+const MINOR: usize = 9;
+
+const DIRECTION: usize = 1;
+
+// ---- lines
+
+fn put_id_text(out: &mut [u8], at: usize, id: Id) -> usize
+    requires { ⌜ at + length (idText id) ≤ length (now out) ⌝ }
+    ensures { λ r. ⌜ Put (now (out .entry)) (now (out .exit)) at r (idText id) ⌝ }
+{
+    let mid = put_hex(out, at, id.hi);
+    put_hex(out, mid, id.lo)
 }
 
-fn life(dead: bool) {
+fn put_life(out: &mut [u8], at: usize, dead: bool) -> usize
+    requires { ⌜ at + length (lifeEnd dead) ≤ length (now out) ⌝ }
+    ensures { λ r. ⌜ Put (now (out .entry)) (now (out .exit)) at r (lifeEnd dead) ⌝ }
+{
     if dead {
-        io::write_all(OUT, b" dead\n");
-        return;
+        return put_word(out, at, b" dead\n");
     }
-    io::write_all(OUT, b" live\n");
+    put_word(out, at, b" live\n")
 }
 
-fn edge(e: Edge) {
+fn put_edge_line(out: &mut [u8], at: usize, e: Edge) -> usize
+    requires { ⌜ at + length (edgeLine e) ≤ length (now out) ⌝ }
+    ensures { λ r. ⌜ Put (now (out .entry)) (now (out .exit)) at r (edgeLine e) ⌝ }
+{
     let key = e.key;
     let partner = e.partner;
-    id(key);
-    io::write_all(OUT, b" ");
-    id(partner);
-    io::write_all(OUT, b" lsn");
-    number(e.log);
-    life(e.dead);
+    let first = put_id_text(out, at, key);
+    let second = put_word(out, first, b" ");
+    let third = put_id_text(out, second, partner);
+    let fourth = put_labelled(out, third, b" lsn ", e.log);
+    put_life(out, fourth, e.dead)
 }
 
-// The lines of the records s.
-fn edges(s: &[u8]) {
-    let mut at: usize = 0;
-    while 41 <= s.len() - at {
-        edge(edge_at(s, at));
-        at = at + 41;
+fn put_direction(out: &mut [u8], at: usize, direction: u64, minor: u64) -> usize
+    requires { ⌜ at + length (directionWord direction ++ decimal minor) ≤ length (now out) ⌝ }
+    ensures { λ r. ⌜ Put (now (out .entry)) (now (out .exit)) at r (directionWord direction ++ decimal minor) ⌝ }
+{
+    if direction == 1 {
+        return put_labelled(out, at, b"edge-sst inverse minor ", minor);
     }
+    put_labelled(out, at, b"edge-sst forward minor ", minor)
+}
+
+fn put_first_line(
+    out: &mut [u8],
+    at: usize,
+    direction: u64,
+    minor: u64,
+    keys: u64,
+    edges: u64,
+    dead: u64,
+) -> usize
+    requires { ⌜ at + length (firstLine direction minor keys edges dead) ≤ length (now out) ⌝ }
+    ensures { λ r. ⌜ Put (now (out .entry)) (now (out .exit)) at r (firstLine direction minor keys edges dead) ⌝ }
+{
+    let first = put_direction(out, at, direction, minor);
+    let second = put_labelled(out, first, b" keys ", keys);
+    let third = put_labelled(out, second, b" edges ", edges);
+    let fourth = put_labelled(out, third, b" dead ", dead);
+    put_word(out, fourth, b"\n")
+}
+
+// ---- a batch
+
+fn edge_count(batch: &[u8]) -> usize
+    requires { ⌜ 50 ≤ length (now batch) ⌝ }
+    ensures { λ r. ⌜ r ≡ recordCount (now (batch .entry)) ⌝ }
+{
+    (batch.len() - Edge::HEAD) / Edge::RECORD
 }
 
 fn one_if(dead: bool) -> u64
@@ -59,74 +111,123 @@ fn one_if(dead: bool) -> u64
     0
 }
 
-// How many of the records s are dead edges.
-fn dead_in(s: &[u8]) -> u64
-    ensures { λ r. ⌜ r ≡ deadFrom (length (now (s .entry)) / 41) (now (s .entry)) 0 ⌝ }
+// How many of a batch's edges are dead.
+fn dead_in(batch: &[u8]) -> u64
+    requires { ⌜ 50 ≤ length (now batch) ⌝ }
+    ensures { λ r. ⌜ r ≡ deadIn (edgesOf (now (batch .entry))) ⌝ }
 {
-    let mut at: usize = 0;
+    let edges = edge_count(batch);
     let mut dead: u64 = 0;
-    while 41 <= s.len() - at {
-        let e = edge_at(s, at);
+    let mut k: usize = 0;
+    while k < edges {
+        let e = edge_at(batch, Edge::HEAD + Edge::RECORD * k);
         dead = dead + one_if(e.dead);
-        at = at + 41;
+        k = k + 1;
     }
     dead
 }
 
-fn direction(d: u64) {
-    if d == 1 {
-        io::write_all(OUT, b"edge-sst inverse minor");
-        return;
+// Line k of what is printed of a batch.
+fn put_line(out: &mut [u8], at: usize, minor: u64, keys: u64, batch: &[u8], k: usize) -> usize
+    requires { ⌜ (50 ≤ length (now batch)) × (at + 128 ≤ length (now out)) ⌝ }
+    ensures { λ r. ⌜ Put (now (out .entry)) (now (out .exit)) at r (lineAt minor keys (now (batch .entry)) k) ⌝ }
+{
+    let edges = edge_count(batch);
+    if k == 0 {
+        let direction = byte(batch, DIRECTION);
+        return put_first_line(
+            out,
+            at,
+            direction,
+            minor,
+            keys,
+            edges as u64,
+            dead_in(batch),
+        );
     }
-    io::write_all(OUT, b"edge-sst forward minor");
+    if k <= edges {
+        return put_edge_line(out, at, edge_at(batch, Edge::HEAD + Edge::RECORD * (k - 1)));
+    }
+    put_word(out, at, b"ok\n")
 }
 
-// A batch of a file with so many keys and this minor version.
-fn batch_of(minor: u64, keys: u64, batch: &[u8]) {
-    if batch.len() < 50 {
-        return;
-    }
-    let records = &batch[50..batch.len()];
-    direction(byte(batch, 1));
-    number(minor);
-    io::write_all(OUT, b" keys");
-    number(keys);
-    io::write_all(OUT, b" edges");
-    number((records.len() / 41) as u64);
-    io::write_all(OUT, b" dead");
-    number(dead_in(records));
-    io::write_all(OUT, b"\n");
-    edges(records);
-    io::write_all(OUT, b"ok\n");
+// Lines that were put: the line that comes next, and their bytes.
+struct Page {
+    next: usize,
+    bytes: usize,
 }
 
-// The batch that stands in the first n bytes of `room`.
-fn front(file: &[u8], keys: u64, room: &[u8], n: u64) {
-    let bytes = n as usize;
-    if bytes <= room.len() {
-        if 64 <= file.len() {
-            batch_of(byte(file, 9), keys, &room[0..bytes]);
+// As many lines as fit for sure, from line `from` on.
+fn put_page(out: &mut [u8], minor: u64, keys: u64, batch: &[u8], from: usize) -> Page
+    requires { ⌜ (50 ≤ length (now batch)) × (128 ≤ length (now out)) × (from < lineCount (now batch)) ⌝ }
+    ensures { λ r. ⌜ (from < r .next) × (r .next ≤ lineCount (now (batch .entry))) × (r .bytes ≤ length (now (out .exit))) × Put (now (out .entry)) (now (out .exit)) 0 (r .bytes) (linesFrom minor keys (now (batch .entry)) (r .next - from) from) ⌝ }
+{
+    let lines = edge_count(batch) + 2;
+    let mut next = from;
+    let mut at: usize = 0;
+    while next < lines {
+        if out.len() - at < LINE {
+            return Page { next, bytes: at };
         }
+        at = put_line(out, at, minor, keys, batch, next);
+        next = next + 1;
     }
+    Page { next, bytes: at }
 }
 
-// The keys of a file that opens.
-fn keys_of(file: &[u8]) -> u64 {
-    match open(file) {
-        Opening::Good { opened } => opened.keycount,
-        Opening::Refused { refusal: _ } => 0,
-    }
+// ---- and written
+
+// Writes the first n bytes of `out`; false where a write fails.
+fn wrote_front(out: &[u8], n: usize) -> bool
+    requires { ⌜ n ≤ length (now out) ⌝ }
+{
+    streams::wrote(&out[0..n])
 }
 
-// Prints a file; `room` is lent for its batch.
-pub fn print_file(file: &[u8], room: &mut [u8]) {
+// Prints a batch, page by page.
+fn print_batch(minor: u64, keys: u64, batch: &[u8], out: &mut [u8]) -> bool
+    requires { ⌜ (50 ≤ length (now batch)) × (128 ≤ length (now out)) ⌝ }
+{
+    let lines = edge_count(batch) + 2;
+    let mut next: usize = 0;
+    while next < lines {
+        let page = put_page(out, minor, keys, batch, next);
+        if !wrote_front(out, page.bytes) {
+            return false;
+        }
+        next = page.next;
+    }
+    true
+}
+
+fn print_refusal(refusal: Refusal, out: &mut [u8]) -> bool
+    requires { ⌜ 128 ≤ length (now out) ⌝ }
+{
+    let mid = put_refused(out, 0, refusal);
+    let end = put_word(out, mid, b"\n");
+    wrote_front(out, end)
+}
+
+// A file that opens, with so many keys.
+fn print_opened(file: &[u8], keys: u64, room: &mut [u8], out: &mut [u8]) -> bool
+    requires { ⌜ (84 ≤ length (now file)) × (128 ≤ length (now out)) ⌝ }
+{
     match read_out(file, room) {
-        ReadOut::Refused { refusal } => {
-            refused(refusal);
-            io::write_all(OUT, b"\n");
-        }
+        ReadOut::Refused { refusal } => print_refusal(refusal, out),
         ReadOut::Done { bytes } => {
-            front(file, keys_of(file), room, bytes);
+            let n = bytes as usize;
+            print_batch(byte(file, MINOR), keys, &room[0..n], out)
         }
+    }
+}
+
+// Prints a file to standard output; false where a write failed, and then nothing is written after it. `room` is lent for its
+// batch, `out` for lines.
+pub fn print_file(file: &[u8], room: &mut [u8], out: &mut [u8]) -> bool
+    requires { ⌜ 128 ≤ length (now out) ⌝ }
+{
+    match open(file) {
+        Opening::Refused { refusal } => print_refusal(refusal, out),
+        Opening::Good { opened } => print_opened(file, opened.keycount, room, out),
     }
 }

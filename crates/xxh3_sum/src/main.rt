@@ -1,17 +1,31 @@
 // Prints the XXH3-64 of at most 65,536 bytes of standard input as 16 hex digits; for more it prints `too long`.
-const OUT: i32 = 1;
+use streams::read_input;
+use streams::say;
+use streams::wrote;
 
-fn is_long(n: usize) -> bool {
-    n > 65536
+// The most bytes that are summed.
+const LONGEST: usize = 65536;
+
+// Prints the sum; false where a write failed.
+fn printed(bytes: &[u8]) -> bool {
+    if LONGEST < bytes.len() {
+        return wrote(b"too long\n");
+    }
+    if !io::print_hex(libc::STDOUT_FILENO, xxh3::xxh3(bytes), 16) {
+        return false;
+    }
+    wrote(b"\n")
 }
 
 fn main() {
-    let mut buf = [0u8; 65537];
-    let n = io::read_full(0, &mut buf);
-    if is_long(n) {
-        io::write_all(OUT, b"too long\n");
+    let mut space = [0u8; 65537];
+    let input = read_input(&mut space);
+    if input.failed {
+        say(b"cannot read\n");
         return;
     }
-    io::print_hex(OUT, xxh3::xxh3(&buf[..n]), 16);
-    io::write_all(OUT, b"\n");
+    let n = input.bytes;
+    if !printed(&space[0..n]) {
+        say(b"cannot write\n");
+    }
 }

@@ -10,14 +10,14 @@ use lib.ListN.{length, getD, set, drop, length-append, drop-of-length-le}
 use native.Mathlib.Numerals.{add-one}
 use lib.Seq.{sets, drop-cons}
 use lib.Dec.{eqb, ltb}
-use borrow.Author.Tests.{eqb-true, lt-ltb, le-ltb}
+use borrow.Author.Tests.{eqb-true, lt-ltb, le-ltb, ltb-false}
 use Rattle.base.specs.Pick.{pick}
 use Rattle.base.specs.Over.{part, over, length-part, sets-append, sets-over}
 use Rattle.refusal.specs.declared.Refusal.{Refusal}
 use Rattle.refusal.specs.declared.Check.{Check}
 use Rattle.refusal.specs.Refusal.{numberOf}
 use Rattle.refusal.specs.Check.{_⊳_, refuse}
-use Rattle.refusal.specs.Check.Laws.{fine-parts, good-parts, and-parts, bad-then, fine-then, by-first, refuse-own}
+use Rattle.refusal.specs.Check.Laws.{fine-parts, good-parts, and-parts, bad-then, fine-then, by-first, refuse-own, refuse-fine}
 use Rattle.frame.specs.declared.Opened.{Opened}
 use Rattle.frame.specs.declared.Opening.{Opening}
 use Rattle.frame.specs.Frame.{rowsOf, flagsOf, bodyOf, recordOf}
@@ -165,6 +165,18 @@ read-out-refused-leaves f o q = go (readCheck f (length o))
     go : (c : Check) → readAnswer c (neededFor f) ≡ ReadOut.Refused q → readLeaves c (batchIn f) o ≡ o
     go Check.Fine e = let z : _≡_ {A = ℕ} 0 1 = cc in absurd (omega arith)
     go (Check.Bad r) e = refl
+
+-- a read-out that is done wrote what it needs, within the room
+pub done-room : (f : List ℕ) (room n : ℕ) → readOutOf f room ≡ ReadOut.Done n → (n ≡ neededFor f) × (n ≤ room)
+unfolding readOutOf readCheck readAnswer
+done-room f room n = go (readCheck f room) refl
+  where
+    go : (c : Check) → readCheck f room ≡ c → readAnswer c (neededFor f) ≡ ReadOut.Done n → (n ≡ neededFor f) × (n ≤ room)
+    go Check.Fine p e =
+        let same : n ≡ neededFor f = cc in
+        let fits = ltb-false room (neededFor f) (refuse-fine (Refusal.Room (neededFor f)) _ .0 (fine-parts (fullCheck f) _ p .1)) in
+        (same, rw same fits)
+    go (Check.Bad r) p e = let z : _≡_ {A = ℕ} 0 1 = cc in absurd (omega arith)
 
 -- a refusal other than 20 is the read-out's exactly if it is the full check's
 pub read-full : (f : List ℕ) (room : ℕ) (r : Refusal) → (numberOf r ≡ 20 → ⊥) → (readOutOf f room ≡ ReadOut.Refused r) ↔ (fullCheck f ≡ Check.Bad r)

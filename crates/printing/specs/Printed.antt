@@ -1,0 +1,108 @@
+-- "The printed form": what the program prints of a file, line by line, from its batch, minor version and key count.
+use Prim.Native.Nat.{ℕ, zero, suc, _+_}
+use mathlib.Core.Bool.{Bool}
+use mathlib.Core.List.{List, [], _∷_, _++_}
+use lib.ListN.{getD}
+use lib.Dec.{ltb, eqb}
+use Rattle.base.specs.Pick.{pick}
+use Rattle.codes.specs.declared.ids.Id.{Id}
+use Rattle.batch.specs.declared.Edge.{Edge}
+use Rattle.batch.specs.Batch.{edgeAt, edgesOf, recordCount, place}
+use Rattle.text.specs.Text.{decimal, hex}
+pub mod Laws
+
+-- ---- the line of an edge: key, partner, log number, live or dead
+
+-- " "
+abbrev pub space : List ℕ
+space = 32 ∷ []
+
+-- " lsn "
+abbrev pub lsnWord : List ℕ
+lsnWord = 32 ∷ 108 ∷ 115 ∷ 110 ∷ 32 ∷ []
+
+-- " live" and a newline
+abbrev pub liveEnd : List ℕ
+liveEnd = 32 ∷ 108 ∷ 105 ∷ 118 ∷ 101 ∷ 10 ∷ []
+
+-- " dead" and a newline
+abbrev pub deadEnd : List ℕ
+deadEnd = 32 ∷ 100 ∷ 101 ∷ 97 ∷ 100 ∷ 10 ∷ []
+
+abbrev pub idText : Id → List ℕ
+idText x = hex (x .hi) ++ hex (x .lo)
+
+abbrev pub lifeEnd : Bool → List ℕ
+lifeEnd dead = pick dead deadEnd liveEnd
+
+unfoldable pub edgeLine : Edge → List ℕ
+edgeLine e = idText (e .key) ++ (space ++ (idText (e .partner) ++ ((lsnWord ++ decimal (e .log)) ++ lifeEnd (e .dead))))
+
+-- ---- the first line: direction, minor version, keys, edges, dead edges
+
+-- "edge-sst forward minor "
+abbrev pub forwardWord : List ℕ
+forwardWord = 101 ∷ 100 ∷ 103 ∷ 101 ∷ 45 ∷ 115 ∷ 115 ∷ 116 ∷ 32 ∷ 102 ∷ 111 ∷ 114 ∷ 119 ∷ 97 ∷ 114 ∷ 100 ∷ 32 ∷ 109 ∷ 105 ∷ 110 ∷ 111 ∷ 114 ∷ 32 ∷ []
+
+-- "edge-sst inverse minor "
+abbrev pub inverseWord : List ℕ
+inverseWord = 101 ∷ 100 ∷ 103 ∷ 101 ∷ 45 ∷ 115 ∷ 115 ∷ 116 ∷ 32 ∷ 105 ∷ 110 ∷ 118 ∷ 101 ∷ 114 ∷ 115 ∷ 101 ∷ 32 ∷ 109 ∷ 105 ∷ 110 ∷ 111 ∷ 114 ∷ 32 ∷ []
+
+-- " keys "
+abbrev pub keysWord : List ℕ
+keysWord = 32 ∷ 107 ∷ 101 ∷ 121 ∷ 115 ∷ 32 ∷ []
+
+-- " edges "
+abbrev pub edgesWord : List ℕ
+edgesWord = 32 ∷ 101 ∷ 100 ∷ 103 ∷ 101 ∷ 115 ∷ 32 ∷ []
+
+-- " dead "
+abbrev pub deadWord : List ℕ
+deadWord = 32 ∷ 100 ∷ 101 ∷ 97 ∷ 100 ∷ 32 ∷ []
+
+-- a newline
+abbrev pub newline : List ℕ
+newline = 10 ∷ []
+
+-- a heading's direction 1 says that the file is inverse
+abbrev pub directionWord : ℕ → List ℕ
+directionWord d = pick (eqb d 1) inverseWord forwardWord
+
+unfoldable pub firstLine : ℕ → ℕ → ℕ → ℕ → ℕ → List ℕ
+firstLine direction minor keys edges dead =
+    (directionWord direction ++ decimal minor)
+    ++ ((keysWord ++ decimal keys) ++ ((edgesWord ++ decimal edges) ++ ((deadWord ++ decimal dead) ++ newline)))
+
+-- how many edges are dead
+unfoldable pub deadIn : List Edge → ℕ
+deadIn [] = 0
+deadIn (e ∷ es) = pick (e .dead) 1 0 + deadIn es
+
+-- ---- all lines
+
+-- "ok" and a newline
+abbrev pub okLine : List ℕ
+okLine = 111 ∷ 107 ∷ 10 ∷ []
+
+unfoldable pub edgeLines : List Edge → List ℕ
+edgeLines [] = []
+edgeLines (e ∷ es) = edgeLine e ++ edgeLines es
+
+module _ (minor keys : ℕ) (batch : List ℕ) where
+  -- what is printed of a file whose read-out is this batch
+  unfoldable pub printed : List ℕ
+  printed = firstLine (getD batch 1 0) minor keys (recordCount batch) (deadIn (edgesOf batch)) ++ (edgeLines (edgesOf batch) ++ okLine)
+
+  -- line k of it
+  unfoldable pub lineAt : ℕ → List ℕ
+  lineAt zero = firstLine (getD batch 1 0) minor keys (recordCount batch) (deadIn (edgesOf batch))
+  lineAt (suc e) = pick (ltb e (recordCount batch)) (edgeLine (edgeAt batch (place e))) okLine
+
+  -- n lines from line k on
+  unfoldable pub linesFrom : ℕ → ℕ → List ℕ
+  linesFrom zero k = []
+  linesFrom (suc n) k = lineAt k ++ linesFrom n (suc k)
+
+-- the first line, the edges, `ok`
+abbrev pub lineCount : List ℕ → ℕ
+lineCount batch = recordCount batch + 2
