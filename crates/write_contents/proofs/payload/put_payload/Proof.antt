@@ -97,7 +97,7 @@ module _ (es : List Edge) (keys w : ℕ) (dead : Bool) (o : List ℕ) (at : ℕ)
       done p₃ = P.end refl (P.put left p₃)
 
 put-groups-requires : tie.Need-put-groups-requires
-put-groups-requires c κs = let a = c .before .before .before .before .args in (c .before .before .before .before .pre .0, c .before .before .before .before .pre .1, c .before .before .before .before .pre .2, c .before .before .before .before .pre .3, c .before .before .before .before .pre .4, room₀ (sourceEdges (a .kind) (a .a .now) (a .b .now)) (a .keys) (a .w) (a .dead) (a .out .now) (a .at) (c .before .before .before .before .pre .2) (c .before .before .before .before .pre .4) (c .before .before .before .before .pre .5), c .before .before .before .before .pre .6, c .before .before .before .before .pre .7)
+put-groups-requires c κs = let a = c .before .before .before .before .args in (c .before .before .before .before .pre .0, c .before .before .before .before .pre .1, c .before .before .before .before .pre .2, c .before .before .before .before .pre .3, c .before .before .before .before .pre .4, room₀ (sourceEdges (a .kind) (a .a .now) (a .b .now)) (a .keys) (a .w) (a .dead) (a .out .now) (a .at) (c .before .before .before .before .pre .2) (c .before .before .before .before .pre .4) (c .before .before .before .before .pre .5), c .before .before .before .before .pre .6)
 
 put-by-edge-requires : tie.Need-put-by-edge-requires
 put-by-edge-requires c κs = let a = c .before .before .before .before .before .before .before .before .args in (c .before .before .before .before .before .before .before .before .pre .0, c .before .before .before .before .before .before .before .before .pre .1, room₁ (sourceEdges (a .kind) (a .a .now) (a .b .now)) (a .keys) (a .w) (a .dead) (a .out .now) (a .at) (c .before .before .before .before .before .before .before .before .pre .2) (c .before .before .before .before .before .before .before .before .pre .4) (c .before .before .before .before .before .before .before .before .pre .5) (c .before .before .before .put-groups .ensures))

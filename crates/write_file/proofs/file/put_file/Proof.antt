@@ -158,7 +158,7 @@ put-header-requires : tie.Need-put-header-requires
 put-header-requires c κs = let a = c .before .before .before .before .before .before .args in (room₀ (record { direction = a .direction; ids = a .ids .now }) (sourceEdges (a .kind) (a .a .now) (a .b .now)) (a .plan) (c .before .before .before .before .before .before .pre .0) (c .before .before .before .before .before .before .pre .2) (a .out .now) (c .before .before .before .before .before .before .pre .3), c .before .before .before .before .before .before .pre .2)
 
 put-payload-requires : tie.Need-put-payload-requires
-put-payload-requires c κs = let a = c .before .before .before .before .before .before .before .before .before .before .args in let b = bounds (record { direction = a .direction; ids = a .ids .now }) (sourceEdges (a .kind) (a .a .now) (a .b .now)) (a .plan) (c .before .before .before .before .before .before .before .before .before .before .pre .0) (c .before .before .before .before .before .before .before .before .before .before .pre .2) (a .out .now) (c .before .before .before .before .before .before .before .before .before .before .pre .3) in (b .0, b .1, b .2, b .3, c .before .before .before .before .before .before .before .before .before .before .pre .1, room₁ (record { direction = a .direction; ids = a .ids .now }) (sourceEdges (a .kind) (a .a .now) (a .b .now)) (a .plan) (c .before .before .before .before .before .before .before .before .before .before .pre .0) (c .before .before .before .before .before .before .before .before .before .before .pre .2) (a .out .now) (c .before .before .before .before .before .before .before .before .before .before .pre .3) _ (c .before .before .before .before .before .flags-for .ensures) (c .before .before .before .put-header .ensures), b .5, b .4)
+put-payload-requires c κs = let a = c .before .before .before .before .before .before .before .before .before .before .args in let b = bounds (record { direction = a .direction; ids = a .ids .now }) (sourceEdges (a .kind) (a .a .now) (a .b .now)) (a .plan) (c .before .before .before .before .before .before .before .before .before .before .pre .0) (c .before .before .before .before .before .before .before .before .before .before .pre .2) (a .out .now) (c .before .before .before .before .before .before .before .before .before .before .pre .3) in (b .0, b .1, b .2, b .3, c .before .before .before .before .before .before .before .before .before .before .pre .1, room₁ (record { direction = a .direction; ids = a .ids .now }) (sourceEdges (a .kind) (a .a .now) (a .b .now)) (a .plan) (c .before .before .before .before .before .before .before .before .before .before .pre .0) (c .before .before .before .before .before .before .before .before .before .before .pre .2) (a .out .now) (c .before .before .before .before .before .before .before .before .before .before .pre .3) _ (c .before .before .before .before .before .flags-for .ensures) (c .before .before .before .put-header .ensures), (b .5, b .4))
 
 put-body-requires : tie.Need-put-body-requires
 put-body-requires c κs = let a = c .before .before .before .before .before .before .before .before .before .before .before .before .before .before .args in let b = bounds (record { direction = a .direction; ids = a .ids .now }) (sourceEdges (a .kind) (a .a .now) (a .b .now)) (a .plan) (c .before .before .before .before .before .before .before .before .before .before .before .before .before .before .pre .0) (c .before .before .before .before .before .before .before .before .before .before .before .before .before .before .pre .2) (a .out .now) (c .before .before .before .before .before .before .before .before .before .before .before .before .before .before .pre .3) in let r = room₂ (record { direction = a .direction; ids = a .ids .now }) (sourceEdges (a .kind) (a .a .now) (a .b .now)) (a .plan) (c .before .before .before .before .before .before .before .before .before .before .before .before .before .before .pre .0) (c .before .before .before .before .before .before .before .before .before .before .before .before .before .before .pre .2) (a .out .now) (c .before .before .before .before .before .before .before .before .before .before .before .before .before .before .pre .3) _ (c .before .before .before .before .before .before .before .before .before .flags-for .ensures) (c .before .before .before .before .before .before .before .put-header .ensures) (c .before .before .before .put-payload .ensures) in (b .3, b .4, b .1, r .0, r .1, r .2)
