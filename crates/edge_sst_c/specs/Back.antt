@@ -1,7 +1,7 @@
 -- What the calls for C tell, read back by the words of include/edge_sst.h: the library's answers, and the record of
 -- `edge_sst_open` where it is lent to a lookup.
 use mathlib.Core.Path.{_≡_, refl, sym, ap, _∙_}
-use Prim.Native.Nat.{ℕ, _+_, _^_, _≤_, _<_}
+use Prim.Native.Nat.{ℕ, _+_, _-_, _^_, _≤_, _<_}
 use native.Mathlib.Omega.{arith}
 use mathlib.Core.List.{List, [], _∷_, append-nil}
 use mathlib.Core.Bool.{Bool, true, false}
@@ -154,9 +154,10 @@ unfolding headerTold
 header-bytes f by (HeaderRead.Good h) e zero =
     let ids = header-ids f h e in
     let there = header-long f h e in
-    let bytes : (i : ℕ) (d : Id) → d ≡ halvesAt f i → i + 16 ≤ length f → idBytes d ≡ part f i (i + 16) =
-    (λ i d q l. ap idBytes q ∙ id-same f by i l ∙ ap (λ (n : ℕ). take n (drop i f)) (omega arith)) in
     (bytes 16 (h .edgetype) (ids .0) (omega arith), bytes 32 (h .source) (ids .1) (omega arith), bytes 48 (h .destination) (ids .2) (omega arith))
+  where
+    bytes : (i : ℕ) (d : Id) → d ≡ halvesAt f i → i + 16 ≤ length f → idBytes d ≡ part f i (i + 16)
+    bytes i d q l = let len : 16 ≡ i + 16 - i = omega arith in ap idBytes q ∙ id-same f by i l ∙ ap (λ (n : ℕ). take n (drop i f)) len
 header-bytes f by (HeaderRead.Refused r) e zero = absurd (omega (arith, number-some r))
 
 -- ---- the opened record
