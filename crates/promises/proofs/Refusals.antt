@@ -135,8 +135,8 @@ read-out-refused κs a r w (q, e) call =
 -- ---- the writer
 
 file-stays : (s o : List ℕ) (r : Written) (o′ : List ℕ) (q : Refusal) → r ≡ Written.Refused q → Wrote s o r o′ → o′ ≡ o
-unfolding writer.readLeaves
-file-stays s o r o′ q e c = c .output ∙ ap (λ (x : Written). writer.readLeaves x (fileIn s) o) (sym (c .answer) ∙ e)
+unfolding writer.writeLeaves
+file-stays s o r o′ q e c = c .output ∙ ap (λ (x : Written). writer.writeLeaves x (fileIn s) o) (sym (c .answer) ∙ e)
 
 pub write-refused : LeavesOnly c-write.ended c-write-reads.Post (λ κs r. (q : Refusal) × (r ≡ Written.Refused q)) (λ κs a. (tt {0}, (now (a .1 .0), tt {0})))
 write-refused κs a r w (q, e) call = ap (λ (o : List ℕ). (tt {0}, (o, tt {0}))) (file-stays (now (a .0)) (now (a .1 .0)) r (w .1 .0) q e call)

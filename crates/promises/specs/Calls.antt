@@ -130,24 +130,24 @@ count-partners (e ∷ es) = ap suc (count-partners es)
 -- of the outcome for the edges es of a key, at index i after c comparisons
 module _ (i c : ℕ) (r : Looked) (o out : List ℕ) where
   alone-some : (es : List Edge) → 1 ≤ length es → Alone (outcomeBy false i c es) r o out → (r ≡ Looked.Found (length es) i c) × (out ≡ over (bytesOf (partnersIn es)) o)
-  unfolding outcomeBy look.writtenAnswer partnersLeft
+  unfolding outcomeBy look.lookedOf partnersLeft
   alone-some [] h call = absurd (omega arith)
   alone-some (e ∷ es) h call = (call .answer ∙ ap (λ (d : ℕ). Looked.Found d i c) (count-partners (e ∷ es)), call .partners)
 
   alone-none : (es : List Edge) → es ≡ [] → Alone (outcomeBy false i c es) r o out → (r ≡ Looked.Absent c) × (out ≡ o)
-  unfolding outcomeBy look.writtenAnswer partnersLeft
+  unfolding outcomeBy look.lookedOf partnersLeft
   alone-none [] h call = (call .answer, call .partners)
   alone-none (e ∷ es) h call = absurd (omega (arith, ap length h))
 
   module _ (l logs m marks : List ℕ) where
     whole-some : (es : List Edge) → 1 ≤ length es → Whole (outcomeBy true i c es) r o out l logs m marks
         → (r ≡ Looked.Found (length es) i c) × (out ≡ over (bytesOf (partnersIn es)) o) × (logs ≡ over (logsIn es) l) × (marks ≡ over (markBytesIn es) m)
-    unfolding outcomeBy look.writtenAnswer partnersLeft logsLeft marksLeft
+    unfolding outcomeBy look.lookedOf partnersLeft logsLeft marksLeft
     whole-some [] h call = absurd (omega arith)
     whole-some (e ∷ es) h call = (call .answer ∙ ap (λ (d : ℕ). Looked.Found d i c) (count-partners (e ∷ es)), call .partners, call .numbers, call .dead)
 
     whole-none : (es : List Edge) → es ≡ [] → Whole (outcomeBy true i c es) r o out l logs m marks → (r ≡ Looked.Absent c) × (out ≡ o) × (logs ≡ l) × (marks ≡ m)
-    unfolding outcomeBy look.writtenAnswer partnersLeft logsLeft marksLeft
+    unfolding outcomeBy look.lookedOf partnersLeft logsLeft marksLeft
     whole-none [] h call = (call .answer, call .partners, call .numbers, call .dead)
     whole-none (e ∷ es) h call = absurd (omega (arith, ap length h))
 
