@@ -4,6 +4,7 @@ ghost use Prim.Native.Nat.{_+_, _*_, _≤_};
 ghost use lib.ListN.{length};
 ghost use lib.Seq.{sets};
 ghost use Rattle.batch.specs.Batch.{place, recordsOf};
+ghost use Rattle.frame.specs.Kind.{mostEdges};
 ghost use Rattle.group.specs.Group.{stepAt, denseStep, walkFrom, groupOf, partnersOf};
 ghost use Rattle.readout.specs.Edges.{edgeOf, edgesFrom, Writable};
 use batch::Edge;
@@ -18,16 +19,16 @@ use group::split::Step;
 use group::split::split_step;
 use lookup::known::mark_at;
 
-// The partner at i of a dense group.
+// The partner at i of a dense group. The last place for one stands the same for all of them: a loop over them asks one thing.
 fn dense_step(g: &[u8], i: usize) -> Step
     ensures { λ r. ⌜ r ≡ denseStep (now (g .entry)) i ⌝ }
 {
-    if g.len() < i {
+    if g.len() < 16 {
         return Step::Bad {
             fault: Fault::Shape,
         };
     }
-    if g.len() - i < 16 {
+    if g.len() - 16 < i {
         return Step::Bad {
             fault: Fault::Shape,
         };
@@ -50,7 +51,7 @@ fn step_at(dense: bool, g: &[u8], i: usize, hi: u64) -> Step
 
 // Edge e of a file: a key and a partner, with its log number and dead mark.
 fn edge_with(logs: &[u8], dead: &[u8], key: Id, partner: Id, e: usize) -> Edge
-    requires { ⌜ (e ≤ 67108864) × (8 * e + 8 ≤ length (now logs)) ⌝ }
+    requires { ⌜ (e ≤ mostEdges) × (8 * e + 8 ≤ length (now logs)) ⌝ }
     ensures { λ r. ⌜ r ≡ edgeOf (now (logs .entry)) (now (dead .entry)) key partner e ⌝ }
 {
     let log = le64(logs, 8 * e);
