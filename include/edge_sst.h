@@ -25,6 +25,7 @@
  * The refusals of each call, in the order in which they are asked:
  *
  *   edge_sst_open             1 to 15
+ *   edge_sst_header           1 to 15
  *   edge_sst_sections, list   1 to 15, 20
  *   edge_sst_partners         1 to 15, 16 to 18, 20
  *   edge_sst_lookup           1 to 15, 16 to 18, 19, 20
@@ -98,6 +99,12 @@ extern "C" {
 #define EDGE_SST_MOST_SECTIONS 64
 #define EDGE_SST_MOST_NAME 63
 #define EDGE_SST_MOST_COMPARED 25
+
+/* Flag bits of a header. Every other bit is 0. */
+#define EDGE_SST_FLAG_PROPERTIES 1
+#define EDGE_SST_FLAG_TOMBSTONES 2
+#define EDGE_SST_FLAG_DENSE 4
+#define EDGE_SST_FLAG_INVERSE 8
 
 /* Kinds of sections. Every other kind is skipped. */
 #define EDGE_SST_KIND_KEYS 1
@@ -192,6 +199,19 @@ typedef struct {
 
 /* Opens the n bytes at p: the frame, the keys, the offsets and the fences are checked. */
 EdgeSstOpened edge_sst_open(const uint8_t *p, size_t n);
+
+/* The header of a file. direction is 1 for an inverse file, 0 for a forward one, as
+ * EDGE_SST_FLAG_INVERSE in flags says too; edgetype, source and destination are the ids
+ * of the edge type, the source label and the destination label. Where it is refused, all
+ * but the refusal is 0. No checksum covers a header: what it says is what stands there. */
+typedef struct {
+    uint64_t number, place, beside;
+    uint64_t minor, direction, flags;
+    uint8_t edgetype[16], source[16], destination[16];
+} EdgeSstHeader;
+
+/* The header of the n bytes at p, which are opened first. */
+EdgeSstHeader edge_sst_header(const uint8_t *p, size_t n);
 
 /* What a lookup gives. found is 1 if the key is there, with its count of partners and
  * its index among the keys; compared is the count of keys that were compared, of an

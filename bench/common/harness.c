@@ -61,6 +61,15 @@ int next_entry(bytes *corpus, char name[256], bytes *out) {
     return 1;
 }
 
+bytes entry(const char *path, const char *wanted) {
+    bytes corpus = read_all(path), f;
+    char name[256];
+    while (next_entry(&corpus, name, &f))
+        if (strcmp(name, wanted) == 0)
+            return f;
+    stop(2, "no file '%s' in %s", wanted, path);
+}
+
 void print_told(const uint64_t told[NUMBERS]) {
     for (int i = 0; i < NUMBERS; i++)
         if (told[i] != 0)

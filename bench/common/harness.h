@@ -51,6 +51,9 @@ static inline uint64_t turn(uint64_t x) { return x * 6364136223846793005u + 1442
  * four bytes with the length of what follows, and that. 0 if there is none. */
 int next_entry(bytes *corpus, char name[256], bytes *out);
 
+/* The entry of that name in the corpus at path. */
+bytes entry(const char *path, const char *wanted);
+
 /* How often each number was told. */
 enum { NUMBERS = 32 };
 void print_told(const uint64_t told[NUMBERS]);

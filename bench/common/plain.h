@@ -6,6 +6,7 @@
 #include "../../include/edge_sst.h"
 
 EdgeSstOpened plain_open(const uint8_t *p, size_t n);
+EdgeSstHeader plain_header(const uint8_t *p, size_t n);
 EdgeSstLooked plain_partners_with(const uint8_t *p, size_t n, const EdgeSstOpened *o, const uint8_t key[16],
                                   uint8_t *out, size_t m);
 EdgeSstTold plain_sums(const uint8_t *p, size_t n);                /* rule 22 alone, of a file that opens */

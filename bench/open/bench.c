@@ -39,18 +39,9 @@ static bytes large(int fenced) {
     return file_of(&c);
 }
 
-static bytes entry(const char *wanted) {
-    bytes corpus = read_all(CORPUS), f;
-    char name[256];
-    while (next_entry(&corpus, name, &f))
-        if (strcmp(name, wanted) == 0)
-            return f;
-    stop(2, "no file '%s' in the corpus", wanted);
-}
-
 void prepare(const row *r) {
     const plan *w = r->plan;
-    input = w->entry != NULL ? entry(w->entry) : large(w->fenced);
+    input = w->entry != NULL ? entry(CORPUS, w->entry) : large(w->fenced);
 }
 
 /* A file that opens has the number 0, so that each call starts at its first byte. */

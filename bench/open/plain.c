@@ -1,4 +1,4 @@
-/* Opening in plain C: rules 1 to 15 in their order. For little-endian machines. */
+/* Opening in plain C: rules 1 to 15 in their order, and the header. For little-endian machines. */
 #include "../common/sum.h"
 
 #include "../common/format.h"
@@ -210,4 +210,16 @@ EdgeSstOpened plain_open(const uint8_t *file, size_t size) {
         .edgecount = edges,
         .bits = bits,
     };
+}
+
+EdgeSstHeader plain_header(const uint8_t *file, size_t size) {
+    EdgeSstOpened o = plain_open(file, size);
+    if (o.number != 0)
+        return (EdgeSstHeader){.number = o.number, .place = o.place};
+    uint64_t flags = le32(file + 12);
+    EdgeSstHeader h = {.minor = file[9], .direction = flags >> 3 & 1, .flags = flags};
+    memcpy(h.edgetype, file + 16, ID);
+    memcpy(h.source, file + 32, ID);
+    memcpy(h.destination, file + 48, ID);
+    return h;
 }

@@ -48,7 +48,7 @@ pub fn all() -> Tally {
     check_ids(&mut tally);
     check_varint_cases(&mut tally);
     check_varint_round_trips(&mut tally);
-    test_check(&mut tally);
+    check_corpus(&mut tally);
     opening::check(&mut tally);
     listing::check(&mut tally);
     lookups::check(&mut tally);
@@ -218,7 +218,7 @@ fn check_varint_round_trips(tally: &mut Tally) {
 
 /// The input for the codes falls apart into its records again, is not too
 /// long, and leaves no kind of answer out.
-fn test_check(tally: &mut Tally) {
+fn check_corpus(tally: &mut Tally) {
     let records = corpus::code_records();
     let input: Vec<u8> = records.iter().flat_map(Record::bytes).collect();
     tally.same("codes input at most 60000", input.len() <= 60000, true);

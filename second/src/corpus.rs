@@ -1,18 +1,18 @@
 //! The vector files: inputs and expected outputs for the programs under test.
 
 pub mod check_files;
-mod test_codes;
+mod codes_vectors;
 pub mod list_files;
 pub mod lookup_calls;
 pub mod open_files;
 pub mod print_files;
 mod record;
 pub mod write_batches;
-mod test_xxh3;
+mod xxh3_vectors;
 
 use crate::print::print;
 
-pub use test_codes::records as code_records;
+pub use codes_vectors::records as code_records;
 pub use record::Record;
 
 pub struct VectorFile {
@@ -35,15 +35,15 @@ fn code_vectors() -> Vec<VectorFile> {
     vec![
         VectorFile {
             path: "xxh3_sum/stdin",
-            bytes: test_xxh3::sum_input(),
+            bytes: xxh3_vectors::sum_input(),
         },
         VectorFile {
             path: "xxh3_sum/stdout",
-            bytes: test_xxh3::sum_line().into_bytes(),
+            bytes: xxh3_vectors::sum_line().into_bytes(),
         },
         VectorFile {
             path: "test_xxh3/stdout",
-            bytes: test_xxh3::lines().into_bytes(),
+            bytes: xxh3_vectors::lines().into_bytes(),
         },
         VectorFile {
             path: "test_codes/stdin",

@@ -3,8 +3,9 @@
 
 use crate::format::flag;
 use crate::groups::{Edge, Form, Group};
+use crate::header::{self, HeaderFields};
 use crate::lookup::{group, Sections};
-use crate::numbers::{read_le, Id};
+use crate::numbers::Id;
 use crate::open::{bytes_of, open, refuse_at, refuse_if, OpenedRecord, Refusal, SectionRow};
 use crate::xxh3::xxh3_64;
 
@@ -25,14 +26,19 @@ pub fn full_check(file: &[u8]) -> Result<Contents, Refusal> {
 
     let sections = Sections::new(file, &opened.record);
     let partners = all_partners(&sections, &opened.record)?;
-    let flags = read_le(&file[12..16]) as u32;
+    let HeaderFields {
+        minor,
+        inverse,
+        flags,
+        ids,
+    } = header::fields(file);
     let totals_wrong = totals_are_wrong(flags, &opened.record, &partners, &sections);
     refuse_if(23, totals_wrong)?;
 
     Ok(Contents {
-        minor: file[9],
-        inverse: flags & flag::INVERSE != 0,
-        ids: [16, 32, 48].map(|at| file[at..at + 16].try_into().expect("16 bytes")),
+        minor,
+        inverse,
+        ids,
         groups: with_edges(&partners, &sections),
     })
 }

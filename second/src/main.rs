@@ -9,6 +9,7 @@ mod family;
 mod format;
 mod full_check;
 mod groups;
+mod header;
 mod layout;
 mod list;
 mod lookup;

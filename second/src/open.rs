@@ -161,25 +161,10 @@ fn read_body(body: &[u8], body_place: u64) -> Option<Footer> {
     let mut place = 2;
     for _ in 0..section_count {
         let entry = body.get(place..place + ENTRY)?;
-        let kind = read_le(&entry[..2]) as u16;
-        let name_length = entry[3];
-        let named = name_length > 0;
-        if name_length > bound::NAME || (named && kind::READ.contains(&kind)) {
-            return None;
-        }
         let name_place = place + ENTRY;
-        place = name_place + usize::from(name_length);
-        rows.push(SectionRow {
-            kind,
-            codec: entry[2],
-            name_place: body_place + name_place as u64,
-            name_length,
-            range: Range {
-                offset: read_le(&entry[4..12]),
-                length: read_le(&entry[12..20]),
-            },
-            checksum: read_le(&entry[20..28]),
-        });
+        let row = read_entry(entry, body_place + name_place as u64)?;
+        place = name_place + usize::from(row.name_length);
+        rows.push(row);
     }
     let counts = body.get(place..)?;
     if counts.len() != COUNTS {
@@ -190,6 +175,28 @@ fn read_body(body: &[u8], body_place: u64) -> Option<Footer> {
         key_count: read_le(&counts[..8]),
         edge_count: read_le(&counts[8..16]),
         offset_bits: counts[16],
+    })
+}
+
+/// The row whose name begins at this place of the file. Nothing if the name is
+/// too long, or if the kind has none.
+fn read_entry(entry: &[u8], name_place: u64) -> Option<SectionRow> {
+    let kind = read_le(&entry[..2]) as u16;
+    let name_length = entry[3];
+    let named = name_length > 0;
+    if name_length > bound::NAME || (named && kind::READ.contains(&kind)) {
+        return None;
+    }
+    Some(SectionRow {
+        kind,
+        codec: entry[2],
+        name_place,
+        name_length,
+        range: Range {
+            offset: read_le(&entry[4..12]),
+            length: read_le(&entry[12..20]),
+        },
+        checksum: read_le(&entry[20..28]),
     })
 }
 

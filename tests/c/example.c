@@ -11,31 +11,13 @@
 #include <string.h>
 
 #include "edge_sst.h"
+#include "read_file.h"
 
 /* A refusal is a number and a place; the header has a text for each number. */
 static int refused(uint64_t number, uint64_t place) {
     fprintf(stderr, "refused %llu at %llu: %s\n", (unsigned long long)number, (unsigned long long)place,
             edge_sst_text(number));
     return 1;
-}
-
-/* The file's bytes. Never null, also for an empty file: the calls ask for that. */
-static uint8_t *read_file(const char *path, size_t *n) {
-    FILE *f = fopen(path, "rb");
-    uint8_t *bytes;
-    long size;
-    if (f == NULL || fseek(f, 0, SEEK_END) != 0 || (size = ftell(f)) < 0) {
-        perror(path);
-        exit(2);
-    }
-    rewind(f);
-    bytes = malloc((size_t)size + 1);
-    if (bytes == NULL || (*n = fread(bytes, 1, (size_t)size, f)) != (size_t)size) {
-        fprintf(stderr, "cannot read %s\n", path);
-        exit(2);
-    }
-    fclose(f);
-    return bytes;
 }
 
 static int digit(char c) {

@@ -10,25 +10,7 @@
 #include <stdlib.h>
 
 #include "edge_sst.h"
-
-/* The file's bytes. Never null, also for an empty file: the calls ask for that. */
-static uint8_t *read_file(const char *path, size_t *n) {
-    FILE *f = fopen(path, "rb");
-    uint8_t *bytes;
-    long size;
-    if (f == NULL || fseek(f, 0, SEEK_END) != 0 || (size = ftell(f)) < 0) {
-        perror(path);
-        exit(2);
-    }
-    rewind(f);
-    bytes = malloc((size_t)size + 1);
-    if (bytes == NULL || (*n = fread(bytes, 1, (size_t)size, f)) != (size_t)size) {
-        fprintf(stderr, "cannot read %s\n", path);
-        exit(2);
-    }
-    fclose(f);
-    return bytes;
-}
+#include "read_file.h"
 
 int main(int argc, char **argv) {
     int i, status = 0;

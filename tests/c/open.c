@@ -1,4 +1,4 @@
-/* Sums of known bytes; opening and its record; the section list;
+/* Sums of known bytes; opening and its record; the header; the section list;
  * records with a number changed. */
 #include <inttypes.h>
 #include <stdio.h>
@@ -68,6 +68,44 @@ static void hold_opened(const char *name, const EdgeSstOpened *o, const char *ex
               o->loglen, dead, o->keycount, o->edgecount, o->bits);
 }
 
+static void hex(const uint8_t id[ID], char text[2 * ID + 1]) {
+    size_t i;
+    for (i = 0; i < ID; i++)
+        snprintf(text + 2 * i, 3, "%02x", id[i]);
+}
+
+/* A refusal's header has zeros in all other fields. */
+static int no_header(const EdgeSstHeader *h) {
+    EdgeSstHeader none;
+    memset(&none, 0, sizeof none);
+    none.number = h->number;
+    none.place = h->place;
+    return memcmp(&none, h, sizeof none) == 0;
+}
+
+static void hold_header(const char *name, Bytes file, Lines *lines) {
+    EdgeSstHeader h = edge_sst_header(file.p, file.n);
+    char line[LINE], edgetype[2 * ID + 1], source[2 * ID + 1], destination[2 * ID + 1];
+    calls++;
+    if (!peek_detail(lines) || !next_line(lines, line)) {
+        differ("%s: no line of its header", name);
+        return;
+    }
+    if (h.number != 0) {
+        hold_line(name, line, "  header refused %" PRIu64 " at %" PRIu64, h.number, h.place);
+        if (!no_header(&h))
+            differ("%s: a refusal with a header", name);
+        return;
+    }
+    hex(h.edgetype, edgetype);
+    hex(h.source, source);
+    hex(h.destination, destination);
+    hold_line(name, line, "  header minor %" PRIu64 " direction %" PRIu64 " flags %" PRIu64 " ids %s %s %s", h.minor,
+              h.direction, h.flags, edgetype, source, destination);
+    if (h.place != 0 || h.beside != 0 || h.direction != ((h.flags & EDGE_SST_FLAG_INVERSE) != 0))
+        differ("%s: a header with a place, or its direction", name);
+}
+
 enum { ROW = 7, MOST_ROWS = 64, ROW_BYTES = ROW * 8 };
 
 static EdgeSstListed list(Bytes file, Lent rows) {
@@ -124,6 +162,7 @@ void test_opening(const char *dir) {
         o = edge_sst_open(file.p, file.n);
         calls++;
         hold_opened(name, &o, line_for(&lines, name, line));
+        hold_header(name, file, &lines);
         hold_sections(name, file, &o, &lines);
         if (o.number == 0)
             test_records(name, file, &o);

@@ -23,6 +23,7 @@ static volatile uint64_t told;
 
 static void nothing(void) { told = 0; }
 static void open_file(void) { told = edge_sst_open(file, file_bytes).number; }
+static void header(void) { told = edge_sst_header(file, file_bytes).number; }
 static void sections(void) {
     EdgeSstRow *rows = (EdgeSstRow *)(void *)logs;
     told = edge_sst_list(file, file_bytes, rows, EDGE_SST_MOST_SECTIONS).number;
@@ -50,6 +51,7 @@ static struct {
 } calls[] = {
     {"nothing", nothing, 0},
     {"edge_sst_open", open_file, 0},
+    {"edge_sst_header", header, 0},
     {"edge_sst_sections", sections, 0},
     {"edge_sst_partners", partners, 0},
     {"edge_sst_partners_with", partners_with, 0},

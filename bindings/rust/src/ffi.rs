@@ -28,6 +28,20 @@ pub struct Opened {
 
 #[repr(C)]
 #[derive(Clone, Copy, Debug)]
+pub struct Header {
+    pub number: u64,
+    pub place: u64,
+    pub beside: u64,
+    pub minor: u64,
+    pub direction: u64,
+    pub flags: u64,
+    pub edgetype: [u8; 16],
+    pub source: [u8; 16],
+    pub destination: [u8; 16],
+}
+
+#[repr(C)]
+#[derive(Clone, Copy, Debug)]
 pub struct Looked {
     pub number: u64,
     pub place: u64,
@@ -66,6 +80,7 @@ pub struct Listed {
 
 extern "C" {
     pub fn edge_sst_open(p: *const u8, n: usize) -> Opened;
+    pub fn edge_sst_header(p: *const u8, n: usize) -> Header;
     pub fn edge_sst_partners_with(
         p: *const u8,
         n: usize,

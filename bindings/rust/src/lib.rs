@@ -27,7 +27,7 @@ mod opened;
 mod refusal;
 
 pub use batch::{Batch, Heading, Record};
-pub use opened::{Edge, EdgeSst, Edges, Id, Opened, Partners, Section};
+pub use opened::{Edge, EdgeSst, Edges, Header, Id, Opened, Partners, Section};
 pub use refusal::Refusal;
 
 use refusal::refuse_if;

@@ -17,6 +17,20 @@ pub struct Opened<'a> {
     record: ffi::Opened,
 }
 
+/// What the header of a file says. No checksum covers it.
+#[derive(Clone, Copy, Debug, PartialEq, Eq)]
+pub struct Header {
+    /// The writer's minor version: any.
+    pub minor: u8,
+    /// An inverse file or a forward one; bit 3 of the flags.
+    pub inverse: bool,
+    /// Bit 0 properties, 1 tombstones, 2 a dense group, 3 an inverse file; no other.
+    pub flags: u32,
+    pub edge_type: Id,
+    pub source: Id,
+    pub destination: Id,
+}
+
 /// The partners of a key, in rising order, the key's index among the keys, and how
 /// many keys were compared.
 #[derive(Clone, Debug, PartialEq, Eq)]
@@ -58,6 +72,22 @@ impl EdgeSst {
 impl<'a> Opened<'a> {
     pub fn file(&self) -> &'a [u8] {
         self.file
+    }
+
+    /// The header: minor version, direction, flags and the three ids. It opens the file
+    /// again, so that it takes time linear in the keys.
+    pub fn header(&self) -> Result<Header, Refusal> {
+        // SAFETY: the pointer and length are of one slice, and not null.
+        let told = unsafe { ffi::edge_sst_header(self.file.as_ptr(), self.file.len()) };
+        refuse_if(told.number, told.place, told.beside)?;
+        Ok(Header {
+            minor: told.minor as u8,
+            inverse: told.direction != 0,
+            flags: told.flags as u32,
+            edge_type: told.edgetype,
+            source: told.source,
+            destination: told.destination,
+        })
     }
 
     pub fn key_count(&self) -> u64 {

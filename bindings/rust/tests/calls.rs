@@ -1,6 +1,6 @@
 //! The calls on the samples, and round trips through the writer.
 
-use edge_sst::{check, needed, read_out, sum, write, EdgeSst, Id, Refusal};
+use edge_sst::{check, needed, read_out, sum, write, EdgeSst, Header, Heading, Id, Refusal};
 
 fn sample(name: &str) -> Vec<u8> {
     let folder = concat!(env!("CARGO_MANIFEST_DIR"), "/../../samples/");
@@ -218,5 +218,60 @@ fn sections_of_the_example() {
     for s in sections {
         let bytes = &file[s.start as usize..(s.start + s.len) as usize];
         assert_eq!((s.codec, s.name.len(), s.sum), (0, 0, sum(bytes)));
+    }
+}
+
+/// The fields of the printed example; a byte of each that is changed shows in it alone,
+/// since no checksum covers the header.
+#[test]
+fn headers_of_the_samples() {
+    let file = sample("example");
+    let example = EdgeSst::open(&file).unwrap().header().unwrap();
+    let expected = Header {
+        minor: 0,
+        inverse: false,
+        flags: 0,
+        edge_type: [0x11; 16],
+        source: [0x22; 16],
+        destination: [0x33; 16],
+    };
+    assert_eq!(example, expected);
+    let mut changed = file.clone();
+    changed[9] = 200;
+    changed[12] |= 8;
+    changed[16] = 1;
+    changed[47] = 2;
+    changed[63] = 3;
+    let changed = EdgeSst::open(&changed).unwrap().header().unwrap();
+    assert_eq!(
+        (changed.minor, changed.inverse, changed.flags),
+        (200, true, 8)
+    );
+    assert_eq!((changed.edge_type[0], changed.edge_type[1]), (1, 0x11));
+    assert_eq!((changed.source[14], changed.source[15]), (0x22, 2));
+    assert_eq!((changed.destination[0], changed.destination[15]), (0x33, 3));
+}
+
+/// The header of a written file is the heading of its batch, with minor version 0.
+#[test]
+fn the_header_of_a_written_file_is_the_batchs_heading() {
+    for inverse in [false, true] {
+        let heading = Heading {
+            inverse,
+            edge_type: id(1, 2),
+            source: id(3, 4),
+            destination: id(5, u64::MAX),
+        };
+        let file = write(&heading.bytes()).unwrap();
+        let header = EdgeSst::open(&file).unwrap().header().unwrap();
+        let expected = Header {
+            minor: 0,
+            inverse,
+            flags: if inverse { 8 } else { 0 },
+            edge_type: heading.edge_type,
+            source: heading.source,
+            destination: heading.destination,
+        };
+        assert_eq!(header, expected);
     }
 }

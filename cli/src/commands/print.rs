@@ -2,7 +2,6 @@ use super::Command;
 use crate::arguments::{Arguments, JSON};
 use crate::batch_text::{direction, edge_of, print_edge};
 use crate::failure::{Failure, Status};
-use crate::header;
 use crate::id::Hex;
 use crate::input::{self, Name};
 use crate::json::Object;
@@ -62,7 +61,7 @@ fn summary(file: &[u8], batch: &Batch) -> Result<Summary, Refusal> {
     let opened = EdgeSst::open(file)?;
     Ok(Summary {
         direction: direction(batch.heading().inverse),
-        minor: header::minor(&opened),
+        minor: opened.header()?.minor,
         keys: opened.key_count(),
         edges: opened.edge_count(),
         dead: batch.records().filter(|record| record.dead).count(),

@@ -1,26 +1,29 @@
 use super::Command;
 use crate::arguments::{Arguments, JSON};
 use crate::failure::{Failure, Status};
+use crate::header;
 use crate::input::{self, Name};
 use crate::json::Object;
 use crate::kinds;
 use crate::output;
 use crate::place::{refused, Source};
 use crate::watch::Watch;
-use edge_sst::{EdgeSst, Refusal, Section};
+use edge_sst::{EdgeSst, Header, Refusal, Section};
 use std::io::{self, Write};
 
 pub const COMMAND: Command = Command {
     name: "sections",
     usage: "[--json] FILE",
-    summary: "The section table of a file",
+    summary: "The header and the section table of a file",
     help: "\
-A line for each entry in table order, skipped kinds too: its number, kind, codec,
-offset, length, stored checksum and name. The file is opened, which checks its frame,
-keys, offsets and fences; 'check' also compares the checksums.
+A line for each field of the header: minor version, direction, flags and the ids of the
+edge type, the source label and the destination label; no checksum covers them. Then a
+line for each entry of the table, skipped kinds too: its number, kind, codec, offset,
+length, stored checksum and name. The file is opened, which checks its frame, keys,
+offsets and fences; 'check' also compares the checksums.
 
-  --json  one object with \"sections\"; a name that is not UTF-8 is null, and
-          \"name_hex\" has its bytes
+  --json  one object with \"header\" and \"sections\"; a name that is not UTF-8 is
+          null, and \"name_hex\" has its bytes
 ",
     choices: &[&JSON],
     run,
@@ -30,22 +33,23 @@ fn run(arguments: &Arguments, watch: &Watch) -> Result<Status, Failure> {
     let file = arguments.file("file")?;
     let working = watch.begin(&file);
     let bytes = input::edge_file(&file)?;
-    let sections =
-        list(&bytes).map_err(|refusal| refused(&file, &Source::File(&bytes), refusal))?;
+    let (header, sections) =
+        read(&bytes).map_err(|refusal| refused(&file, &Source::File(&bytes), refusal))?;
     drop(working);
     output::print(|out| match arguments.has(&JSON) {
-        true => writeln!(out, "{}", object(&file, &sections)),
-        false => print(out, &sections),
+        true => writeln!(out, "{}", object(&file, &header, &sections)),
+        false => print(out, &header, &sections),
     })?;
     Ok(Status::Fine)
 }
 
-fn list(bytes: &[u8]) -> Result<Vec<Section<'_>>, Refusal> {
-    EdgeSst::open(bytes)?.sections()
+fn read(bytes: &[u8]) -> Result<(Header, Vec<Section<'_>>), Refusal> {
+    let opened = EdgeSst::open(bytes)?;
+    Ok((opened.header()?, opened.sections()?))
 }
 
-/// The header's fields go before the table, once the library gives them (header.rs).
-fn print(out: &mut dyn Write, sections: &[Section]) -> io::Result<()> {
+fn print(out: &mut dyn Write, header: &Header, sections: &[Section]) -> io::Result<()> {
+    header::print(out, header)?;
     let heads = [
         "entry", "kind", "codec", "offset", "length", "checksum", "name",
     ];
@@ -73,11 +77,11 @@ fn print_row(out: &mut dyn Write, row: [String; 7]) -> io::Result<()> {
     writeln!(out, "{}", line.trim_end())
 }
 
-/// The header's fields go into this object, once the library gives them.
-fn object(file: &Name, sections: &[Section]) -> Object {
+fn object(file: &Name, header: &Header, sections: &[Section]) -> Object {
     Object::new()
         .string("file", &file.word())
         .truth("ok", true)
+        .object("header", header::object(header))
         .array("sections", sections.iter().enumerate().map(row))
 }
 

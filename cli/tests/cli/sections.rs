@@ -21,11 +21,52 @@ fn expected() -> HashMap<String, (String, Vec<String>)> {
     expected
 }
 
-/// Kind, codec, offset, length, checksum and name: the corpus has the name's place
-/// and length, and so its bytes.
+/// The header of each file of the corpus of opening, in the words of its lines; the
+/// files that are listed are such files, and one that does not open.
+fn headers() -> HashMap<String, String> {
+    let mut headers = HashMap::new();
+    let mut last = String::new();
+    for line in lines("test_open") {
+        if let Some(header) = line.strip_prefix("  header ") {
+            headers.insert(last.clone(), header.to_string());
+        } else if let Some((name, _)) = line.split_once(": ") {
+            last = name.to_string();
+        }
+    }
+    headers
+}
+
+fn header_line(header: &Json) -> String {
+    let names = [
+        "minor",
+        "direction",
+        "flags",
+        "edge_type",
+        "source",
+        "destination",
+    ];
+    assert_eq!(header.names(), names);
+    let direction = match header.at("direction").text() {
+        "forward" => 0,
+        "inverse" => 1,
+        other => panic!("{other}"),
+    };
+    format!(
+        "minor {} direction {direction} flags {} ids {} {} {}",
+        header.at("minor").number(),
+        header.at("flags").number(),
+        header.at("edge_type").text(),
+        header.at("source").text(),
+        header.at("destination").text()
+    )
+}
+
+/// The header. Kind, codec, offset, length, checksum and name: the corpus has the
+/// name's place and length, and so its bytes.
 #[test]
 fn the_corpus_is_listed_as_by_the_second_program() {
     let expected = expected();
+    let headers = headers();
     let files = inputs("test_list");
     assert!(files.len() > 100);
     for file in files {
@@ -42,7 +83,8 @@ fn the_corpus_is_listed_as_by_the_second_program() {
             assert_eq!((ran.status, ran.err.as_str()), (1, ""));
             continue;
         }
-        assert_eq!(object.names(), ["file", "ok", "sections"]);
+        assert_eq!(object.names(), ["file", "ok", "header", "sections"]);
+        assert_eq!(header_line(object.at("header")), headers[&file.name]);
         let sections = object.at("sections").array();
         assert_eq!(format!("{} sections", sections.len()), *told);
         assert_eq!(ran.status, 0);
@@ -78,8 +120,38 @@ fn same(section: &Json, row: &str, file: &[u8]) {
     }
 }
 
+/// The first lines are the header that the second program wrote.
+#[test]
+fn the_boards_header_in_text() {
+    let expected = "\
+minor        3
+direction    forward
+flags        7 properties tombstones dense
+edge type    101112131415161718191a1b1c1d1e1f
+source       202122232425262728292a2b2c2d2e2f
+destination  303132333435363738393a3b3c3d3e3f
+
+";
+    let told = run_on(&["sections", "-"], &sample("board.edges")).fine();
+    assert!(String::from_utf8(told).unwrap().starts_with(expected));
+}
+
+/// An inverse file of no other flag.
+#[test]
+fn an_inverse_header_in_text() {
+    let mut example = sample("example.edges");
+    example[12] = 8;
+    let told = run_on(&["sections", "-"], &example).fine();
+    let told = String::from_utf8(told).unwrap();
+    let lines: Vec<&str> = told.lines().collect();
+    assert_eq!(lines[0], "minor        0");
+    assert_eq!(lines[1], "direction    inverse");
+    assert_eq!(lines[2], "flags        8 inverse");
+}
+
 /// The kinds have the names of the format's rules; the rows are those of the board in
-/// the second program's corpus of the full check.
+/// the second program's corpus of the full check. They stand after the header and an
+/// empty line.
 #[test]
 fn the_board_in_text() {
     let expected = [
@@ -95,6 +167,7 @@ fn the_board_in_text() {
     let told = String::from_utf8(told).unwrap();
     let lines: Vec<Vec<&str>> = told
         .lines()
+        .skip(7)
         .map(|l| l.split_whitespace().collect())
         .collect();
     let heads = [

@@ -26,7 +26,7 @@ use Rattle.frame.specs.Frame.{rangeOf, rowsOf, rangeGood, ranges, footLen, body
 use Rattle.frame.specs.Open.{bytesAt, fileCheck}
 use Rattle.frame.specs.Open.Laws.{Frames, opens-parts, size-parts, tail-parts}
 use Rattle.full_check.specs.Full.{sumGood, sumsFrom, fullCheck}
-use Rattle.full_check.specs.Full.Laws.{Within}
+use Rattle.full_check.specs.Full.Laws.{RowsWithin}
 use Rattle.full_check.specs.Checked.{checked-opened, fine-checked}
 
 -- g is f but for bytes of r's section
@@ -95,8 +95,8 @@ le-after f g m i n q h = leAt-same g f i i n (λ k l. same k)
 
 -- they end where it begins, or before
 ranges-before : (limit : ℕ) (xs : List Row) (r : Row) (ys : List Row) (floor k : ℕ) → ranges limit (xs ++ (r ∷ ys)) floor k ≡ Check.Fine
-    → (floor ≤ r .start) × (r .start + r .len ≤ limit) × Within (r .start) xs
-unfolding ranges Within
+    → (floor ≤ r .start) × (r .start + r .len ≤ limit) × RowsWithin (r .start) xs
+unfolding ranges RowsWithin
 ranges-before limit [] r ys floor k e =
     let p = pick-fine (rangeGood limit floor r) _ (Refusal.Range k) e in
     let w = and-parts (leb floor (r .start)) (leb (r .start + r .len) limit) (p .0) in
@@ -110,8 +110,8 @@ ranges-before limit (x ∷ xs) r ys floor k e =
 
 -- sums up to r: those of xs are what they were
 sums-reach : (f : List ℕ) (xs : List Row) (zs : List Row) (k : ℕ) → sumsFrom f (xs ++ zs) k ≡ Check.Fine → (g : List ℕ) (m : ℕ) → length g ≡ length f → m ≤ length f
-    → take m g ≡ take m f → Within m xs → sumsFrom g (xs ++ zs) k ≡ sumsFrom g zs (k + length xs)
-unfolding sumsFrom Within
+    → take m g ≡ take m f → RowsWithin m xs → sumsFrom g (xs ++ zs) k ≡ sumsFrom g zs (k + length xs)
+unfolding sumsFrom RowsWithin
 sums-reach f [] zs k e g m s h q w = ap (sumsFrom g zs) (sym (add-zero k))
 sums-reach f (x ∷ xs) zs k e g m s h q w =
     let p = pick-fine (sumGood f x) (sumsFrom f (xs ++ zs) (k + 1)) (Refusal.Sum k) e in
@@ -133,7 +133,7 @@ module _ (f g : List ℕ) (xs : List Row) (r : Row) (ys : List Row) (entry : row
   abbrev end : ℕ
   end = r .start + r .len
 
-  lies : (64 ≤ r .start) × (end ≤ length f - footLen f) × Within (r .start) xs
+  lies : (64 ≤ r .start) × (end ≤ length f - footLen f) × RowsWithin (r .start) xs
   lies = ranges-before (length f - footLen f) xs r ys 64 0 (rw entry at (frames .apart))
 
   foot : (39 ≤ footLen f) × (footLen f ≤ length f - 64)

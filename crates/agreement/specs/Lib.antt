@@ -1,3 +1,4 @@
 pub mod SameEdges
 pub mod Changed
 pub mod OutBytes
+pub mod Heading

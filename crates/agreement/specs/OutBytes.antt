@@ -12,25 +12,26 @@ use lib.Dec.{ltb, leb, eqb}
 use borrow.Author.Tests.{eq-eqb, lt-ltb, le-leb, leb-true}
 use Rattle.base.specs.Pick.{pick}
 use Rattle.base.specs.Over.{part}
+use Rattle.base.specs.Bytes.{Bytes, bytes-part}
 use Rattle.codes.specs.declared.ids.Id.{Id}
 use Rattle.codes.specs.Little.{leAt, leBytes}
 use Rattle.codes.specs.Little.Laws.{leAt-back, leAt-lt, length-leBytes}
-use Rattle.codes.specs.Ids.{beAt, halvesAt, numberOf, idBytes}
+use Rattle.codes.specs.Ids.{beAt, halvesAt, idNumber, idBytes}
 use Rattle.codes.specs.Ids.Laws.{beAt-lt, halves-back, length-idBytes, number-halves}
 use Rattle.refusal.specs.declared.Refusal.{Refusal}
 use Rattle.refusal.specs.declared.Check.{Check}
 use Rattle.refusal.specs.Check.Laws.{fine-pick, and-parts, and-both}
-use Rattle.index.specs.Order.{Rising}
+use Rattle.index.specs.Order.{KeysRise}
 use Rattle.frame.specs.Frame.{recordOf}
 use Rattle.frame.specs.Open.{knownOf, bytesAt, keyAt, offsetAt}
 use Rattle.frame.specs.Cases.{oneEdge}
 use Rattle.degrees.specs.Degrees.{groupAt}
-use Rattle.group.specs.Group.{Partners, good, bad, groupOf, partnersOf}
+use Rattle.group.specs.Group.{Decoded, good, bad, groupOf, partnersOf}
 use Rattle.group.specs.Group.Laws.{good-is}
 use Rattle.group.specs.Good as group
 use Rattle.group.specs.Written.{Halves, Above}
 use Rattle.batch.specs.declared.Edge.{Edge}
-use Rattle.batch.specs.Batch.{Heading, before, inOrder, isEdge, faultFrom, headed, batchCheck, kindOf, edgeAt, edgesAt, edgesOf, countOf, place, headingBytes, edgeBytes, recordsOf, batchBytes}
+use Rattle.batch.specs.Batch.{Heading, before, inOrder, isEdge, faultFrom, headed, batchCheck, kindOf, edgeAt, edgesAt, edgesOf, recordCount, place, headingBytes, edgeBytes, recordsOf, batchBytes}
 use Rattle.batch.specs.Batch.Laws.{edge-is, length-edge, length-records, records-none}
 use Rattle.full_check.specs.Full.{groupIn, groupsFrom, fullCheck, checkedOf}
 use Rattle.full_check.specs.Checked.{checked-opened, fine-checked}
@@ -42,28 +43,28 @@ use Rattle.readout.specs.Edges.{edgeOf, edgesFrom, degreeIn, keyEdges, readFrom
 use Rattle.readout.specs.Edges.{edgesIn}
 use Rattle.readout.specs.ReadOut.{headingIn, batchIn}
 use Rattle.readout.specs.ReadOut.Laws.{checked-edges, checked-size, length-heading}
-use Rattle.readout.specs.Cases.{passed}
+use Rattle.readout.specs.Cases.{cases-pass}
 use Rattle.agreement.specs.SameEdges.{each-good, edgesOfFile}
 
 -- ---- a record reads back
 
 -- numbers of 64 bits
-pub record Fits (e : Edge) : Type 0 where
+pub record EdgeFits (e : Edge) : Type 0 where
   pub key-hi : e .key .hi < 2 ^ 64
   pub key-lo : e .key .lo < 2 ^ 64
   pub partner-hi : e .partner .hi < 2 ^ 64
   pub partner-lo : e .partner .lo < 2 ^ 64
   pub log : e .log < 2 ^ 64
 
-unfoldable pub AllFit : List Edge → Type 0
-AllFit [] = Unit {0}
-AllFit (e ∷ es) = Fits e × AllFit es
+unfoldable pub EdgesFit : List Edge → Type 0
+EdgesFit [] = Unit {0}
+EdgesFit (e ∷ es) = EdgeFits e × EdgesFit es
 
 kind-dead : (b : Bool) → eqb (kindOf b) 2 ≡ b
 kind-dead true = refl
 kind-dead false = refl
 
-module _ (p q : List ℕ) (e : Edge) (h : Fits e) where
+module _ (p q : List ℕ) (e : Edge) (h : EdgeFits e) where
   abbrev key : List ℕ
   key = idBytes (e .key)
 
@@ -113,8 +114,8 @@ module _ (p q : List ℕ) (e : Edge) (h : Fits e) where
   }
 
 -- all of them, after p
-records-back : (es : List Edge) (s p q : List ℕ) (i : ℕ) → s ≡ p ++ (recordsOf es ++ q) → length p ≡ place i → AllFit es → edgesAt (length es) s i ≡ es
-unfolding edgesAt recordsOf AllFit
+records-back : (es : List Edge) (s p q : List ℕ) (i : ℕ) → s ≡ p ++ (recordsOf es ++ q) → length p ≡ place i → EdgesFit es → edgesAt (length es) s i ≡ es
+unfolding edgesAt recordsOf EdgesFit
 records-back [] s p q i e l f = refl
 records-back (x ∷ es) s p q i e l f =
     let here : s ≡ p ++ (edgeBytes x ++ (recordsOf es ++ q)) = e ∙ ap (λ (t : List ℕ). p ++ t) (append-assoc (edgeBytes x) (recordsOf es) q) in
@@ -122,7 +123,7 @@ records-back (x ∷ es) s p q i e l f =
     let long : length (p ++ edgeBytes x) ≡ place (i + 1) = length-append p (edgeBytes x) ∙ omega (arith, length-edge x) in
     ap₂ (λ (u : Edge) (v : List Edge). u ∷ v) (ap₂ edgeAt here (sym l) ∙ record-back p (recordsOf es ++ q) x (f .0)) (records-back es s (p ++ edgeBytes x) q (i + 1) next long (f .1))
 
-pub edges-of-batch : (h : Heading) (es : List Edge) → length (headingBytes h) ≡ 50 → AllFit es → edgesOf (batchBytes h es) ≡ es
+pub edges-of-batch : (h : Heading) (es : List Edge) → length (headingBytes h) ≡ 50 → EdgesFit es → edgesOf (batchBytes h es) ≡ es
 unfolding edgesOf batchBytes
 edges-of-batch h es l f =
     let s : List ℕ = headingBytes h ++ recordsOf es in
@@ -132,9 +133,6 @@ edges-of-batch h es l f =
     ∙ records-back es s (headingBytes h) [] 0 (ap (λ (t : List ℕ). headingBytes h ++ t) (sym (append-nil (recordsOf es)))) l f
 
 -- ---- the edges of a file fit
-
-abbrev pub Bytes : List ℕ → Type 0
-Bytes s = (j : ℕ) → getD s j 0 < 2 ^ 8
 
 -- the same by computing
 unfoldable pub byted : List ℕ → Bool
@@ -147,20 +145,14 @@ bytes-are [] e j = omega arith
 bytes-are (x ∷ xs) e zero = let h = leb-true x 255 (and-parts (leb x 255) (byted xs) e .0) in omega arith
 bytes-are (x ∷ xs) e (suc j) = bytes-are xs (and-parts (leb x 255) (byted xs) e .1) j
 
-pub bytes-part : (s : List ℕ) → Bytes s → (a e : ℕ) → Bytes (part s a e)
-bytes-part s by a e j = elim (decLt j (e - a)) [
-  | yes h ↦ rw (getD-take (e - a) (drop a s) j 0 h, getD-drop a s j 0) (by (a + j))
-  | no h ↦ rw (List·getD-eq-default (part s a e) 0 {n = j} (simp length-take (omega arith))) (omega arith)
-]
-
-fit-append : (xs ys : List Edge) → AllFit xs → AllFit ys → AllFit (xs ++ ys)
-unfolding AllFit
+fit-append : (xs ys : List Edge) → EdgesFit xs → EdgesFit ys → EdgesFit (xs ++ ys)
+unfolding EdgesFit
 fit-append [] ys a b = b
 fit-append (x ∷ xs) ys a b = (a .0, fit-append xs ys (a .1) b)
 
 module _ (keys p o : List ℕ) (w : ℕ) (logs dead : List ℕ) (bk : Bytes keys) (bp : Bytes p) (bl : Bytes logs) where
-  run-fits : (k : Id) → k .hi < 2 ^ 64 → k .lo < 2 ^ 64 → (ps : List Id) (e : ℕ) → Halves ps → AllFit (edgesFrom logs dead k e ps)
-  unfolding AllFit edgesFrom Halves
+  run-fits : (k : Id) → k .hi < 2 ^ 64 → k .lo < 2 ^ 64 → (ps : List Id) (e : ℕ) → Halves ps → EdgesFit (edgesFrom logs dead k e ps)
+  unfolding EdgesFit edgesFrom Halves
   run-fits k a b [] e h = tt
   run-fits k a b (q ∷ ps) e h =
       (record { key-hi = a; key-lo = b; partner-hi = h .0; partner-lo = h .1; log = leAt-lt logs bl (8 * e) 8 }, run-fits k a b ps (e + 1) (h .2))
@@ -169,12 +161,12 @@ module _ (keys p o : List ℕ) (w : ℕ) (logs dead : List ℕ) (bk : Bytes keys
   unfolding partnersOf Halves
   group-halves i = go (groupIn p o w i) refl
     where
-      go : (x : Partners) → groupIn p o w i ≡ x → Halves (partnersOf x)
+      go : (x : Decoded) → groupIn p o w i ≡ x → Halves (partnersOf x)
       go (good dense ps) q = group.partners-halves (groupAt p o w i) dense ps q (bytes-part p bp (offsetAt o w i) (offsetAt o w (i + 1)))
       go (bad f) q = tt
 
-  read-fits : (d i e : ℕ) → AllFit (readFrom keys p o w logs dead d i e)
-  unfolding readFrom AllFit halvesAt
+  read-fits : (d i e : ℕ) → EdgesFit (readFrom keys p o w logs dead d i e)
+  unfolding readFrom EdgesFit halvesAt
   read-fits zero i e = tt
   read-fits (suc d) i e =
       fit-append (keyEdges keys p o w logs dead i e) _
@@ -192,34 +184,34 @@ Chain (x ∷ y ∷ es) = (before x y ≡ true) × Chain (y ∷ es)
 -- the first of them has a key above k
 unfoldable HeadAbove : ℕ → List Edge → Type 0
 HeadAbove k [] = Unit {0}
-HeadAbove k (e ∷ es) = k < numberOf (e .key)
+HeadAbove k (e ∷ es) = k < idNumber (e .key)
 
-by-key : (x y : Edge) → numberOf (x .key) < numberOf (y .key) → before x y ≡ true
+by-key : (x y : Edge) → idNumber (x .key) < idNumber (y .key) → before x y ≡ true
 unfolding before
-by-key x y h = ap (λ (b : Bool). b || (eqb (numberOf (x .key)) (numberOf (y .key)) && ltb (numberOf (x .partner)) (numberOf (y .partner)))) (lt-ltb _ _ h)
+by-key x y h = ap (λ (b : Bool). b || (eqb (idNumber (x .key)) (idNumber (y .key)) && ltb (idNumber (x .partner)) (idNumber (y .partner)))) (lt-ltb _ _ h)
 
-by-partner : (x y : Edge) → numberOf (x .key) ≡ numberOf (y .key) → numberOf (x .partner) < numberOf (y .partner) → before x y ≡ true
+by-partner : (x y : Edge) → idNumber (x .key) ≡ idNumber (y .key) → idNumber (x .partner) < idNumber (y .partner) → before x y ≡ true
 unfolding before
 by-partner x y e h =
-    ap₂ (λ (b c : Bool). ltb (numberOf (x .key)) (numberOf (y .key)) || (b && c)) (eq-eqb _ _ e) (lt-ltb _ _ h) ∙ or-true (ltb (numberOf (x .key)) (numberOf (y .key)))
+    ap₂ (λ (b c : Bool). ltb (idNumber (x .key)) (idNumber (y .key)) || (b && c)) (eq-eqb _ _ e) (lt-ltb _ _ h) ∙ or-true (ltb (idNumber (x .key)) (idNumber (y .key)))
   where
     or-true : (b : Bool) → (b || true) ≡ true
     or-true true = refl
     or-true false = refl
 
 -- an edge before edges of a greater key
-chain-cons : (x : Edge) (rest : List Edge) → HeadAbove (numberOf (x .key)) rest → Chain rest → Chain (x ∷ rest)
+chain-cons : (x : Edge) (rest : List Edge) → HeadAbove (idNumber (x .key)) rest → Chain rest → Chain (x ∷ rest)
 unfolding Chain HeadAbove
 chain-cons x [] h c = tt
 chain-cons x (y ∷ rest) h c = (by-key x y h, c)
 
 -- the edges of one key, and then those of greater keys
-chain-run : (logs dead : List ℕ) (k : Id) (ps : List Id) (floor e : ℕ) (rest : List Edge) → Above floor ps → HeadAbove (numberOf k) rest → Chain rest
+chain-run : (logs dead : List ℕ) (k : Id) (ps : List Id) (floor e : ℕ) (rest : List Edge) → Above floor ps → HeadAbove (idNumber k) rest → Chain rest
     → Chain (edgesFrom logs dead k e ps ++ rest)
 unfolding edgesFrom Above Chain
 chain-run logs dead k [] floor e rest a h c = c
 chain-run logs dead k (p ∷ []) floor e rest a h c = chain-cons (edgeOf logs dead k p e) rest h c
-chain-run logs dead k (p ∷ q ∷ ps) floor e rest a h c = chain-more (chain-run logs dead k (q ∷ ps) (suc (numberOf p)) (e + 1) rest (a .1) h c)
+chain-run logs dead k (p ∷ q ∷ ps) floor e rest a h c = chain-more (chain-run logs dead k (q ∷ ps) (suc (idNumber p)) (e + 1) rest (a .1) h c)
   where
     chain-more : Chain (edgesFrom logs dead k (e + 1) (q ∷ ps) ++ rest) → Chain (edgesFrom logs dead k e (p ∷ q ∷ ps) ++ rest)
     chain-more t = linked (edgeOf logs dead k p e) (edgeOf logs dead k q (e + 1)) (edgesFrom logs dead k (e + 1 + 1) ps ++ rest) (by-partner (edgeOf logs dead k p e) (edgeOf logs dead k q (e + 1)) refl (a .1 .0)) t
@@ -227,7 +219,7 @@ chain-run logs dead k (p ∷ q ∷ ps) floor e rest a h c = chain-more (chain-ru
         linked : (x y : Edge) (es : List Edge) → before x y ≡ true → Chain (y ∷ es) → Chain (x ∷ y ∷ es)
         linked x y es b t = (b, t)
 
-module _ (keys p o : List ℕ) (w : ℕ) (logs dead : List ℕ) (n : ℕ) (rise : Rising keys n) (ok : groupsFrom p o w n 0 ≡ Check.Fine) where
+module _ (keys p o : List ℕ) (w : ℕ) (logs dead : List ℕ) (n : ℕ) (rise : KeysRise keys n) (ok : groupsFrom p o w n 0 ≡ Check.Fine) where
   -- the partners of a key: some, and rising
   partners-some : (i : ℕ) → i < n → (1 ≤ length (partnersOf (groupIn p o w i))) × Above 0 (partnersOf (groupIn p o w i))
   partners-some i h =
@@ -251,7 +243,7 @@ module _ (keys p o : List ℕ) (w : ℕ) (logs dead : List ℕ) (n : ℕ) (rise 
   read-chain (suc d) i e q =
       let next : ℕ = e + degreeIn keys p o w logs dead i in
       let number = number-halves keys (i * 16) in
-      let above = head-read d (i + 1) next (numberOf (halvesAt keys (i * 16))) (omega arith) (λ h. let up = rise i (i + 1) (omega arith) (omega arith) in omega arith) in
+      let above = head-read d (i + 1) next (idNumber (halvesAt keys (i * 16))) (omega arith) (λ h. let up = rise i (i + 1) (omega arith) (omega arith) in omega arith) in
       chain-run logs dead (halvesAt keys (i * 16)) (partnersOf (groupIn p o w i)) 0 e (readFrom keys p o w logs dead d (i + 1) next) (partners-some i (omega arith) .1) above (read-chain d (i + 1) next (omega arith))
 
 -- ---- a batch of edges that fit and are in order has no fault
@@ -265,7 +257,7 @@ kind-edge true = refl
 kind-edge false = refl
 
 -- the record at p's end: its kind, and its edge
-module _ (x : Edge) (es : List Edge) (s p : List ℕ) (i : ℕ) (e : s ≡ p ++ recordsOf (x ∷ es)) (l : length p ≡ place i) (f : Fits x) where
+module _ (x : Edge) (es : List Edge) (s p : List ℕ) (i : ℕ) (e : s ≡ p ++ recordsOf (x ∷ es)) (l : length p ≡ place i) (f : EdgeFits x) where
   here : s ≡ p ++ (edgeBytes x ++ recordsOf es)
   unfolding recordsOf
   here = e
@@ -284,9 +276,9 @@ module _ (x : Edge) (es : List Edge) (s p : List ℕ) (i : ℕ) (e : s ≡ p ++ 
   after-long : length (p ++ edgeBytes x) ≡ place (i + 1)
   after-long = length-append p (edgeBytes x) ∙ omega (arith, length-edge x)
 
-records-fine : (es : List Edge) (x : Edge) (s p : List ℕ) (i : ℕ) → edgeAt s (place i) ≡ x → Chain (x ∷ es) → AllFit es → s ≡ p ++ recordsOf es → length p ≡ place (i + 1)
+records-fine : (es : List Edge) (x : Edge) (s p : List ℕ) (i : ℕ) → edgeAt s (place i) ≡ x → Chain (x ∷ es) → EdgesFit es → s ≡ p ++ recordsOf es → length p ≡ place (i + 1)
     → faultFrom (length es) s (i + 1) ≡ Check.Fine
-unfolding faultFrom Chain AllFit
+unfolding faultFrom Chain EdgesFit
 records-fine [] x s p i prev c f e l = ap (λ (b : Bool). pick b Check.Fine (Check.Bad (Refusal.Batch (place (i + 1))))) (eq-eqb (place (i + 1)) (length s) (sym (end-long s p e ∙ l)))
   where
     end-long : (s p : List ℕ) → s ≡ p ++ recordsOf [] → length s ≡ length p
@@ -305,14 +297,14 @@ none-fine : (s : List ℕ) → length s ≡ 50 → faultFrom 0 s 0 ≡ Check.Fin
 unfolding faultFrom
 none-fine s l = ap (λ (b : Bool). pick b Check.Fine (Check.Bad (Refusal.Batch (place 0)))) (eq-eqb (place 0) (length s) (sym l))
 
-first-fine : (x : Edge) (es : List Edge) (s p : List ℕ) → s ≡ p ++ recordsOf (x ∷ es) → length p ≡ place 0 → AllFit (x ∷ es) → Chain (x ∷ es) → faultFrom (suc (length es)) s 0 ≡ Check.Fine
-unfolding faultFrom AllFit inOrder
+first-fine : (x : Edge) (es : List Edge) (s p : List ℕ) → s ≡ p ++ recordsOf (x ∷ es) → length p ≡ place 0 → EdgesFit (x ∷ es) → Chain (x ∷ es) → faultFrom (suc (length es)) s 0 ≡ Check.Fine
+unfolding faultFrom EdgesFit inOrder
 first-fine x es s p e l f c =
     fine-pick _ (kind-here x es s p 0 e l (f .0))
     (records-fine es x s (p ++ edgeBytes x) 0 (edge-here x es s p 0 e l (f .0)) c (f .1) (after x es s p 0 e l (f .0)) (after-long x es s p 0 e l (f .0)))
 
 -- a heading of 50 bytes, direction 0 or 1, and such edges
-batch-fine : (h : Heading) (es : List Edge) → length (headingBytes h) ≡ 50 → h .direction ≤ 1 → AllFit es → Chain es → batchCheck (batchBytes h es) ≡ Check.Fine
+batch-fine : (h : Heading) (es : List Edge) → length (headingBytes h) ≡ 50 → h .direction ≤ 1 → EdgesFit es → Chain es → batchCheck (batchBytes h es) ≡ Check.Fine
 unfolding batchCheck headed batchBytes headingBytes
 batch-fine h es l way f c =
     let s : List ℕ = headingBytes h ++ recordsOf es in
@@ -320,7 +312,7 @@ batch-fine h es l way f c =
     let count : (length s - 50) / 41 ≡ length es = omega arith in
     fine-pick _ (and-both (le-leb 50 (length s) (omega arith)) (le-leb (h .direction) 1 way)) (ap (λ (n : ℕ). faultFrom n s 0) count ∙ first es f c)
   where
-    first : (es : List Edge) → AllFit es → Chain es → faultFrom (length es) (headingBytes h ++ recordsOf es) 0 ≡ Check.Fine
+    first : (es : List Edge) → EdgesFit es → Chain es → faultFrom (length es) (headingBytes h ++ recordsOf es) 0 ≡ Check.Fine
     first [] f c = none-fine (headingBytes h ++ recordsOf []) (length-append (headingBytes h) (recordsOf []) ∙ omega (arith, l, ap length records-none))
     first (x ∷ es) f c = first-fine x es (headingBytes h ++ recordsOf (x ∷ es)) (headingBytes h) refl l f c
 
@@ -335,7 +327,7 @@ module _ (f : List ℕ) (bytes : Bytes f) (pass : fullCheck f ≡ Check.Fine) wh
   bytes-in : (r : Range) → Bytes (bytesAt f r)
   bytes-in r = bytes-part f bytes (r .start) (r .start + r .len)
 
-  fits : AllFit (edgesOfFile f)
+  fits : EdgesFit (edgesOfFile f)
   unfolding edgesIn knownOf
   fits =
       read-fits (bytesAt f (o .keys)) (bytesAt f (o .partners)) (bytesAt f (o .offsets)) (o .bits / 8) (bytesAt f (o .logs)) (pick (o .marked) (bytesAt f (o .dead)) [])
@@ -363,4 +355,4 @@ module _ (f : List ℕ) (bytes : Bytes f) (pass : fullCheck f ≡ Check.Fine) wh
 -- as the file of one edge, whose checksums have bytes of every size
 pub one-edge-out : (edgesOf (batchIn oneEdge) ≡ edgesOfFile oneEdge) × (batchCheck (batchIn oneEdge) ≡ Check.Fine)
 unfolding byted oneEdge
-one-edge-out = (out-edges oneEdge (bytes-are oneEdge refl) (passed .1), out-fine oneEdge (bytes-are oneEdge refl) (passed .1))
+one-edge-out = (out-edges oneEdge (bytes-are oneEdge refl) (cases-pass .1), out-fine oneEdge (bytes-are oneEdge refl) (cases-pass .1))

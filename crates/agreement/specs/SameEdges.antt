@@ -11,11 +11,12 @@ use mathlib.Core.Bool.{Bool, true, false}
 use lib.ListN.{length}
 use lib.Dec.{eqb, ltb}
 use borrow.Author.Tests.{eq-eqb, ne-eqb, le-ltb, ltb-false}
+use Rattle.batch.specs.Batch.{partnersIn, logsIn}
 use Rattle.base.specs.Pick.{pick}
 use Rattle.base.specs.Over.{part}
 use Rattle.codes.specs.declared.ids.Id.{Id}
 use Rattle.codes.specs.declared.varint.Varint.{Varint}
-use Rattle.codes.specs.Ids.{numberOf, halvesAt}
+use Rattle.codes.specs.Ids.{idNumber, halvesAt}
 use Rattle.codes.specs.Ids.Laws.{number-halves}
 use Rattle.refusal.specs.declared.Refusal.{Refusal}
 use Rattle.refusal.specs.declared.Check.{Check}
@@ -28,13 +29,13 @@ use Rattle.frame.specs.Open.{knownOf, bytesAt, keyAt, offsetAt, openOf}
 use Rattle.index.specs.declared.keys.Found.{Found}
 use Rattle.index.specs.Find.{findIn}
 use Rattle.index.specs.Find.Laws.{find-sound, find-absent}
-use Rattle.index.specs.Order.{Rising, key-once, Offsets}
+use Rattle.index.specs.Order.{KeysRise, key-once, OffsetsRise}
 use Rattle.degrees.specs.declared.Degree.{Degree}
 use Rattle.degrees.specs.declared.Sum.{Sum}
 use Rattle.degrees.specs.Degrees.{groupAt, degreeAt, edgesBefore, plus, capped}
 use Rattle.degrees.specs.Degrees.Laws.{in-is, degree-is, before-none, before-all}
 use Rattle.codes.specs.Varint.{varintAt}
-use Rattle.group.specs.Group.{Partners, degreeOf, groupOf, isGood, partnersOf}
+use Rattle.group.specs.Group.{Decoded, degreeOf, groupOf, isGood, partnersOf}
 use Rattle.group.specs.Group.Laws.{good-is}
 use Rattle.group.specs.Good as group
 use Rattle.lookup.specs.declared.groups.GroupSeen.{GroupSeen}
@@ -54,24 +55,16 @@ use Rattle.readout.specs.ReadOut.Laws.{checked-edges}
 -- of edges, those of one key, in their order
 unfoldable pub ofKey : ℕ → List Edge → List Edge
 ofKey k [] = []
-ofKey k (e ∷ es) = pick (eqb (numberOf (e .key)) k) (e ∷ ofKey k es) (ofKey k es)
+ofKey k (e ∷ es) = pick (eqb (idNumber (e .key)) k) (e ∷ ofKey k es) (ofKey k es)
 
--- their partners, log numbers and dead marks
-unfoldable pub partnersIn : List Edge → List Id
-partnersIn [] = []
-partnersIn (e ∷ es) = e .partner ∷ partnersIn es
-
-unfoldable pub logsIn : List Edge → List ℕ
-logsIn [] = []
-logsIn (e ∷ es) = e .log ∷ logsIn es
-
-unfoldable pub marksIn : List Edge → List ℕ
-marksIn [] = []
-marksIn (e ∷ es) = pick (e .dead) 1 0 ∷ marksIn es
+-- their dead marks as a lookup writes them
+unfoldable pub markBytesIn : List Edge → List ℕ
+markBytesIn [] = []
+markBytesIn (e ∷ es) = pick (e .dead) 1 0 ∷ markBytesIn es
 
 -- an outcome says that a key has these edges and no others; full: with log numbers and dead marks
 unfoldable pub Says : Bool → Outcome → List Edge → Type 0
-Says full (found i c ps logs marks) es = (1 ≤ length es) × (ps ≡ partnersIn es) × (logs ≡ pick full (logsIn es) []) × (marks ≡ pick full (marksIn es) [])
+Says full (found i c ps logs marks) es = (1 ≤ length es) × (ps ≡ partnersIn es) × (logs ≡ pick full (logsIn es) []) × (marks ≡ pick full (markBytesIn es) [])
 Says full (absent c) es = es ≡ []
 Says full (refused r) es = ⊥
 
@@ -99,10 +92,10 @@ says-one full (absent c) (refused r) es h k = absurd k
 says-one full (refused r) y es h k = absurd h
 
 -- and an outcome says one run of edges: another has the same partners, log numbers and dead marks
-pub says-edges : (x : Outcome) (es fs : List Edge) → Says true x es → Says true x fs → (partnersIn es ≡ partnersIn fs) × (logsIn es ≡ logsIn fs) × (marksIn es ≡ marksIn fs)
+pub says-edges : (x : Outcome) (es fs : List Edge) → Says true x es → Says true x fs → (partnersIn es ≡ partnersIn fs) × (logsIn es ≡ logsIn fs) × (markBytesIn es ≡ markBytesIn fs)
 unfolding Says
 says-edges (found i c ps ls ms) es fs h k = (sym (h .1) ∙ k .1, sym (h .2) ∙ k .2, sym (h .3) ∙ k .3)
-says-edges (absent c) es fs h k = let e : es ≡ fs = h ∙ sym k in (ap partnersIn e, ap logsIn e, ap marksIn e)
+says-edges (absent c) es fs h k = let e : es ≡ fs = h ∙ sym k in (ap partnersIn e, ap logsIn e, ap markBytesIn e)
 says-edges (refused r) es fs h k = absurd h
 
 -- ---- edges of a key
@@ -110,7 +103,7 @@ says-edges (refused r) es fs h k = absurd h
 key-append : (k : ℕ) (xs ys : List Edge) → ofKey k (xs ++ ys) ≡ ofKey k xs ++ ofKey k ys
 unfolding ofKey
 key-append k [] ys = refl
-key-append k (e ∷ xs) ys = go (eqb (numberOf (e .key)) k) (key-append k xs ys)
+key-append k (e ∷ xs) ys = go (eqb (idNumber (e .key)) k) (key-append k xs ys)
   where
     go : (b : Bool) → ofKey k (xs ++ ys) ≡ ofKey k xs ++ ofKey k ys
         → pick b (e ∷ ofKey k (xs ++ ys)) (ofKey k (xs ++ ys)) ≡ pick b (e ∷ ofKey k xs) (ofKey k xs) ++ ofKey k ys
@@ -118,15 +111,15 @@ key-append k (e ∷ xs) ys = go (eqb (numberOf (e .key)) k) (key-append k xs ys)
     go false h = h
 
 module _ (logs dead : List ℕ) (key : Id) (k : ℕ) where
-  all-of : numberOf key ≡ k → (ps : List Id) (e : ℕ) → ofKey k (edgesFrom logs dead key e ps) ≡ edgesFrom logs dead key e ps
+  all-of : idNumber key ≡ k → (ps : List Id) (e : ℕ) → ofKey k (edgesFrom logs dead key e ps) ≡ edgesFrom logs dead key e ps
   unfolding ofKey edgesFrom
   all-of q [] e = refl
-  all-of q (p ∷ ps) e = rw (eq-eqb (numberOf key) k q) (ap (λ (t : List Edge). edgeOf logs dead key p e ∷ t) (all-of q ps (e + 1)))
+  all-of q (p ∷ ps) e = rw (eq-eqb (idNumber key) k q) (ap (λ (t : List Edge). edgeOf logs dead key p e ∷ t) (all-of q ps (e + 1)))
 
-  none-of : (numberOf key ≡ k → ⊥) → (ps : List Id) (e : ℕ) → ofKey k (edgesFrom logs dead key e ps) ≡ []
+  none-of : (idNumber key ≡ k → ⊥) → (ps : List Id) (e : ℕ) → ofKey k (edgesFrom logs dead key e ps) ≡ []
   unfolding ofKey edgesFrom
   none-of q [] e = refl
-  none-of q (p ∷ ps) e = rw (ne-eqb (numberOf key) k q) (none-of q ps (e + 1))
+  none-of q (p ∷ ps) e = rw (ne-eqb (idNumber key) k q) (none-of q ps (e + 1))
 
 -- what a run of edges of one key holds
 module _ (logs dead : List ℕ) (key : Id) where
@@ -147,8 +140,8 @@ module _ (logs dead : List ℕ) (key : Id) where
         | no q ↦ rw (ne-eqb (x % 2) 1 q) (omega arith)
       ]
 
-  marks-of : (ps : List Id) (e : ℕ) → marksIn (edgesFrom logs dead key e ps) ≡ marksFrom (length ps) dead e
-  unfolding marksIn edgesFrom marksFrom
+  marks-of : (ps : List Id) (e : ℕ) → markBytesIn (edgesFrom logs dead key e ps) ≡ marksFrom (length ps) dead e
+  unfolding markBytesIn edgesFrom marksFrom
   marks-of [] e = refl
   marks-of (p ∷ ps) e = ap₂ (λ (x : ℕ) (y : List ℕ). x ∷ y) (mark-is _) (marks-of ps (e + 1))
 
@@ -195,7 +188,7 @@ module _ (keys p o : List ℕ) (w : ℕ) (logs dead : List ℕ) where
       ∙ omega arith
 
   -- the edges before a group are those of the degrees before it
-  module _ (n : ℕ) (up : Offsets o w n (length p)) (ok : groupsFrom p o w n 0 ≡ Check.Fine) where
+  module _ (n : ℕ) (up : OffsetsRise o w n (length p)) (ok : groupsFrom p o w n 0 ≡ Check.Fine) where
     degree-here : (i : ℕ) → i < n → (degreeAt p o w i ≡ Degree.Is (degreeIn keys p o w logs dead i)) × (1 ≤ degreeIn keys p o w logs dead i)
     degree-here i lt =
         let g = groupAt p o w i in
@@ -261,7 +254,7 @@ found-says full logs dead key ps e i c es q some =
       omega arith,
       sym (ap partnersIn q ∙ partners-of logs dead key ps e),
       ap (λ (t : List ℕ). pick full t []) (sym (ap logsIn q ∙ logs-of logs dead key ps e)),
-      ap (λ (t : List ℕ). pick full t []) (sym (ap marksIn q ∙ marks-of logs dead key ps e)),
+      ap (λ (t : List ℕ). pick full t []) (sym (ap markBytesIn q ∙ marks-of logs dead key ps e)),
     )
 
 absent-says : (full : Bool) (c : ℕ) (es : List Edge) → es ≡ [] → Says full (absent c) es
@@ -298,10 +291,10 @@ module _ (f : List ℕ) (o : Opened) (pass : checkedOf f ≡ Opening.Good o) (k 
   opens : openOf f ≡ Opening.Good o
   opens = checked-opened f o pass
 
-  rise : Rising keys (o .keycount)
+  rise : KeysRise keys (o .keycount)
   rise = opened-keys f o opens
 
-  up : Offsets os w (o .keycount) (length ps)
+  up : OffsetsRise os w (o .keycount) (length ps)
   up = opened-offsets f o opens
 
   ok : groupsFrom ps os w (o .keycount) 0 ≡ Check.Fine

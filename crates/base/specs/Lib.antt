@@ -1,3 +1,4 @@
 pub mod Pick
 pub mod Over
 pub mod Put
+pub mod Bytes

@@ -1,12 +1,12 @@
 -- Lists laid over an output: what a call leaves in memory that it was lent. `sets o i xs` of the library stores xs
 -- from place i on.
-use mathlib.Core.Path.{_≡_, refl, sym, ap, _∙_}
+use mathlib.Core.Path.{_≡_, refl, sym, ap, ap₂, _∙_}
 use Prim.Native.Nat.{ℕ, zero, suc, _+_, _-_, _≤_, _<_}
 use native.Mathlib.Nat.{add-zero, zero-add}
 use native.Mathlib.Omega.{arith}
 use mathlib.Core.List.{List, [], _∷_, _++_, append-assoc}
 use lib.ListN.{length, take, drop, getD, set, length-append, length-take, length-drop}
-use lib.Seq.{sets, sets-eq, set-comm, getD-set-other, take-at, drop-at, drop-append-add, length-take-le}
+use lib.Seq.{sets, sets-eq, set-comm, getD-set-other, take-at, drop-at, drop-append-add, drop-append-seam, take-append-seam, length-take-le}
 
 module _ {ℓ} {A : Type ℓ} where
   -- xs over the start of o: what lies past xs stays
@@ -19,6 +19,12 @@ module _ {ℓ} {A : Type ℓ} where
 
   pub length-part : (s : List A) (a e : ℕ) → e ≤ length s → length (part s a e) ≡ e - a
   length-part s a e h = length-take-le (e - a) (drop a s) (simp length-drop (omega arith))
+
+  -- what lies between xs and zs
+  pub part-mid : (xs ys zs : List A) (a e : ℕ) → a ≡ length xs → e ≡ length xs + length ys → part (xs ++ (ys ++ zs)) a e ≡ ys
+  part-mid xs ys zs a e p q =
+      let n : e - a ≡ length ys = omega arith in
+      ap₂ (λ (u v : ℕ). take u (drop v (xs ++ (ys ++ zs)))) n p ∙ ap (take (length ys)) (drop-append-seam xs (ys ++ zs)) ∙ take-append-seam ys zs
 
   -- two stores in a row are one store of both
   pub sets-append : (xs ys o : List A) (i : ℕ) → sets o i (xs ++ ys) ≡ sets (sets o i xs) (i + length xs) ys

@@ -8,13 +8,21 @@ use lib.ListN.{length, getD}
 use lib.Dec.{ltb, leb, eqb}
 use Rattle.base.specs.Pick.{pick}
 use Rattle.base.specs.Over.{part}
+use Rattle.codes.specs.declared.ids.Id.{Id}
 use Rattle.codes.specs.Little.{leAt, leBytes}
-use Rattle.codes.specs.Ids.{halvesAt, numberOf, idBytes}
+use Rattle.codes.specs.Ids.{halvesAt, idNumber, idBytes}
 use Rattle.refusal.specs.declared.Refusal.{Refusal}
 use Rattle.refusal.specs.declared.Check.{Check}
 use Rattle.refusal.specs.Check.{_⊳_, refuse}
 use Rattle.batch.specs.declared.Edge.{Edge}
 pub mod Laws
+
+-- bytes of the heading's record, and of an edge's
+abbrev pub headingSize : ℕ
+headingSize = 50
+
+abbrev pub recordSize : ℕ
+recordSize = 41
 
 -- ---- records, from bytes
 
@@ -25,7 +33,7 @@ pub record Heading : Type 0 where
   pub ids : List ℕ
 
 unfoldable pub headingOf : List ℕ → Heading
-headingOf s = record { direction = getD s 1 0; ids = part s 2 50 }
+headingOf s = record { direction = getD s 1 0; ids = part s 2 headingSize }
 
 -- the edge in the record at i
 unfoldable pub edgeAt : List ℕ → ℕ → Edge
@@ -33,7 +41,7 @@ edgeAt s i = record { key = halvesAt s (i + 1); partner = halvesAt s (i + 17); l
 
 -- where the record of edge e begins
 abbrev pub place : ℕ → ℕ
-place e = 50 + 41 * e
+place e = headingSize + recordSize * e
 
 -- d edges from edge e on
 unfoldable pub edgesAt : ℕ → List ℕ → ℕ → List Edge
@@ -41,12 +49,26 @@ edgesAt zero s e = []
 edgesAt (suc d) s e = edgeAt s (place e) ∷ edgesAt d s (e + 1)
 
 -- how many whole records follow the heading
-abbrev pub countOf : List ℕ → ℕ
-countOf s = (length s - 50) / 41
+abbrev pub recordCount : List ℕ → ℕ
+recordCount s = (length s - headingSize) / recordSize
 
 -- the edges of a batch without fault
 unfoldable pub edgesOf : List ℕ → List Edge
-edgesOf s = edgesAt (countOf s) s 0
+edgesOf s = edgesAt (recordCount s) s 0
+
+-- ---- what edges hold
+
+unfoldable pub partnersIn : List Edge → List Id
+partnersIn [] = []
+partnersIn (e ∷ es) = e .partner ∷ partnersIn es
+
+unfoldable pub logsIn : List Edge → List ℕ
+logsIn [] = []
+logsIn (e ∷ es) = e .log ∷ logsIn es
+
+unfoldable pub marksIn : List Edge → List Bool
+marksIn [] = []
+marksIn (e ∷ es) = e .dead ∷ marksIn es
 
 -- ---- and back
 
@@ -71,8 +93,8 @@ batchBytes h es = headingBytes h ++ recordsOf es
 -- by key, then partner
 unfoldable pub before : Edge → Edge → Bool
 before a b =
-    ltb (numberOf (a .key)) (numberOf (b .key))
-    || (eqb (numberOf (a .key)) (numberOf (b .key)) && ltb (numberOf (a .partner)) (numberOf (b .partner)))
+    ltb (idNumber (a .key)) (idNumber (b .key))
+    || (eqb (idNumber (a .key)) (idNumber (b .key)) && ltb (idNumber (a .partner)) (idNumber (b .partner)))
 
 -- edge e is above the one before it
 unfoldable pub inOrder : List ℕ → ℕ → Bool
@@ -92,7 +114,7 @@ faultFrom (suc d) s e =
 
 -- a whole heading of direction 0 or 1 stands first
 unfoldable pub headed : List ℕ → Bool
-headed s = leb 50 (length s) && (eqb (getD s 0 0) 3 && leb (getD s 1 0) 1)
+headed s = leb headingSize (length s) && (eqb (getD s 0 0) 3 && leb (getD s 1 0) 1)
 
 unfoldable pub batchCheck : List ℕ → Check
-batchCheck s = pick (headed s) (faultFrom (countOf s) s 0) (Check.Bad (Refusal.Batch 0))
+batchCheck s = pick (headed s) (faultFrom (recordCount s) s 0) (Check.Bad (Refusal.Batch 0))

@@ -4,7 +4,7 @@ ghost use Prim.Native.Nat.{_+_, _≤_};
 ghost use lib.ListN.{length};
 ghost use lib.Seq.{sets};
 ghost use Rattle.base.specs.Pick.{pick};
-ghost use Rattle.batch.specs.Batch.{kindOf, edgeAt, edgeBytes};
+ghost use Rattle.batch.specs.Batch.{recordSize, kindOf, edgeAt, edgeBytes};
 use codes::ids::Id;
 use codes::ids::id_at;
 use codes::ids::put_id;
@@ -45,7 +45,7 @@ fn kind_of(dead: bool) -> u8
 
 // The edge in the record at i.
 pub fn edge_at(s: &[u8], i: usize) -> Edge
-    requires { ⌜ i + 41 ≤ length (now s) ⌝ }
+    requires { ⌜ i + recordSize ≤ length (now s) ⌝ }
     ensures { λ r. ⌜ r ≡ edgeAt (now (s .entry)) i ⌝ }
 {
     let key = id_at(s, i + 1);
@@ -62,7 +62,7 @@ pub fn edge_at(s: &[u8], i: usize) -> Edge
 
 // Writes an edge's record at `at`.
 pub fn put_edge(out: &mut [u8], at: usize, e: Edge)
-    requires { ⌜ at + 41 ≤ length (now out) ⌝ }
+    requires { ⌜ at + recordSize ≤ length (now out) ⌝ }
     ensures { λ _. ⌜ now (out .exit) ≡ sets (now (out .entry)) at (edgeBytes e) ⌝ }
 {
     let key = e.key;

@@ -11,46 +11,21 @@ use lib.Dec.{leb, eqb}
 use borrow.Author.Tests.{eqb-true, leb-true}
 use Rattle.base.specs.Pick.{pick}
 use Rattle.base.specs.Over.{part}
+use Rattle.base.specs.Bytes.{Bytes}
 use Rattle.codes.specs.Little.{leAt, leBytes}
-use Rattle.codes.specs.Little.Laws.{leAt-low}
+use Rattle.codes.specs.Stood.{le-same, id-same}
 use Rattle.codes.specs.Ids.{beAt, beBytes, halvesAt, idBytes}
 use Rattle.refusal.specs.declared.Refusal.{Refusal}
 use Rattle.refusal.specs.declared.Check.{Check}
 use Rattle.refusal.specs.Check.Laws.{and-parts}
 use Rattle.batch.specs.declared.Edge.{Edge}
-use Rattle.batch.specs.Batch.{edgeAt, edgesAt, place, isEdge, faultFrom, batchCheck, headed, countOf, edgesOf, headingOf, headingBytes, edgeBytes, recordsOf, batchBytes}
+use Rattle.batch.specs.Batch.{edgeAt, edgesAt, place, isEdge, faultFrom, batchCheck, headed, recordCount, edgesOf, headingOf, headingBytes, edgeBytes, recordsOf, batchBytes}
 use Rattle.batch_groups.specs.Order.{fault-inv}
 
-back-step : (a b : ℕ) → b < 256 → ((a * 256 + b) / 256 ≡ a) × ((a * 256 + b) % 256 ≡ b)
-back-step a b h = (omega arith, omega arith)
-
-module _ (s : List ℕ) (b : (j : ℕ) → getD s j 0 < 2 ^ 8) where
-  le-same : (n i : ℕ) → i + n ≤ length s → leBytes n (leAt s i n) ≡ take n (drop i s)
-  unfolding leBytes
-  le-same zero i h = refl
-  le-same (suc n) i h =
-      let q = back-step (leAt s (i + 1) n) (getD s i 0) (b i) in
-      let d : drop i s ≡ getD s i 0 ∷ drop (i + 1) s = drop-cons s i 0 (omega arith) ∙ ap (λ (t : ℕ). getD s i 0 ∷ drop t s) (sym (add-one i)) in
-      ap (leBytes (suc n)) (leAt-low s i n)
-      ∙ ap₂ (λ (u v : ℕ). u ∷ leBytes n v) (q .1) (q .0)
-      ∙ ap (λ (t : List ℕ). getD s i 0 ∷ t) (le-same n (i + 1) (omega arith))
-      ∙ ap (take (suc n)) (sym d)
-
-  be-same : (n i : ℕ) → i + n ≤ length s → beBytes n (beAt s i n) ≡ take n (drop i s)
-  unfolding beBytes beAt
-  be-same zero i h = refl
-  be-same (suc n) i h =
-      let q = back-step (beAt s i n) (getD s (i + n) 0) (b (i + n)) in
-      let l : n < length (drop i s) = rw length-drop (omega arith) in
-      rw (q .0, q .1, be-same n i (omega arith)) (ap (λ (t : ℕ). take n (drop i s) ++ (t ∷ [])) (sym (getD-drop i s n 0)) ∙ sym (take-suc (drop i s) n 0 l))
-
+module _ (s : List ℕ) (b : Bytes s) where
   -- one part after the other
   two : (i n m : ℕ) → take n (drop i s) ++ take m (drop (i + n) s) ≡ take (n + m) (drop i s)
   two i n m = sym (take-add n m (drop i s) ∙ ap (λ (t : List ℕ). take n (drop i s) ++ take m t) (drop-drop n i s))
-
-  id-same : (i : ℕ) → i + 16 ≤ length s → idBytes (halvesAt s i) ≡ take 16 (drop i s)
-  unfolding idBytes halvesAt
-  id-same i h = ap₂ (λ (u v : List ℕ). u ++ v) (be-same 8 i (omega arith)) (be-same 8 (i + 8) (omega arith)) ∙ two i 8 8
 
   kind-is : (k : ℕ) → isEdge k ≡ true → pick (eqb k 2) 2 1 ≡ k
   kind-is k h = go (eqb k 2) refl
@@ -71,9 +46,9 @@ module _ (s : List ℕ) (b : (j : ℕ) → getD s j 0 < 2 ^ 8) where
   record-same : (i : ℕ) → i + 41 ≤ length s → isEdge (getD s i 0) ≡ true → edgeBytes (edgeAt s i) ≡ take 41 (drop i s)
   unfolding edgeBytes edgeAt
   record-same i h k =
-      let a = id-same (i + 1) (omega arith) in
-      let c = id-same (i + 17) (omega arith) in
-      let d = le-same 8 (i + 33) (omega arith) in
+      let a = id-same s b (i + 1) (omega arith) in
+      let c = id-same s b (i + 17) (omega arith) in
+      let d = le-same s b 8 (i + 33) (omega arith) in
       let p : i + 17 + 16 ≡ i + 33 = omega arith in
       let q : i + 1 + 16 ≡ i + 17 = omega arith in
       let x : take 16 (drop (i + 17) s) ++ take 8 (drop (i + 33) s) ≡ take 24 (drop (i + 17) s) = ap (λ (t : ℕ). take 16 (drop (i + 17) s) ++ take 8 (drop t s)) (sym p) ∙ two (i + 17) 16 8 in
@@ -104,11 +79,11 @@ module _ (s : List ℕ) (b : (j : ℕ) → getD s j 0 < 2 ^ 8) where
   unfolding batchCheck batchBytes edgesOf headed
   batch-same f = go (headed s) refl f
     where
-      go : (t : Bool) → headed s ≡ t → pick t (faultFrom (countOf s) s 0) (Check.Bad (Refusal.Batch 0)) ≡ Check.Fine → headingBytes (headingOf s) ++ recordsOf (edgesOf s) ≡ s
+      go : (t : Bool) → headed s ≡ t → pick t (faultFrom (recordCount s) s 0) (Check.Bad (Refusal.Batch 0)) ≡ Check.Fine → headingBytes (headingOf s) ++ recordsOf (edgesOf s) ≡ s
       go true h q =
           let u = and-parts (leb 50 (length s)) (eqb (getD s 0 0) 3 && leb (getD s 1 0) 1) h in
           let v = and-parts (eqb (getD s 0 0) 3) (leb (getD s 1 0) 1) (u .1) in
           let l : 50 ≤ length s = leb-true 50 (length s) (u .0) in
-          let m : place 0 + 41 * countOf s ≤ length s = omega arith in
-          ap₂ (λ (x y : List ℕ). x ++ y) (heading-same l (eqb-true (getD s 0 0) 3 (v .0))) (records-same (countOf s) 0 q m) ∙ take-append-drop 50 s
+          let m : place 0 + 41 * recordCount s ≤ length s = omega arith in
+          ap₂ (λ (x y : List ℕ). x ++ y) (heading-same l (eqb-true (getD s 0 0) 3 (v .0))) (records-same (recordCount s) 0 q m) ∙ take-append-drop 50 s
       go false h q = let z : _≡_ {A = ℕ} 0 1 = cc in absurd (omega arith)

@@ -3,18 +3,22 @@ use mathlib.Core.Path.{_≡_}
 use mathlib.Core.Logic.{_⊎_}
 use Prim.Native.Nat.{ℕ, zero, suc, _+_, _-_, _^_, _≤_, _<_}
 use mathlib.Core.List.{List, [], _∷_, _++_}
-use mathlib.Core.Bool.{Bool, true, false}
+use mathlib.Core.Bool.{Bool, true, false, _||_}
 use lib.ListN.{length, getD, take, drop}
 use lib.Dec.{eqb}
 use Rattle.base.specs.Pick.{pick}
 use Rattle.codes.specs.declared.ids.Id.{Id}
-use Rattle.codes.specs.Ids.{numberOf}
+use Rattle.codes.specs.Ids.{idNumber}
 use Rattle.batch.specs.declared.Edge.{Edge}
 pub mod Laws
 
 -- what `getD` gives past the last edge
 abbrev pub none : Edge
 none = record { key = record { hi = 0; lo = 0 }; partner = record { hi = 0; lo = 0 }; log = 0; dead = false }
+
+unfoldable pub anyDead : List Edge → Bool
+anyDead [] = false
+anyDead (e ∷ es) = e .dead || anyDead es
 
 -- ---- groups
 
@@ -26,7 +30,7 @@ pub record Group : Type 0 where
 unfoldable pub join : Edge → List Group → List Group
 join e [] = record { key = e .key; edges = e ∷ [] } ∷ []
 join e (g ∷ gs) =
-    pick (eqb (numberOf (e .key)) (numberOf (g .key)))
+    pick (eqb (idNumber (e .key)) (idNumber (g .key)))
     (record { key = e .key; edges = e ∷ (g .edges) } ∷ gs)
     (record { key = e .key; edges = e ∷ [] } ∷ g ∷ gs)
 
@@ -48,12 +52,12 @@ pub record GroupEnd (es : List Edge) (i j : ℕ) : Type 0 where
 -- ---- "Edges strictly increase by key, then partner"
 
 -- halves of 64 bits
-abbrev pub Fits : Id → Type 0
-Fits d = (d .hi < 2 ^ 64) × (d .lo < 2 ^ 64)
+abbrev pub IdFits : Id → Type 0
+IdFits d = (d .hi < 2 ^ 64) × (d .lo < 2 ^ 64)
 
 abbrev pub Before : Edge → Edge → Type 0
 Before a b =
-    (numberOf (a .key) < numberOf (b .key)) ⊎ ((numberOf (a .key) ≡ numberOf (b .key)) × (numberOf (a .partner) < numberOf (b .partner)))
+    (idNumber (a .key) < idNumber (b .key)) ⊎ ((idNumber (a .key) ≡ idNumber (b .key)) × (idNumber (a .partner) < idNumber (b .partner)))
 
 -- e is before the first of them
 unfoldable pub First : Edge → List Edge → Type 0
@@ -62,7 +66,7 @@ First e (f ∷ es) = Before e f
 
 unfoldable pub Ordered : List Edge → Type 0
 Ordered [] = Unit {0}
-Ordered (e ∷ es) = Fits (e .key) × Fits (e .partner) × (e .log < 2 ^ 64) × First e es × Ordered es
+Ordered (e ∷ es) = IdFits (e .key) × IdFits (e .partner) × (e .log < 2 ^ 64) × First e es × Ordered es
 
 -- ---- the same of groups
 
@@ -70,10 +74,10 @@ Ordered (e ∷ es) = Fits (e .key) × Fits (e .partner) × (e .log < 2 ^ 64) × 
 unfoldable pub Run : Id → ℕ → List Edge → Type 0
 Run k floor [] = Unit {0}
 Run k floor (e ∷ es) =
-    (e .key ≡ k) × Fits (e .partner) × (e .log < 2 ^ 64) × (floor ≤ numberOf (e .partner)) × Run k (suc (numberOf (e .partner))) es
+    (e .key ≡ k) × IdFits (e .partner) × (e .log < 2 ^ 64) × (floor ≤ idNumber (e .partner)) × Run k (suc (idNumber (e .partner))) es
 
 -- groups, none of them empty, whose keys strictly increase from the floor on
 unfoldable pub Grouped : ℕ → List Group → Type 0
 Grouped floor [] = Unit {0}
 Grouped floor (g ∷ gs) =
-    (floor ≤ numberOf (g .key)) × Fits (g .key) × (length (g .edges) ≡ 0 → ⊥) × Run (g .key) 0 (g .edges) × Grouped (suc (numberOf (g .key))) gs
+    (floor ≤ idNumber (g .key)) × IdFits (g .key) × (length (g .edges) ≡ 0 → ⊥) × Run (g .key) 0 (g .edges) × Grouped (suc (idNumber (g .key))) gs

@@ -5,21 +5,22 @@ use native.Mathlib.Omega.{arith}
 use native.Mathlib.Nat.{add-zero}
 use native.Mathlib.Decide.{decLt}
 use mathlib.Core.Logic.{_⊎_, inl, inr}
-use mathlib.Core.List.{List, [], _∷_}
+use mathlib.Core.List.{List, [], _∷_, _++_}
 use mathlib.Core.Bool.{Bool, true, false, true≢false, _&&_, _||_}
 use lib.ListN.{length, getD}
 use lib.Dec.{ltb, leb, eqb}
 use borrow.Author.Tests.{lt-ltb, le-ltb, le-leb, lt-leb, eq-eqb, ne-eqb, ltb-true}
 use Rattle.base.specs.Pick.{pick}
+use Rattle.base.specs.Bytes.{Bytes}
 use Rattle.codes.specs.declared.ids.Order.{Order}
-use Rattle.codes.specs.Ids.{order, halvesAt, numberOf}
+use Rattle.codes.specs.Ids.{order, halvesAt, idNumber}
 use Rattle.codes.specs.Ids.Laws.{less, greater, equal, beAt-lt}
 use Rattle.codes.specs.Little.Laws.{leAt-lt}
 use Rattle.refusal.specs.declared.Refusal.{Refusal}
 use Rattle.refusal.specs.declared.Check.{Check}
 use Rattle.batch.specs.declared.Edge.{Edge}
-use Rattle.batch.specs.Batch.{edgeAt, edgesAt, place, before, inOrder, isEdge, faultFrom, batchCheck, headed, countOf, edgesOf}
-use Rattle.batch_groups.specs.Groups.{none, Fits, Before, First, Ordered}
+use Rattle.batch.specs.Batch.{edgeAt, edgesAt, place, before, inOrder, isEdge, faultFrom, batchCheck, headed, recordCount, edgesOf}
+use Rattle.batch_groups.specs.Groups.{none, IdFits, Before, First, Ordered}
 
 -- the order of two numbers, back
 tri {ℓ} : {X : Type ℓ} (m n : ℕ) → (m < n → X) → (m ≡ n → X) → (n < m → X) → X
@@ -35,23 +36,19 @@ pub greater-back : (m n : ℕ) → order m n ≡ Order.Greater → n < m
 greater-back m n e = tri m n (λ a. let q = less a in let z : _≡_ {A = ℕ} 0 1 = cc in absurd (omega arith)) (λ a. let q = equal a in let z : _≡_ {A = ℕ} 0 1 = cc in absurd (omega arith)) (λ a. a)
 
 module _ (a b : Edge) where
-  pub before-less : numberOf (a .key) < numberOf (b .key) → before a b ≡ true
+  pub before-less : idNumber (a .key) < idNumber (b .key) → before a b ≡ true
   unfolding before
-  before-less h = simp (lt-ltb (numberOf (a .key)) (numberOf (b .key)) h)
+  before-less h = simp (lt-ltb (idNumber (a .key)) (idNumber (b .key)) h)
 
-  pub before-greater : numberOf (b .key) < numberOf (a .key) → before a b ≡ false
+  pub before-greater : idNumber (b .key) < idNumber (a .key) → before a b ≡ false
   unfolding before
-  before-greater h = simp (le-ltb (numberOf (a .key)) (numberOf (b .key)) (omega arith), ne-eqb (numberOf (a .key)) (numberOf (b .key)) (λ q. omega arith))
+  before-greater h = simp (le-ltb (idNumber (a .key)) (idNumber (b .key)) (omega arith), ne-eqb (idNumber (a .key)) (idNumber (b .key)) (λ q. omega arith))
 
-  pub before-equal : numberOf (a .key) ≡ numberOf (b .key) → before a b ≡ ltb (numberOf (a .partner)) (numberOf (b .partner))
+  pub before-equal : idNumber (a .key) ≡ idNumber (b .key) → before a b ≡ ltb (idNumber (a .partner)) (idNumber (b .partner))
   unfolding before
-  before-equal h = simp (le-ltb (numberOf (a .key)) (numberOf (b .key)) (omega arith), eq-eqb (numberOf (a .key)) (numberOf (b .key)) h)
+  before-equal h = simp (le-ltb (idNumber (a .key)) (idNumber (b .key)) (omega arith), eq-eqb (idNumber (a .key)) (idNumber (b .key)) h)
 
-pub order-first : (s : List ℕ) (e : ℕ) → e ≡ 0 → inOrder s e ≡ true
-unfolding inOrder
-order-first s e h = rw h
-
-pub order-next : (s : List ℕ) (e : ℕ) → 0 < e → inOrder s e ≡ before (edgeAt s (place (e - 1))) (edgeAt s (place e))
+order-next : (s : List ℕ) (e : ℕ) → 0 < e → inOrder s e ≡ before (edgeAt s (place (e - 1))) (edgeAt s (place e))
 unfolding inOrder
 order-next s e h = let q : e ≡ suc (e - 1) = omega arith in
     let z : inOrder s (suc (e - 1)) ≡ before (edgeAt s (place (e - 1))) (edgeAt s (place (suc (e - 1)))) = refl in
@@ -93,20 +90,29 @@ module _ (s : List ℕ) where
     unfolding batchCheck headed
     head-way g k = simp (le-leb 50 (length s) h, eq-eqb (getD s 0 0) 3 g, lt-leb (getD s 1 0) 1 (omega arith))
 
-    pub head-good : getD s 0 0 ≡ 3 → getD s 1 0 ≤ 1 → batchCheck s ≡ faultFrom (countOf s) s 0
+    pub head-good : getD s 0 0 ≡ 3 → getD s 1 0 ≤ 1 → batchCheck s ≡ faultFrom (recordCount s) s 0
     unfolding batchCheck headed
     head-good g k = simp (le-leb 50 (length s) h, eq-eqb (getD s 0 0) 3 g, le-leb (getD s 1 0) 1 k)
 
 -- ---- the edges of a batch by their number
 
-pub length-edges : (d : ℕ) (s : List ℕ) (e : ℕ) → length (edgesAt d s e) ≡ d
+pub length-edgesAt : (d : ℕ) (s : List ℕ) (e : ℕ) → length (edgesAt d s e) ≡ d
 unfolding edgesAt
-length-edges zero s e = refl
-length-edges (suc d) s e = ap suc (length-edges d s (e + 1))
+length-edgesAt zero s e = refl
+length-edgesAt (suc d) s e = ap suc (length-edgesAt d s (e + 1))
 
-pub edges-count : (s : List ℕ) → length (edgesOf s) ≡ countOf s
+pub edges-count : (s : List ℕ) → length (edgesOf s) ≡ recordCount s
 unfolding edgesOf
-edges-count s = length-edges (countOf s) s 0
+edges-count s = length-edgesAt (recordCount s) s 0
+
+-- the last of them
+pub edges-last : (d : ℕ) (s : List ℕ) (e : ℕ) → edgesAt (suc d) s e ≡ edgesAt d s e ++ (edgeAt s (place (e + d)) ∷ [])
+unfolding edgesAt
+edges-last zero s e = ap (λ (t : ℕ). edgeAt s (place t) ∷ []) (sym (add-zero e))
+edges-last (suc d) s e =
+    let q : e + 1 + d ≡ e + suc d = omega arith in
+    ap (λ (t : List Edge). edgeAt s (place e) ∷ t)
+    (edges-last d s (e + 1) ∙ ap (λ (t : ℕ). edgesAt d s (e + 1) ++ (edgeAt s (place t) ∷ [])) q)
 
 edges-at : (d : ℕ) (s : List ℕ) (e k : ℕ) → k < d → getD (edgesAt d s e) k none ≡ edgeAt s (place (e + k))
 unfolding edgesAt
@@ -115,19 +121,19 @@ edges-at (suc d) s e zero h = ap (λ (t : ℕ). edgeAt s (place t)) (sym (add-ze
 edges-at (suc d) s e (suc k) h =
     let q : e + 1 + k ≡ e + suc k = omega arith in edges-at d s (e + 1) k (omega arith) ∙ ap (λ (t : ℕ). edgeAt s (place t)) q
 
-pub of-batch : (s : List ℕ) (e : ℕ) → e < length (edgesOf s) → (e < countOf s) × (getD (edgesOf s) e none ≡ edgeAt s (place e))
+pub of-batch : (s : List ℕ) (e : ℕ) → e < length (edgesOf s) → (e < recordCount s) × (getD (edgesOf s) e none ≡ edgeAt s (place e))
 unfolding edgesOf
 of-batch s e h =
-    let l : e < countOf s = omega (arith, edges-count s) in
+    let l : e < recordCount s = omega (arith, edges-count s) in
     let q : 0 + e ≡ e = omega arith in
-    (l, edges-at (countOf s) s 0 e l ∙ ap (λ (t : ℕ). edgeAt s (place t)) q)
+    (l, edges-at (recordCount s) s 0 e l ∙ ap (λ (t : ℕ). edgeAt s (place t)) q)
 
 -- ---- a batch without fault is in order
 
 before-true : (a b : Edge) → before a b ≡ true → Before a b
 before-true a b e =
-    tri (numberOf (a .key)) (numberOf (b .key)) (λ l. inl l)
-    (λ q. inr (q, ltb-true (numberOf (a .partner)) (numberOf (b .partner)) (sym (before-equal a b q) ∙ e)))
+    tri (idNumber (a .key)) (idNumber (b .key)) (λ l. inl l)
+    (λ q. inr (q, ltb-true (idNumber (a .partner)) (idNumber (b .partner)) (sym (before-equal a b q) ∙ e)))
     (λ g. let q = before-greater a b g in let z : true ≡ false = sym e ∙ q in absurd (true≢false z))
 
 pub fault-inv : (d : ℕ) (s : List ℕ) (e : ℕ) → faultFrom (suc d) s e ≡ Check.Fine → (isEdge (getD s (place e) 0) ≡ true) × (inOrder s e ≡ true) × (faultFrom d s (e + 1) ≡ Check.Fine)
@@ -138,12 +144,12 @@ fault-inv d s e f = go (isEdge (getD s (place e) 0)) refl (inOrder s e) refl
     go true p false q = let r = fault-order s e d p q in let z : _≡_ {A = ℕ} 0 1 = cc in absurd (omega arith)
     go false p b q = let r = fault-kind s e d p in let z : _≡_ {A = ℕ} 0 1 = cc in absurd (omega arith)
 
-module _ (s : List ℕ) (b : (j : ℕ) → getD s j 0 < 2 ^ 8) where
-  fits-at : (i : ℕ) → Fits (halvesAt s i)
+module _ (s : List ℕ) (b : Bytes s) where
+  fits-at : (i : ℕ) → IdFits (halvesAt s i)
   unfolding halvesAt
   fits-at i = (beAt-lt s b i 8, beAt-lt s b (i + 8) 8)
 
-  edge-fits : (i : ℕ) → Fits (edgeAt s i .key) × Fits (edgeAt s i .partner) × (edgeAt s i .log < 2 ^ 64)
+  edge-fits : (i : ℕ) → IdFits (edgeAt s i .key) × IdFits (edgeAt s i .partner) × (edgeAt s i .log < 2 ^ 64)
   unfolding edgeAt
   edge-fits i = (fits-at (i + 1), fits-at (i + 17), leAt-lt s b (i + 33) 8)
 
@@ -164,8 +170,8 @@ module _ (s : List ℕ) (b : (j : ℕ) → getD s j 0 < 2 ^ 8) where
   unfolding batchCheck edgesOf
   batch-ordered f = go (headed s) f
     where
-      go : (h : Bool) → pick h (faultFrom (countOf s) s 0) (Check.Bad (Refusal.Batch 0)) ≡ Check.Fine → Ordered (edgesOf s)
-      go true q = ordered (countOf s) 0 q
+      go : (h : Bool) → pick h (faultFrom (recordCount s) s 0) (Check.Bad (Refusal.Batch 0)) ≡ Check.Fine → Ordered (edgesOf s)
+      go true q = ordered (recordCount s) 0 q
       go false q = let z : _≡_ {A = ℕ} 0 1 = cc in absurd (omega arith)
 
 pub fine-long : (s : List ℕ) → batchCheck s ≡ Check.Fine → 50 ≤ length s

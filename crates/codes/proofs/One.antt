@@ -27,6 +27,8 @@ use Rattle.codes.proofs.ids.compare as compare
 use Rattle.codes.proofs.ids.compare.Reads as compare-reads
 use Rattle.codes.proofs.ids.precedes as precedes
 use Rattle.codes.proofs.ids.precedes.Reads as precedes-reads
+use Rattle.codes.proofs.ids.same_id as same-id
+use Rattle.codes.proofs.ids.same_id.Reads as same-id-reads
 use Rattle.codes.proofs.ids.put_be as put-be
 use Rattle.codes.proofs.ids.put_be.Reads as put-be-reads
 use Rattle.codes.proofs.ids.put_be64 as put-be64
@@ -77,6 +79,9 @@ compare-determined κs a pre r₁ r₂ w₁ w₂ p q = (p ∙ sym q, refl)
 
 pub precedes-determined : Determined precedes.ended precedes-reads.Pre precedes-reads.Post
 precedes-determined κs a pre r₁ r₂ w₁ w₂ p q = (p ∙ sym q, refl)
+
+pub same-id-determined : Determined same-id.ended same-id-reads.Pre same-id-reads.Post
+same-id-determined κs a pre r₁ r₂ w₁ w₂ p q = (p ∙ sym q, refl)
 
 pub put-be-determined : Determined put-be.ended put-be-reads.Pre put-be-reads.Post
 put-be-determined κs a pre r₁ r₂ w₁ w₂ p q = (refl, ap (λ (l : List ℕ). (l, (tt {0}, (tt {0}, (tt {0}, tt {0}))))) (p ∙ sym q))

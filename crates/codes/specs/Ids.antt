@@ -28,8 +28,8 @@ unfoldable pub idAt : List ℕ → ℕ → ℕ
 idAt s i = beAt s i 16
 
 -- the number that two halves make
-abbrev pub numberOf : Id → ℕ
-numberOf d = d .hi * 2 ^ 64 + d .lo
+abbrev pub idNumber : Id → ℕ
+idNumber d = d .hi * 2 ^ 64 + d .lo
 
 -- the id at i, as its halves
 unfoldable pub halvesAt : List ℕ → ℕ → Id

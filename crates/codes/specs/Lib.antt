@@ -1,3 +1,4 @@
 pub mod Little
 pub mod Ids
 pub mod Varint
+pub mod Stood

@@ -1,10 +1,10 @@
 // Ids of 16 bytes. An id compares as one big-endian number; the code holds it as its two halves.
 ghost use mathlib.Core.Path.{_≡_};
 ghost use Prim.Native.Nat.{_+_, _≤_, _<_};
-ghost use lib.Dec.{ltb};
+ghost use lib.Dec.{ltb, eqb};
 ghost use lib.ListN.{length};
 ghost use lib.Seq.{sets};
-ghost use Rattle.codes.specs.Ids.{beAt, beBytes, turned, idAt, numberOf, idBytes, halvesAt, order};
+ghost use Rattle.codes.specs.Ids.{beAt, beBytes, turned, idAt, idNumber, idBytes, halvesAt, order};
 use super::little::le64;
 use super::little::put_le;
 
@@ -57,7 +57,7 @@ pub fn id_at(s: &[u8], at: usize) -> Id
 
 // Which of two ids comes first: the upper halves decide, and where they are equal the lower.
 pub fn compare(a: Id, b: Id) -> Order
-    ensures { λ r. ⌜ r ≡ order (numberOf a) (numberOf b) ⌝ }
+    ensures { λ r. ⌜ r ≡ order (idNumber a) (idNumber b) ⌝ }
 {
     if a.hi < b.hi {
         return Order::Less;
@@ -119,4 +119,17 @@ pub fn put_id(out: &mut [u8], at: usize, id: Id)
 {
     put_be64(out, at, id.hi);
     put_be64(out, at + 8, id.lo);
+}
+
+// Are two ids one?
+pub fn same_id(a: Id, b: Id) -> bool
+    ensures { λ r. ⌜ r ≡ eqb (idNumber a) (idNumber b) ⌝ }
+{
+    if a.hi != b.hi {
+        return false;
+    }
+    if a.lo != b.lo {
+        return false;
+    }
+    true
 }

@@ -22,7 +22,7 @@ fn more(s: &[u8], at: usize, n: usize, x: u64) -> u64
     x | byte(s, at + n) << (8 * n)
 }
 
-// The number of the two bytes at `at`; the others are of three, four, five, six and eight bytes.
+// The number of the two bytes at `at`, lowest first.
 pub fn le16(s: &[u8], at: usize) -> u64
     requires { ⌜ at + 2 ≤ length (now s) ⌝ }
     ensures { λ r. ⌜ (r ≡ leAt (now (s .entry)) at 2) × (r < 2 ^ 16) ⌝ }
@@ -30,6 +30,7 @@ pub fn le16(s: &[u8], at: usize) -> u64
     more(s, at, 1, more(s, at, 0, 0))
 }
 
+// Three bytes, lowest first.
 pub fn le24(s: &[u8], at: usize) -> u64
     requires { ⌜ at + 3 ≤ length (now s) ⌝ }
     ensures { λ r. ⌜ (r ≡ leAt (now (s .entry)) at 3) × (r < 2 ^ 24) ⌝ }
@@ -37,6 +38,7 @@ pub fn le24(s: &[u8], at: usize) -> u64
     more(s, at, 2, le16(s, at))
 }
 
+// Four bytes, lowest first.
 pub fn le32(s: &[u8], at: usize) -> u64
     requires { ⌜ at + 4 ≤ length (now s) ⌝ }
     ensures { λ r. ⌜ (r ≡ leAt (now (s .entry)) at 4) × (r < 2 ^ 32) ⌝ }
@@ -44,6 +46,7 @@ pub fn le32(s: &[u8], at: usize) -> u64
     more(s, at, 3, le24(s, at))
 }
 
+// Five bytes, lowest first.
 pub fn le40(s: &[u8], at: usize) -> u64
     requires { ⌜ at + 5 ≤ length (now s) ⌝ }
     ensures { λ r. ⌜ (r ≡ leAt (now (s .entry)) at 5) × (r < 2 ^ 40) ⌝ }
@@ -51,6 +54,7 @@ pub fn le40(s: &[u8], at: usize) -> u64
     more(s, at, 4, le32(s, at))
 }
 
+// Six bytes, lowest first.
 pub fn le48(s: &[u8], at: usize) -> u64
     requires { ⌜ at + 6 ≤ length (now s) ⌝ }
     ensures { λ r. ⌜ (r ≡ leAt (now (s .entry)) at 6) × (r < 2 ^ 48) ⌝ }
@@ -58,6 +62,7 @@ pub fn le48(s: &[u8], at: usize) -> u64
     more(s, at, 5, le40(s, at))
 }
 
+// Eight bytes, lowest first.
 pub fn le64(s: &[u8], at: usize) -> u64
     requires { ⌜ at + 8 ≤ length (now s) ⌝ }
     ensures { λ r. ⌜ r ≡ leAt (now (s .entry)) at 8 ⌝ }

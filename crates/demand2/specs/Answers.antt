@@ -9,9 +9,10 @@ use lib.ListN.{length, getD, take, drop, take-append-drop}
 use lib.Seq.{drop-cons, length-take-le}
 use lib.Dec.{ltb}
 use borrow.Author.Tests.{lt-ltb, le-ltb}
+use Rattle.batch.specs.Batch.{partnersIn, logsIn}
 use Rattle.base.specs.Pick.{pick}
 use Rattle.codes.specs.declared.ids.Id.{Id}
-use Rattle.codes.specs.Ids.{numberOf}
+use Rattle.codes.specs.Ids.{idNumber}
 use Rattle.refusal.specs.declared.Check.{Check}
 use Rattle.frame.specs.Open.{Known, keyAt}
 use Rattle.index.specs.declared.keys.Found.{Found}
@@ -19,15 +20,15 @@ use Rattle.index.specs.Find.{findIn, comparedOf}
 use Rattle.index.specs.Find.Laws.{find-sound}
 use Rattle.lookup.specs.Lookup.{Outcome, found, absent, refused, outcome, Rooms, lookCheck, lookGroup, onFound, lookIn}
 use Rattle.batch.specs.declared.Edge.{Edge}
-use Rattle.batch_groups.specs.Groups.{none, Group, groupsOf, Fits, Grouped}
+use Rattle.batch_groups.specs.Groups.{none, Group, groupsOf, IdFits, Grouped}
 use Rattle.write_image.specs.Image.{keyBytes}
-use Rattle.agreement.specs.SameEdges.{ofKey, partnersIn, logsIn, marksIn, Says}
-use Rattle.demand2.specs.Contents.{key-number}
+use Rattle.agreement.specs.SameEdges.{ofKey, markBytesIn, Says}
+use Rattle.demand2.specs.Contents.{group-key}
 
 -- the index of key k: how many of the different keys are below it
 unfoldable pub indexIn : ℕ → List Group → ℕ
 indexIn k [] = 0
-indexIn k (g ∷ gs) = pick (ltb (numberOf (g .key)) k) 1 0 + indexIn k gs
+indexIn k (g ∷ gs) = pick (ltb (idNumber (g .key)) k) 1 0 + indexIn k gs
 
 -- the keys that the halving rule compares to find it, or to find that it is not there
 abbrev pub comparisonsIn : ℕ → List Group → ℕ
@@ -36,7 +37,7 @@ comparisonsIn k gs = comparedOf (findIn (keyBytes gs) (length gs) k)
 -- the outcome for a key that has the edges es; full: with log numbers and dead marks
 unfoldable pub outcomeBy : Bool → ℕ → ℕ → List Edge → Outcome
 outcomeBy full i c [] = absent c
-outcomeBy full i c (e ∷ es) = found i c (partnersIn (e ∷ es)) (pick full (logsIn (e ∷ es)) []) (pick full (marksIn (e ∷ es)) [])
+outcomeBy full i c (e ∷ es) = found i c (partnersIn (e ∷ es)) (pick full (logsIn (e ∷ es)) []) (pick full (markBytesIn (e ∷ es)) [])
 
 -- key k among the edges es, in order
 abbrev pub outcomeFor : Bool → ℕ → List Edge → Outcome
@@ -50,44 +51,44 @@ unfolding indexIn Grouped
 none-below k floor [] o h = refl
 none-below k floor (g ∷ gs) o h =
     let low = o .0 in
-    let rest = none-below k (suc (numberOf (g .key))) gs (o .4) (omega arith) in
-    ap₂ (λ (b : Bool) (n : ℕ). pick b 1 0 + n) (le-ltb (numberOf (g .key)) k (omega arith)) rest
+    let rest = none-below k (suc (idNumber (g .key))) gs (o .4) (omega arith) in
+    ap₂ (λ (b : Bool) (n : ℕ). pick b 1 0 + n) (le-ltb (idNumber (g .key)) k (omega arith)) rest
 
 abbrev past : Group
 past = record { key = none .key; edges = [] }
 
-above-floor : (floor : ℕ) (gs : List Group) → Grouped floor gs → (i : ℕ) → i < length gs → floor ≤ numberOf (getD gs i past .key)
+above-floor : (floor : ℕ) (gs : List Group) → Grouped floor gs → (i : ℕ) → i < length gs → floor ≤ idNumber (getD gs i past .key)
 unfolding Grouped
 above-floor floor [] o i h = absurd (omega arith)
 above-floor floor (g ∷ gs) o zero h = o .0
-above-floor floor (g ∷ gs) o (suc i) h = let low = o .0 in let up = above-floor (suc (numberOf (g .key))) gs (o .4) i (omega arith) in omega arith
+above-floor floor (g ∷ gs) o (suc i) h = let low = o .0 in let up = above-floor (suc (idNumber (g .key))) gs (o .4) i (omega arith) in omega arith
 
 -- of the key of group i it is i
-index-is : (floor : ℕ) (gs : List Group) → Grouped floor gs → (i : ℕ) → i < length gs → indexIn (numberOf (getD gs i past .key)) gs ≡ i
+index-is : (floor : ℕ) (gs : List Group) → Grouped floor gs → (i : ℕ) → i < length gs → indexIn (idNumber (getD gs i past .key)) gs ≡ i
 unfolding indexIn Grouped
 index-is floor [] o i h = absurd (omega arith)
 index-is floor (g ∷ gs) o zero h =
-    ap₂ (λ (b : Bool) (n : ℕ). pick b 1 0 + n) (le-ltb (numberOf (g .key)) (numberOf (g .key)) (omega arith))
-    (none-below (numberOf (g .key)) (suc (numberOf (g .key))) gs (o .4) (omega arith))
+    ap₂ (λ (b : Bool) (n : ℕ). pick b 1 0 + n) (le-ltb (idNumber (g .key)) (idNumber (g .key)) (omega arith))
+    (none-below (idNumber (g .key)) (suc (idNumber (g .key))) gs (o .4) (omega arith))
 index-is floor (g ∷ gs) o (suc i) h =
-    let up = above-floor (suc (numberOf (g .key))) gs (o .4) i (omega arith) in
-    let rest = index-is (suc (numberOf (g .key))) gs (o .4) i (omega arith) in
-    ap₂ (λ (b : Bool) (n : ℕ). pick b 1 0 + n) (lt-ltb (numberOf (g .key)) (numberOf (getD gs i past .key)) (omega arith)) rest ∙ omega arith
+    let up = above-floor (suc (idNumber (g .key))) gs (o .4) i (omega arith) in
+    let rest = index-is (suc (idNumber (g .key))) gs (o .4) i (omega arith) in
+    ap₂ (λ (b : Bool) (n : ℕ). pick b 1 0 + n) (lt-ltb (idNumber (g .key)) (idNumber (getD gs i past .key)) (omega arith)) rest ∙ omega arith
 
 -- a group's key fits
-key-fits : (floor : ℕ) (gs : List Group) → Grouped floor gs → (i : ℕ) → i < length gs → Fits (getD gs i past .key)
+key-fits : (floor : ℕ) (gs : List Group) → Grouped floor gs → (i : ℕ) → i < length gs → IdFits (getD gs i past .key)
 unfolding Grouped
 key-fits floor [] o i h = absurd (omega arith)
 key-fits floor (g ∷ gs) o zero h = o .1
-key-fits floor (g ∷ gs) o (suc i) h = key-fits (suc (numberOf (g .key))) gs (o .4) i (omega arith)
+key-fits floor (g ∷ gs) o (suc i) h = key-fits (suc (idNumber (g .key))) gs (o .4) i (omega arith)
 
 -- what is found stands at its index
 module _ (gs : List Group) (order : Grouped 0 gs) (k : ℕ) where
-  key-is : (i : ℕ) → i < length gs → keyAt (keyBytes gs) i ≡ numberOf (getD gs i past .key)
+  key-is : (i : ℕ) → i < length gs → keyAt (keyBytes gs) i ≡ idNumber (getD gs i past .key)
   key-is i h =
       let split : gs ≡ take i gs ++ getD gs i past ∷ drop (suc i) gs = sym (take-append-drop i gs) ∙ ap (λ (t : List Group). take i gs ++ t) (drop-cons gs i past h) in
       ap (keyAt (keyBytes gs)) (sym (length-take-le i gs (omega arith)))
-      ∙ key-number gs (take i gs) (getD gs i past) (drop (suc i) gs) split (key-fits 0 gs order i h)
+      ∙ group-key gs (take i gs) (getD gs i past) (drop (suc i) gs) split (key-fits 0 gs order i h)
 
   found-at : (i c : ℕ) → findIn (keyBytes gs) (length gs) k ≡ Found.At i c → i ≡ indexIn k gs
   found-at i c e =

@@ -10,14 +10,14 @@ use Rattle.codes.specs.declared.ids.Id.{Id}
 use Rattle.codes.specs.Little.{leAt}
 use Rattle.codes.specs.Ids.{beAt, beBytes, idAt, idBytes, halvesAt, order}
 use Rattle.refusal.specs.declared.Check.{Check}
-use Rattle.index.specs.Find.{turn, findFrom, findIn, comparedOf}
+use Rattle.index.specs.Find.{narrowed, findFrom, findIn, comparedOf}
 use Rattle.group.specs.Group.{bytesOf}
 use Rattle.lookup.specs.Lookup.{Outcome, found, absent}
-use Rattle.batch.specs.Batch.{edgeAt, edgesAt, edgesOf, before, inOrder, faultFrom, headed, batchCheck}
+use Rattle.batch.specs.Batch.{edgeAt, edgesAt, edgesOf, before, inOrder, faultFrom, headed, batchCheck, partnersIn, logsIn}
 use Rattle.batch_groups.specs.Groups.{join, groupsOf}
 use Rattle.write_image.specs.Image.{keysIn}
 use Rattle.write_image.specs.Cases.{mixed, mixedFile, mixed-written}
-use Rattle.agreement.specs.SameEdges.{ofKey, partnersIn, logsIn, marksIn}
+use Rattle.agreement.specs.SameEdges.{ofKey, markBytesIn}
 use Rattle.agreement.specs.OutBytes.{byted, bytes-are}
 use Rattle.demand2.specs.Answers.{indexIn, outcomeBy, outcomeFor}
 use Rattle.demand2.specs.Demand2.{Lawful, lawful-is, Demand2, demand-2}
@@ -51,5 +51,5 @@ pub mixed-found :
     × (outcomeFor true (key 3) (edgesOf mixed) ≡ found 1 1 (id (2 ^ 49) 1 ∷ []) (8 ∷ []) (0 ∷ []))
     × (outcomeFor true (key 1) (edgesOf mixed) ≡ absent 2)
     × (outcomeFor true (key 4) (edgesOf mixed) ≡ absent 1)
-unfolding mixed edgesOf edgesAt edgeAt halvesAt beAt leAt beBytes idAt idBytes bytesOf order turn findFrom findIn comparedOf join groupsOf keysIn ofKey partnersIn logsIn marksIn indexIn outcomeBy
+unfolding mixed edgesOf edgesAt edgeAt halvesAt beAt leAt beBytes idAt idBytes bytesOf order narrowed findFrom findIn comparedOf join groupsOf keysIn ofKey partnersIn logsIn markBytesIn indexIn outcomeBy
 mixed-found = (refl, refl, refl, refl)

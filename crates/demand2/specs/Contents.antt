@@ -10,35 +10,30 @@ use lib.ListN.{length, getD, drop, take, length-append}
 use lib.Seq.{drop-append-seam, take-append-seam, append-snoc}
 use lib.Dec.{ltb, leb, eqb}
 use borrow.Author.Tests.{lt-ltb}
+use Rattle.batch.specs.Batch.{partnersIn, logsIn, marksIn}
 use Rattle.base.specs.Pick.{pick}
-use Rattle.base.specs.Over.{part}
+use Rattle.base.specs.Over.{part, part-mid}
 use Rattle.codes.specs.declared.ids.Id.{Id}
 use Rattle.codes.specs.Little.{leAt}
-use Rattle.codes.specs.Ids.{halvesAt, numberOf}
+use Rattle.codes.specs.Ids.{halvesAt, idNumber}
 use Rattle.codes.specs.Ids.Laws.{number-halves}
 use Rattle.refusal.specs.declared.Refusal.{Refusal}
 use Rattle.refusal.specs.declared.Check.{Check}
 use Rattle.refusal.specs.Check.{_⊳_}
 use Rattle.refusal.specs.Check.Laws.{fine-both, fine-pick}
 use Rattle.frame.specs.Open.{keyAt, keysFrom, offsetAt}
-use Rattle.group.specs.Group.{Partners, good, groupOf, partnersOf, bytesOf}
+use Rattle.group.specs.Group.{Decoded, good, groupOf, partnersOf, bytesOf}
 use Rattle.group.specs.Group.Laws.{partners-good}
 use Rattle.group.specs.Written.{written-back}
 use Rattle.lookup.specs.Lookup.{groupCheck, markAt}
 use Rattle.batch.specs.declared.Edge.{Edge}
-use Rattle.batch_groups.specs.Groups.{Group, flat, Fits, Run, Grouped}
+use Rattle.batch_groups.specs.Groups.{anyDead, Group, flat, IdFits, Run, Grouped}
 use Rattle.batch_groups.specs.Groups.Laws.{flat-append}
-use Rattle.write_image.specs.Image.{partnersIn, logsIn, marksIn, keysIn, anyDead, isDense, groupBytes, bytesIn, anyDense, keyBytes, partnerBytes, startsFrom, offsetBytes, logBytes, octets, tombBytes, bit}
+use Rattle.write_image.specs.Image.{keysIn, isDense, groupBytes, bytesIn, anyDense, keyBytes, partnerBytes, startsFrom, offsetBytes, logBytes, octets, tombBytes, bit}
 use Rattle.write_image.specs.Image.Laws.{length-partners, run-partners, group-is, group-some, length-keysIn}
 use Rattle.full_check.specs.Full.{denseOf, groupIn, groupsFrom, degreesFrom, denseFrom}
 use Rattle.readout.specs.Edges.{edgeOf, edgesFrom, degreeIn, keyEdges, readFrom}
 use Rattle.demand2.specs.Rows.{numbers-at, ids-mid, partners-append, length-starts, starts-at, keys-append, marks-at, logs-at, length-logsIn, mark-at, bit-is, none-dead}
-
--- a part between what lies before and after
-pub part-mid : (xs ys zs : List ℕ) (a e : ℕ) → a ≡ length xs → e ≡ length xs + length ys → part (xs ++ (ys ++ zs)) a e ≡ ys
-part-mid xs ys zs a e p q =
-    let n : e - a ≡ length ys = omega arith in
-    ap₂ (λ (u v : ℕ). take u (drop v (xs ++ (ys ++ zs)))) n p ∙ ap (take (length ys)) (drop-append-seam xs (ys ++ zs)) ∙ take-append-seam ys zs
 
 -- ---- where groups lie
 
@@ -111,15 +106,15 @@ module _ (all : List Group) (w : ℕ) (small : length (partnerBytes (length all)
 
 -- ---- keys
 
-pub key-back : (all gs : List Group) (g : Group) (hs : List Group) → all ≡ gs ++ g ∷ hs → Fits (g .key) → halvesAt (keyBytes all) (length gs * 16) ≡ g .key
+pub key-back : (all gs : List Group) (g : Group) (hs : List Group) → all ≡ gs ++ g ∷ hs → IdFits (g .key) → halvesAt (keyBytes all) (length gs * 16) ≡ g .key
 unfolding keysIn
 key-back all gs g hs e f =
     let k : keysIn all ≡ keysIn gs ++ g .key ∷ keysIn hs = ap keysIn e ∙ keys-append gs (g ∷ hs) in
     ap (λ (t : List Id). halvesAt (bytesOf t) (length gs * 16)) k
     ∙ ap (λ (t : ℕ). halvesAt (bytesOf (keysIn gs ++ g .key ∷ keysIn hs)) (t * 16)) (sym (length-keysIn gs)) ∙ ids-mid (keysIn gs) (g .key) (keysIn hs) f
 
-pub key-number : (all gs : List Group) (g : Group) (hs : List Group) → all ≡ gs ++ g ∷ hs → Fits (g .key) → keyAt (keyBytes all) (length gs) ≡ numberOf (g .key)
-key-number all gs g hs e f = sym (number-halves (keyBytes all) (length gs * 16)) ∙ ap numberOf (key-back all gs g hs e f)
+pub group-key : (all gs : List Group) (g : Group) (hs : List Group) → all ≡ gs ++ g ∷ hs → IdFits (g .key) → keyAt (keyBytes all) (length gs) ≡ idNumber (g .key)
+group-key all gs g hs e f = sym (number-halves (keyBytes all) (length gs * 16)) ∙ ap idNumber (key-back all gs g hs e f)
 
 -- each key is above the one before: the groups hs after g, which comes after gs
 keys-rise : (all : List Group) (hs gs : List Group) (g : Group) (floor : ℕ) → all ≡ gs ++ g ∷ hs → Grouped floor (g ∷ hs) → keysFrom (length hs) (keyBytes all) (length gs + 1) ≡ Check.Fine
@@ -129,11 +124,11 @@ keys-rise all (h ∷ hs) gs g floor e o =
     let e′ : all ≡ (gs ++ (g ∷ [])) ++ h ∷ hs = e ∙ sym (append-snoc gs g (h ∷ hs)) in
     let i : length (gs ++ (g ∷ [])) ≡ length gs + 1 = length-append gs (g ∷ []) in
     let back : length gs + 1 - 1 ≡ length gs = omega arith in
-    let a : keyAt (keyBytes all) (length gs + 1 - 1) ≡ numberOf (g .key) = ap (keyAt (keyBytes all)) back ∙ key-number all gs g (h ∷ hs) e (o .1) in
-    let b : keyAt (keyBytes all) (length gs + 1) ≡ numberOf (h .key) = ap (keyAt (keyBytes all)) (sym i) ∙ key-number all (gs ++ (g ∷ [])) h hs e′ (o .4 .1) in
+    let a : keyAt (keyBytes all) (length gs + 1 - 1) ≡ idNumber (g .key) = ap (keyAt (keyBytes all)) back ∙ group-key all gs g (h ∷ hs) e (o .1) in
+    let b : keyAt (keyBytes all) (length gs + 1) ≡ idNumber (h .key) = ap (keyAt (keyBytes all)) (sym i) ∙ group-key all (gs ++ (g ∷ [])) h hs e′ (o .4 .1) in
     let low = o .4 .0 in
     let up : keyAt (keyBytes all) (length gs + 1 - 1) < keyAt (keyBytes all) (length gs + 1) = omega arith in
-    let ih = keys-rise all hs (gs ++ (g ∷ [])) h (suc (numberOf (g .key))) e′ (o .4) in
+    let ih = keys-rise all hs (gs ++ (g ∷ [])) h (suc (idNumber (g .key))) e′ (o .4) in
     let next : length (gs ++ (g ∷ [])) + 1 ≡ length gs + 1 + 1 = omega arith in
     fine-pick (Check.Bad (Refusal.Key (length gs + 1))) (lt-ltb (keyAt (keyBytes all) (length gs + 1 - 1)) (keyAt (keyBytes all) (length gs + 1)) up) (ap (keysFrom (length hs) (keyBytes all)) (sym next) ∙ ih)
 
@@ -182,7 +177,7 @@ module _ (es : List Edge) where
       let e′ : es ≡ (xs ++ (x ∷ [])) ++ (run ++ ys) = e ∙ sym (append-snoc xs x (run ++ ys)) in
       let i : length (xs ++ (x ∷ [])) ≡ length xs + 1 = length-append xs (x ∷ []) in
       let ih : edgesFrom (logBytes es) tombs k (length xs + 1) (partnersIn run) ≡ run =
-      ap (λ (t : ℕ). edgesFrom (logBytes es) tombs k t (partnersIn run)) (sym i) ∙ run-back k run (suc (numberOf (x .partner))) (xs ++ (x ∷ [])) ys e′ (r .4) in
+      ap (λ (t : ℕ). edgesFrom (logBytes es) tombs k t (partnersIn run)) (sym i) ∙ run-back k run (suc (idNumber (x .partner))) (xs ++ (x ∷ [])) ys e′ (r .4) in
       let l = log-is xs x (run ++ ys) e (r .2) in
       let d = dead-is xs x (run ++ ys) e in
       (λ j. record { key = sym (r .0) j; partner = x .partner; log = l j; dead = d j } ∷ ih j)
@@ -203,7 +198,7 @@ module _ (all : List Group) (w : ℕ) (small : length (partnerBytes (length all)
     pub edges : readFrom (keyBytes all) ps os w (logBytes es) (tombs es) (length hs) (length gs) (length (flat gs)) ≡ flat hs
 
   -- one group
-  module _ (gs : List Group) (g : Group) (hs : List Group) (e : all ≡ gs ++ g ∷ hs) (r : Run (g .key) 0 (g .edges)) (some : length (g .edges) ≡ 0 → ⊥) (k : Fits (g .key)) where
+  module _ (gs : List Group) (g : Group) (hs : List Group) (e : all ≡ gs ++ g ∷ hs) (r : Run (g .key) 0 (g .edges)) (some : length (g .edges) ≡ 0 → ⊥) (k : IdFits (g .key)) where
     place : es ≡ flat gs ++ (g .edges ++ flat hs)
     unfolding flat
     place = f ∙ ap flat e ∙ flat-append gs (g ∷ hs)
@@ -239,7 +234,7 @@ module _ (all : List Group) (w : ℕ) (small : length (partnerBytes (length all)
   read-back (g ∷ hs) gs floor e o =
       let e′ : all ≡ (gs ++ (g ∷ [])) ++ hs = e ∙ sym (append-snoc gs g hs) in
       let i : length (gs ++ (g ∷ [])) ≡ length gs + 1 = length-append gs (g ∷ []) in
-      let ih = read-back hs (gs ++ (g ∷ [])) (suc (numberOf (g .key))) e′ (o .4) in
+      let ih = read-back hs (gs ++ (g ∷ [])) (suc (idNumber (g .key))) e′ (o .4) in
       let d = degree gs g hs e (o .3) (o .2) (o .1) in
       let c : length (flat (gs ++ (g ∷ []))) ≡ length (flat gs) + length (partnersOf (groupIn ps os w (length gs))) =
       ap length (flat-append gs (g ∷ [])) ∙ length-append (flat gs) (g .edges ++ []) ∙ ap (λ (t : ℕ). length (flat gs) + t) (ap length (append-nil (g .edges)) ∙ sym d) in

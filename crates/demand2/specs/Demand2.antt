@@ -11,31 +11,40 @@ use lib.Dec.{leb, eqb}
 use borrow.Author.Tests.{leb-true}
 use Rattle.base.specs.Pick.{pick}
 use Rattle.base.specs.Over.{length-part}
+use Rattle.base.specs.Bytes.{Bytes}
 use Rattle.refusal.specs.declared.Refusal.{Refusal}
 use Rattle.refusal.specs.declared.Check.{Check}
 use Rattle.refusal.specs.Check.Laws.{and-parts, pick-fine}
 use Rattle.frame.specs.declared.Opening.{Opening}
-use Rattle.frame.specs.Frame.{recordOf}
+use Rattle.frame.specs.Frame.{headerIn, recordOf}
 use Rattle.frame.specs.Open.{knownOf, openOf}
 use Rattle.lookup.specs.Lookup.{Rooms, lookOf, lookWith}
 use Rattle.lookup.specs.Calls.{alone}
 use Rattle.batch.specs.declared.Edge.{Edge}
-use Rattle.batch.specs.Batch.{Heading, headingOf, edgesOf, countOf, faultFrom, headed, batchCheck, batchBytes}
-use Rattle.batch_groups.specs.Groups.{groupsOf}
+use Rattle.batch.specs.Batch.{Heading, headingOf, edgesOf, recordCount, faultFrom, headed, batchCheck, batchBytes}
+use Rattle.batch_groups.specs.Groups.{anyDead, groupsOf}
 use Rattle.batch_groups.specs.Groups.Laws.{grouped}
 use Rattle.batch_groups.specs.Order.{batch-ordered, fine-long}
 use Rattle.batch_groups.specs.Back.{batch-same}
-use Rattle.write_image.specs.Image.{fileOf}
+use Rattle.write_image.specs.Image.{anyDense, flagsBy, fileOf}
 use Rattle.full_check.specs.Full.{fullCheck}
 use Rattle.readout.specs.ReadOut.{batchIn}
 use Rattle.agreement.specs.SameEdges.{ofKey, Says, Enough, edgesOfFile, same-edges, same-partners}
+use Rattle.agreement.specs.Heading.{headerFor, same-heading}
+use Rattle.reader.specs.declared.header.HeaderRead.{HeaderRead}
+use Rattle.reader.specs.Header.{headerOf, header-good}
 use Rattle.reader.specs.Look.{of-good, with-record}
-use Rattle.demand2.specs.File.{Written, file-opens, known-keys, passes, edges-again, batch-back}
+use Rattle.demand2.specs.File.{WrittenFile, minor-is, flags-is, file-opens, known-keys, passes, edges-again, batch-back}
 use Rattle.demand2.specs.Answers.{outcomeFor, Placed, look-placed, outcome-is}
 
 -- the file of a batch
 abbrev pub fileFor : List ℕ → List ℕ
 fileFor s = fileOf (headingOf s) (edgesOf s)
+
+-- the flags that the writer sets: "Bit 2 is set exactly if a group is dense, bit 1 exactly if an edge is dead, bit 0 never",
+-- and bit 3 by the direction
+abbrev pub flagsFor : List ℕ → ℕ
+flagsFor s = flagsBy (headingOf s .direction) (anyDense (length (groupsOf (edgesOf s))) (groupsOf (edgesOf s))) (anyDead (edgesOf s))
 
 -- "more keys, edges or file bytes than the bounds" is not the case
 pub record Limits (s : List ℕ) : Type 0 where
@@ -45,7 +54,7 @@ pub record Limits (s : List ℕ) : Type 0 where
 
 -- a batch that demand 2 speaks of: bytes, without fault, within the limits; of either direction
 pub record Lawful (s : List ℕ) : Type 0 where
-  pub bytes : (j : ℕ) → getD s j 0 < 2 ^ 8
+  pub bytes : Bytes s
   pub fine : batchCheck s ≡ Check.Fine
   pub limits : Limits s
 
@@ -53,6 +62,8 @@ pub record Demand2 (s : List ℕ) : Type 0 where
   pub passes-check : fullCheck (fileFor s) ≡ Check.Fine
   -- the read-out is that same batch, byte for byte
   pub reads-out : batchIn (fileFor s) ≡ s
+  -- its header is the batch's heading, with minor version 0 and the writer's flags
+  pub says-header : headerOf (fileFor s) ≡ HeaderRead.Good (headerFor 0 (flagsFor s) s)
   -- a lookup with enough room says exactly the written edges of its key; also by the record that opening gave
   pub looks-up : (key : ℕ) (rooms : Rooms) → Enough rooms (length (ofKey key (edgesOf s))) → Says true (lookOf true rooms key (fileFor s)) (ofKey key (edgesOf s))
   pub looks-up-with : (key : ℕ) (rooms : Rooms) → Enough rooms (length (ofKey key (edgesOf s)))
@@ -70,7 +81,7 @@ pub record Demand2 (s : List ℕ) : Type 0 where
       → lookWith false (alone n) key (fileFor s) (recordOf (fileFor s)) ≡ outcomeFor false key (edgesOf s)
 
 -- whatever bytes the batch's check takes within the bounds are lawful
-pub lawful-is : (s : List ℕ) → ((j : ℕ) → getD s j 0 < 2 ^ 8) → batchCheck s ≡ Check.Fine
+pub lawful-is : (s : List ℕ) → Bytes s → batchCheck s ≡ Check.Fine
     → length (groupsOf (edgesOf s)) ≤ 2 ^ 24 → length (edgesOf s) ≤ 2 ^ 26 → length (fileFor s) ≤ 2 ^ 30 → Lawful s
 lawful-is s bytes fine keys edges size = record { bytes = bytes; fine = fine; limits = record { keys = keys; edges = edges; bytes = size } }
 
@@ -78,7 +89,7 @@ lawful-is s bytes fine keys edges size = record { bytes = bytes; fine = fine; li
 way : (s : List ℕ) → batchCheck s ≡ Check.Fine → getD s 1 0 ≤ 1
 unfolding batchCheck headed
 way s e =
-    let h = pick-fine (headed s) (faultFrom (countOf s) s 0) (Refusal.Batch 0) e .0 in
+    let h = pick-fine (headed s) (faultFrom (recordCount s) s 0) (Refusal.Batch 0) e .0 in
     let a = and-parts (leb 50 (length s)) (eqb (getD s 0 0) 3 && leb (getD s 1 0) 1) h .1 in
     leb-true (getD s 1 0) 1 (and-parts (eqb (getD s 0 0) 3) (leb (getD s 1 0) 1) a .1)
 
@@ -89,7 +100,7 @@ module _ (s : List ℕ) (lawful : Lawful s) where
   fine : batchCheck s ≡ Check.Fine
   fine = lawful .fine
 
-  written : Written (headingOf s) (edgesOf s)
+  written : WrittenFile (headingOf s) (edgesOf s)
   unfolding headingOf
   written = record {
     way = way s fine;
@@ -110,6 +121,17 @@ module _ (s : List ℕ) (lawful : Lawful s) where
   -- it opens, and its keys are those of the groups
   opens : openOf f ≡ Opening.Good (recordOf f)
   opens = file-opens (headingOf s) (edgesOf s) written
+
+  back : batchIn f ≡ s
+  back = batch-back (headingOf s) (edgesOf s) written ∙ batch-same s (lawful .bytes) fine
+
+  header : headerOf f ≡ HeaderRead.Good (headerFor 0 (flagsFor s) s)
+  unfolding headerIn
+  header =
+      let good = header-good f (recordOf f) opens in
+      let minor = minor-is (headingOf s) (edgesOf s) written in
+      let flags = flags-is (headingOf s) (edgesOf s) written in
+      good ∙ ap HeaderRead.Good (same-heading f (headerIn f) good ∙ (λ j. headerFor (minor j) (flags j) (back j)))
 
   placed : (all : Bool) (rooms : Rooms) (key : ℕ) → Placed key (groupsOf (edgesOf s)) (lookOf all rooms key f)
   placed all rooms key =
@@ -135,7 +157,8 @@ module _ (s : List ℕ) (lawful : Lawful s) where
   pub demand-2 : Demand2 s
   demand-2 = record {
     passes-check = full;
-    reads-out = batch-back (headingOf s) (edgesOf s) written ∙ batch-same s (lawful .bytes) fine;
+    reads-out = back;
+    says-header = header;
     looks-up = looked;
     looks-up-with = λ key rooms room. rw (by-record true rooms key) (looked key rooms room);
     finds = finding;

@@ -21,7 +21,7 @@ use Rattle.frame.specs.declared.Row.{Row}
 use Rattle.frame.specs.declared.Opened.{Opened}
 use Rattle.frame.specs.declared.Opening.{Opening}
 use Rattle.frame.specs.Kind as kind
-use Rattle.frame.specs.Frame.{all, rowsOf, countOf, keyCount, edgeCount, bitsOf, has, twice, sectionOf, kindsGood, flag, flagsOf, widthGood, sizesGood, presenceGood, countsGood, bodyOf, headCheck, footLen, recordFrom, recordOf, framedFrom, framedOf}
+use Rattle.frame.specs.Frame.{all, rowsOf, entryCount, keyCount, edgeCount, bitsOf, has, repeated, sectionOf, kindsGood, flag, flagsOf, widthGood, sizesGood, presenceGood, countsGood, bodyOf, headCheck, footLen, recordFrom, recordOf, framedFrom, framedOf}
 use Rattle.frame.specs.Frame.Laws.{Table}
 use Rattle.frame.specs.Open.{Known, knownOf, bytesAt, contentCheck, offsetsFrom, fencesGood, fileCheck, opening, openOf}
 use Rattle.frame.specs.Open.Laws.{Frames, frames-made}
@@ -30,10 +30,10 @@ use Rattle.laid_out.specs.Rows.{rowsIn, Small, small-is, leAt-at, count-back, b
 use Rattle.laid_out.specs.Laid.{length-laid, body-back, size-fine, tail-fine, sum-fine, file-rows, ranges-fine}
 use Rattle.batch.specs.declared.Edge.{Edge}
 use Rattle.batch.specs.Batch.{Heading, batchBytes}
-use Rattle.batch_groups.specs.Groups.{Group, groupsOf, flat, Grouped}
+use Rattle.batch_groups.specs.Groups.{anyDead, Group, groupsOf, flat, Grouped}
 use Rattle.batch_groups.specs.Groups.Laws.{flat-groups, groups-count}
-use Rattle.write_image.specs.Image.{anyDead, anyDense, keysIn, keyBytes, partnerBytes, widthOf, offsetBytes, logBytes, tombBytes, fencesOf, fenced, bit, flagsBy, lastSections, sectionsBy, layoutBy, layoutOf, fileOf}
-use Rattle.write_image.specs.Image.Laws.{length-keys, length-offsets, length-logs, length-tombs, width-most}
+use Rattle.write_image.specs.Image.{anyDense, keysIn, keyBytes, partnerBytes, widthOf, offsetBytes, logBytes, tombBytes, fencesOf, fenced, bit, flagsBy, lastSections, sectionsBy, layoutBy, layoutOf, fileOf}
+use Rattle.write_image.specs.Image.Laws.{length-keys, length-offsets, length-logBytes, length-tombs, width-most}
 use Rattle.full_check.specs.Full.{sumsFrom, groupsFrom, degreesFrom, denseFrom, deadFrom, dataGood, edgesCheck, fullCheck}
 use Rattle.readout.specs.Edges.{readFrom, edgesIn}
 use Rattle.readout.specs.ReadOut.{headingIn, batchIn}
@@ -41,7 +41,7 @@ use Rattle.demand2.specs.Rows.{width-fits, bit-is}
 use Rattle.demand2.specs.Contents.{keys-fine, tombs, Read, read-back}
 use Rattle.demand2.specs.Rules.{offsets-fine, dead-back, unused-back}
 use Rattle.demand2.specs.Fences.{fences-fine}
-use Rattle.demand2.specs.Sections.{AllRaw, raw-is, contentOf, hasKind, twiceKind, onceIn, has-is, kinds-is, names-fine, codecs-fine, raw-numbers, content-is, len-is, sums-fine, length-content}
+use Rattle.demand2.specs.Sections.{AllRaw, raw-is, contentOf, hasKind, twiceKind, onceIn, has-is, kinds-is, names-fine, codecs-fine, raw-numbers, content-laid, len-is, sums-fine, length-content}
 
 -- ---- the sections, whichever are there
 
@@ -113,7 +113,7 @@ flags-back d h dense dead =
 
 -- ---- the file of a heading and edges
 
-pub record Written (h : Heading) (es : List Edge) : Type 0 where
+pub record WrittenFile (h : Heading) (es : List Edge) : Type 0 where
   pub way : h .direction ≤ 1
   pub ids : length (h .ids) ≡ 48
   pub order : Grouped 0 (groupsOf es)
@@ -121,7 +121,7 @@ pub record Written (h : Heading) (es : List Edge) : Type 0 where
   pub edges : length es ≤ kind.mostEdges
   pub size : length (fileOf h es) ≤ kind.mostBytes
 
-module _ (h : Heading) (es : List Edge) (q : Written h es) where
+module _ (h : Heading) (es : List Edge) (q : WrittenFile h es) where
   abbrev gs : List Group
   gs = groupsOf es
 
@@ -210,7 +210,11 @@ module _ (h : Heading) (es : List Edge) (q : Written h es) where
 
   -- ---- the header
 
-  flags-is : flagsOf f ≡ flags
+  pub minor-is : getD f 9 0 ≡ 0
+  unfolding headBytes
+  minor-is = ap (λ (s : List ℕ). getD s 9 0) parts
+
+  pub flags-is : flagsOf f ≡ flags
   unfolding headBytes leBytes
   flags-is =
       let few = fl .few in
@@ -231,7 +235,7 @@ module _ (h : Heading) (es : List Edge) (q : Written h es) where
   table : Table (bodyOf f)
   unfolding kindsGood
   table =
-      let count : countOf (bodyOf f) ≡ length ss = ap countOf body-is ∙ count-back ss n (length es) (8 * w) small in
+      let count : entryCount (bodyOf f) ≡ length ss = ap entryCount body-is ∙ count-back ss n (length es) (8 * w) small in
       let some = t .some in
       let few = t .few in
       record {
@@ -244,7 +248,7 @@ module _ (h : Heading) (es : List Edge) (q : Written h es) where
 
   -- a section's bytes and length, and whether it is there
   content : (k : ℕ) → bytesAt f (sectionOf k (rowsOf (bodyOf f))) ≡ contentOf k ss
-  content k = ap (λ (r : List Row). bytesAt f (sectionOf k r)) rows ∙ content-is k ss f head (body ++ trailer body) 64 2 parts h64
+  content k = ap (λ (r : List Row). bytesAt f (sectionOf k r)) rows ∙ content-laid k ss f head (body ++ trailer body) 64 2 parts h64
 
   len : (k : ℕ) → sectionOf k (rowsOf (bodyOf f)) .len ≡ length (contentOf k ss)
   len k = ap (λ (r : List Row). sectionOf k r .len) rows ∙ len-is k ss 64 2
@@ -277,7 +281,7 @@ module _ (h : Heading) (es : List Edge) (q : Written h es) where
   sizes : sizesBy n (length es) (8 * w) (length (keyBytes gs)) (length os) (length (logBytes es)) dead (length (pick dead (tombBytes es) [])) ≡ true
   sizes =
       let eight : 8 * w / 8 ≡ w = omega arith in
-      let ll = length-logs es in
+      let ll = length-logBytes es in
       and-both (le-leb n kind.mostKeys (q .keys)) (and-both (le-leb (length es) kind.mostEdges (q .edges))
       (and-both (eq-eqb _ _ (length-keys gs)) (and-both (eq-eqb _ _ (length-offsets w n 0 gs ∙ ap (λ (z : ℕ). (n + 1) * z) (sym eight)))
       (and-both (eq-eqb (length (logBytes es)) (8 * length es) (omega arith)) (tomb-len dead)))))

@@ -10,6 +10,7 @@ use lib.ListN.{length, getD, take, drop, length-append}
 use lib.Seq.{split-at, length-take-le, getD-drop, drop-drop, drop-nil}
 use lib.Dec.{eqb, ltb}
 use borrow.Author.Tests.{lt-ltb, le-ltb}
+use Rattle.batch.specs.Batch.{logsIn, marksIn}
 use Rattle.base.specs.Pick.{pick}
 use Rattle.codes.specs.declared.ids.Id.{Id}
 use Rattle.codes.specs.Little.{leAt, leBytes}
@@ -19,8 +20,8 @@ use Rattle.codes.specs.Ids.Laws.{halves-back, length-idBytes}
 use Rattle.group.specs.Group.{bytesOf}
 use Rattle.group.specs.Group.Laws.{length-bytesOf}
 use Rattle.batch.specs.declared.Edge.{Edge}
-use Rattle.batch_groups.specs.Groups.{Group, Fits}
-use Rattle.write_image.specs.Image.{logsIn, marksIn, keysIn, anyDead, bytesIn, numbers, partnerBytes, startsFrom, widthOf, bit, octet, octets}
+use Rattle.batch_groups.specs.Groups.{anyDead, Group, IdFits}
+use Rattle.write_image.specs.Image.{keysIn, bytesIn, numbers, partnerBytes, startsFrom, widthOf, bit, octet, octets}
 use Rattle.write_image.specs.Image.Laws.{length-numbers}
 
 -- ---- numbers of w bytes
@@ -51,7 +52,7 @@ unfolding bytesOf
 ids-append [] ls = refl
 ids-append (k ∷ ks) ls = ap (λ (t : List ℕ). idBytes k ++ t) (ids-append ks ls) ∙ sym (append-assoc (idBytes k) (bytesOf ks) (bytesOf ls))
 
-pub ids-mid : (ks : List Id) (k : Id) (ls : List Id) → Fits k → halvesAt (bytesOf (ks ++ k ∷ ls)) (length ks * 16) ≡ k
+pub ids-mid : (ks : List Id) (k : Id) (ls : List Id) → IdFits k → halvesAt (bytesOf (ks ++ k ∷ ls)) (length ks * 16) ≡ k
 unfolding bytesOf
 ids-mid ks k ls f =
     let l : length ks * 16 ≡ length (bytesOf ks) = omega (arith, length-bytesOf ks) in

@@ -10,27 +10,28 @@ use lib.ListN.{length, getD, drop, take, length-append, List·getD-eq-default}
 use lib.Seq.{drop-cons, getD-append-add, append-snoc}
 use lib.Dec.{ltb, leb, eqb, lit<}
 use borrow.Author.Tests.{lt-ltb, eq-eqb, ne-eqb, le-leb, eqb-true}
+use Rattle.batch.specs.Batch.{marksIn}
 use Rattle.base.specs.Pick.{pick}
 use Rattle.codes.specs.declared.ids.Id.{Id}
 use Rattle.codes.specs.Little.{leAt, leBytes}
 use Rattle.codes.specs.Little.Laws.{leAt-back, length-leBytes}
-use Rattle.codes.specs.Ids.{idAt, numberOf, idBytes, halvesAt}
+use Rattle.codes.specs.Ids.{idAt, idNumber, idBytes, halvesAt}
 use Rattle.codes.specs.Ids.Laws.{number-halves, halves-back, length-idBytes}
 use Rattle.refusal.specs.declared.Refusal.{Refusal}
 use Rattle.refusal.specs.declared.Check.{Check}
 use Rattle.refusal.specs.Check.Laws.{fine-pick, and-both}
 use Rattle.frame.specs.Kind as kind
-use Rattle.frame.specs.Open.{keyAt, offsetAt, offsetGood, offsetsFrom, fenceGood, fencesFrom, fencesGood, strideOf, fenceCount}
+use Rattle.frame.specs.Open.{keyAt, offsetAt, offsetGood, offsetsFrom, fenceGood, fencesFrom, fencesGood, strideOf, fencesTold}
 use Rattle.lookup.specs.Lookup.{markAt}
 use Rattle.batch.specs.declared.Edge.{Edge}
-use Rattle.batch_groups.specs.Groups.{none, Group, Fits, Grouped}
-use Rattle.write_image.specs.Image.{marksIn, keysIn, anyDead, keyBytes, partnerBytes, offsetBytes, tombBytes, stride, fenceBytes, fencesOf}
+use Rattle.batch_groups.specs.Groups.{none, anyDead, Group, IdFits, Grouped}
+use Rattle.write_image.specs.Image.{keysIn, keyBytes, partnerBytes, offsetBytes, tombBytes, stride, fenceBytes, fencesOf}
 use Rattle.write_image.specs.Image as image
 use Rattle.write_image.specs.Image.Laws.{length-keysIn, length-fence, length-fences, fences-are, fence-is, length-tombs}
 use Rattle.laid_out.specs.Rows.{leAt-at, leAt-past}
 use Rattle.full_check.specs.Full.{deadFrom}
 use Rattle.demand2.specs.Rows.{length-marksIn, marks-at}
-use Rattle.demand2.specs.Contents.{offset-is, offset-rises, offset-first, offset-last, key-number, tombs, mark-is}
+use Rattle.demand2.specs.Contents.{offset-is, offset-rises, offset-first, offset-last, group-key, tombs, mark-is}
 
 -- ---- groups by their number
 

@@ -14,7 +14,7 @@ use Rattle.refusal.specs.declared.Check.{Check}
 use Rattle.refusal.specs.Check.Laws.{fine-pick, and-both}
 use Rattle.frame.specs.declared.Row.{Row}
 use Rattle.frame.specs.Kind as kind
-use Rattle.frame.specs.Frame.{rangeOf, has, twice, sectionOf, all, nameGood, onceGood, codecGood, codecs}
+use Rattle.frame.specs.Frame.{rangeOf, has, repeated, sectionOf, all, nameGood, onceGood, codecGood, codecs}
 use Rattle.frame.specs.Open.{bytesAt}
 use Rattle.frame.specs.Layout.{Section, rawSection, payload}
 use Rattle.laid_out.specs.Sum.{xxh3-lt}
@@ -57,8 +57,8 @@ unfolding has rowsIn hasKind
 has-is k [] at i = refl
 has-is k (s ∷ ss) at i = ap (λ (t : Bool). eqb (s .kind) k || t) (has-is k ss _ _)
 
-pub twice-is : (k : ℕ) (ss : List Section) (at i : ℕ) → twice k (rowsIn at i ss) ≡ twiceKind k ss
-unfolding twice rowsIn twiceKind
+pub twice-is : (k : ℕ) (ss : List Section) (at i : ℕ) → repeated k (rowsIn at i ss) ≡ twiceKind k ss
+unfolding repeated rowsIn twiceKind
 twice-is k [] at i = refl
 twice-is k (s ∷ ss) at i = ap₂ (λ (t u : Bool). pick (eqb (s .kind) k) t u) (has-is k ss _ _) (twice-is k ss _ _)
 
@@ -111,13 +111,13 @@ first : (f p : List ℕ) (s : Section) (ss : List Section) (q : List ℕ) (at : 
     → bytesAt f (record { start = at; len = length (s .bytes) }) ≡ s .bytes
 first f p s ss q at e l = ap₂ (λ (t : List ℕ) (a : ℕ). bytesAt t (record { start = a; len = length (s .bytes) })) e (sym l) ∙ bytes-first p s ss q
 
-pub content-is : (k : ℕ) (ss : List Section) (f p q : List ℕ) (at i : ℕ) → f ≡ p ++ (payload ss ++ q) → length p ≡ at
+pub content-laid : (k : ℕ) (ss : List Section) (f p q : List ℕ) (at i : ℕ) → f ≡ p ++ (payload ss ++ q) → length p ≡ at
     → bytesAt f (sectionOf k (rowsIn at i ss)) ≡ contentOf k ss
 unfolding sectionOf rowsIn contentOf
-content-is k [] f p q at i e l = refl
-content-is k (s ∷ ss) f p q at i e l =
+content-laid k [] f p q at i e l = refl
+content-laid k (s ∷ ss) f p q at i e l =
     go (eqb (s .kind) k) (first f p s ss q at e l)
-    (content-is k ss f (p ++ s .bytes) q (at + length (s .bytes)) (i + 28 + length (s .name)) (after f p s ss q e) (length-append p (s .bytes) ∙ ap (λ (t : ℕ). t + length (s .bytes)) l))
+    (content-laid k ss f (p ++ s .bytes) q (at + length (s .bytes)) (i + 28 + length (s .name)) (after f p s ss q e) (length-append p (s .bytes) ∙ ap (λ (t : ℕ). t + length (s .bytes)) l))
   where
     rest : List Row
     rest = rowsIn (at + length (s .bytes)) (i + 28 + length (s .name)) ss

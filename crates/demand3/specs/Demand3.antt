@@ -7,16 +7,21 @@ use mathlib.Core.Logic.{_↔_}
 use Prim.Native.Nat.{ℕ}
 use mathlib.Core.List.{List}
 use mathlib.Core.Bool.{Bool, true, not}
+use Rattle.base.specs.Bytes.{Bytes}
 use Rattle.frame.specs.declared.Opened.{Opened}
 use Rattle.frame.specs.declared.Opening.{Opening}
+use Rattle.frame.specs.declared.ends.Header.{Header}
 use Rattle.frame.specs.Kind as kind
-use Rattle.frame.specs.Frame.{all, rowsOf, bodyOf, recordOf}
+use Rattle.frame.specs.Frame.{all, rowsOf, bodyOf, recordOf, atMinor}
+use Rattle.frame.specs.Frame.Laws.{header-minor}
 use Rattle.frame.specs.Open.{openOf}
 use Rattle.lookup.specs.Lookup.{Rooms, lookOf, lookWith}
+use Rattle.reader.specs.declared.header.HeaderRead.{HeaderRead}
+use Rattle.reader.specs.Header.{headerOf, header-opens, header-good}
 use Rattle.reader.specs.Look.{with-record}
 use Rattle.laid_out.specs.Laid.{file-rows}
 use Rattle.demand3.specs.Stripped.{Stripped, Later, opened-later, copy-opens, copy-answers, added-opens}
-use Rattle.demand3.specs.Strip.{strip, stripped, Bytes, is-copy, h64, small, fits}
+use Rattle.demand3.specs.Strip.{strip, stripped, is-copy, h64, small, fits}
 use Rattle.demand3.specs.Whole.{Byted, byted-strip, none-unknown}
 
 -- f opens to o, and g is a copy of it without the unknown sections
@@ -25,6 +30,8 @@ pub record Alike (f : List ℕ) (o : Opened) (g : List ℕ) : Type 0 where
   -- from the file, and from the records that opening gave
   pub answers : (full : Bool) (rooms : Rooms) (key : ℕ) → lookOf full rooms key g ≡ lookOf full rooms key f
   pub answers-with : (full : Bool) (rooms : Rooms) (key : ℕ) → lookWith full rooms key g (recordOf g) ≡ lookWith full rooms key f o
+  -- and the header is the file's, at minor version 0
+  pub header : (h : Header) → headerOf f ≡ HeaderRead.Good h → headerOf g ≡ HeaderRead.Good (atMinor 0 h)
 
 -- bytes, a copy, no unknown kind in it, and the same answers
 pub record Copy (f : List ℕ) (o : Opened) (g : List ℕ) : Type 0 where
@@ -55,6 +62,9 @@ alike f o e g s = record {
   answers = copy-answers f g s o e;
   answers-with = λ full rooms key.
       with-record full rooms key g (recordOf g) (copy-opens f g s o e) ∙ copy-answers f g s o e full rooms key ∙ sym (with-record full rooms key f o e);
+  header = λ h q.
+      header-good g (recordOf g) (copy-opens f g s o e)
+      ∙ ap HeaderRead.Good (header-minor g f (s .header) ∙ (λ j. atMinor (s .minor j) (header-opens f h .0 q .1 j)));
 }
 
 stripped-copy : (f : List ℕ) → Bytes f → (o : Opened) → openOf f ≡ Opening.Good o → Copy f o (strip f)

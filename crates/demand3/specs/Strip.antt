@@ -12,6 +12,7 @@ use lib.Dec.{ltb, leb, eqb}
 use borrow.Author.Tests.{leb-true}
 use Rattle.base.specs.Pick.{pick}
 use Rattle.base.specs.Over.{part, length-part}
+use Rattle.base.specs.Bytes.{Bytes, bytes-part}
 use Rattle.codes.specs.Little.{leAt, leBytes}
 use Rattle.codes.specs.Little.Laws.{leAt-lt}
 use Rattle.xxh3_spec.specs.Xxh3.{xxh3}
@@ -19,12 +20,12 @@ use Rattle.refusal.specs.declared.Refusal.{Refusal}
 use Rattle.refusal.specs.declared.Check.{Check}
 use Rattle.refusal.specs.Check.Laws.{pick-fine, and-parts}
 use Rattle.frame.specs.declared.Row.{Row}
-use Rattle.frame.specs.Frame.{rangeOf, rowAt, nextAt, rowsFrom, endFrom, rowsOf, endOf, countOf, keyCount, edgeCount, bitsOf, rangeGood, ranges, footLen, bodyOf}
+use Rattle.frame.specs.Frame.{rangeOf, rowAt, nextAt, rowsFrom, endFrom, rowsOf, endOf, entryCount, keyCount, edgeCount, bitsOf, rangeGood, ranges, footLen, bodyOf}
 use Rattle.frame.specs.Kind as kind
 use Rattle.frame.specs.Frame.Laws.{length-rows, end-room, ranges-parts, ranges-made}
 use Rattle.frame.specs.Open.Laws.{size-parts, tail-parts}
 use Rattle.frame.specs.Layout.{Section, Layout, payload, entry, entries, bodyBytes, trailer, layOut}
-use Rattle.laid_out.specs.Rows.{rowsIn, Fits, AllFit, Small, length-entry, past-first, length-first, name-back, length-body, body-rows, body-end, keys-back, edges-back, bits-back}
+use Rattle.laid_out.specs.Rows.{rowsIn, SectionFits, SectionsFit, Small, length-entry, past-first, length-first, name-back, length-body, body-rows, body-end, keys-back, edges-back, bits-back}
 use Rattle.laid_out.specs.Laid.{length-laid, sum-back, magic-back, body-back, size-fine, tail-fine, file-rows, ranges-fine, head-back, bytes-first}
 use Rattle.demand3.specs.Stripped.{Kept, Copied, none, dropped, kept, Outer, Stripped, Later}
 
@@ -55,12 +56,9 @@ stripped f = record {
 unfoldable pub strip : List ℕ → List ℕ
 strip f = layOut (stripped f)
 
-abbrev pub Bytes : List ℕ → Type 0
-Bytes s = (j : ℕ) → getD s j 0 < 2 ^ 8
-
 -- ---- what is asked of each entry
 
-pub record Within (f b : List ℕ) (r : Row) : Type 0 where
+pub record RowWithin (f b : List ℕ) (r : Row) : Type 0 where
   pub kind : r .kind < 2 ^ 16
   pub sum : r .sum < 2 ^ 64
   pub name : r .nameat + r .namelen ≤ length b
@@ -68,7 +66,7 @@ pub record Within (f b : List ℕ) (r : Row) : Type 0 where
 
 pub data AllWithin (f b : List ℕ) : List Row → Type 0 where
   end : AllWithin f b []
-  more : {r : Row} {rs : List Row} → Within f b r → AllWithin f b rs → AllWithin f b (r ∷ rs)
+  more : {r : Row} {rs : List Row} → RowWithin f b r → AllWithin f b rs → AllWithin f b (r ∷ rs)
 
 module _ (f b : List ℕ) (by : Bytes b) (limit : ℕ) (lim : limit ≤ length f) where
   within : (d i floor k : ℕ) → endFrom d b i ≤ length b → ranges limit (rowsFrom d b i) floor k ≡ Check.Fine → AllWithin f b (rowsFrom d b i)
@@ -80,7 +78,7 @@ module _ (f b : List ℕ) (by : Bytes b) (limit : ℕ) (lim : limit ≤ length f
       let q = and-parts (leb floor (r .start)) (leb (r .start + r .len) limit) (p .0) in
       let in1 : r .start + r .len ≤ limit = leb-true (r .start + r .len) limit (q .1) in
       let room = end-room d b (nextAt b i) in
-      let one : Within f b (rowAt b i) = record { kind = leAt-lt b by i 2; sum = leAt-lt b by (i + 20) 8; name = omega arith; bytes = omega arith } in
+      let one : RowWithin f b (rowAt b i) = record { kind = leAt-lt b by i 2; sum = leAt-lt b by (i + 20) 8; name = omega arith; bytes = omega arith } in
       more one (within d (nextAt b i) (r .start + r .len) (k + 1) e (p .1))
 
   -- the sections lie apart, so together they are no longer than the room
@@ -139,8 +137,8 @@ fewer f b (r ∷ rs) = go (kind.unknown (r .kind)) (fewer f b rs)
     go false h = omega arith
 
 -- every kept section fits its entry
-all-fit : (f b : List ℕ) {rs : List Row} → AllWithin f b rs → (at : ℕ) → at + length (payload (keptOf f b rs)) < 2 ^ 64 → AllFit at (keptOf f b rs)
-unfolding keptOf AllFit payload sectionAt
+all-fit : (f b : List ℕ) {rs : List Row} → AllWithin f b rs → (at : ℕ) → at + length (payload (keptOf f b rs)) < 2 ^ 64 → SectionsFit at (keptOf f b rs)
+unfolding keptOf SectionsFit payload sectionAt
 all-fit f b end at h = tt
 all-fit f b (more {r} {rs} w ws) at h = go (kind.unknown (r .kind)) (all-fit f b ws) h
   where
@@ -150,7 +148,7 @@ all-fit f b (more {r} {rs} w ws) at h = go (kind.unknown (r .kind)) (all-fit f b
     s : Section
     s = sectionAt f b r
 
-    go : (u : Bool) → ((a : ℕ) → a + length (payload rest) < 2 ^ 64 → AllFit a rest) → at + length (payload (pick u rest (s ∷ rest))) < 2 ^ 64 → AllFit at (pick u rest (s ∷ rest))
+    go : (u : Bool) → ((a : ℕ) → a + length (payload rest) < 2 ^ 64 → SectionsFit a rest) → at + length (payload (pick u rest (s ∷ rest))) < 2 ^ 64 → SectionsFit at (pick u rest (s ∷ rest))
     go true ih h = ih at h
     go false ih h =
         let l = length-append (s .bytes) (payload rest) in
@@ -194,12 +192,6 @@ copied f b g c (more {r} {rs} w ws) at i p q l e x y m d = go (kind.unknown (r .
 
 -- ---- the copy
 
-pub bytes-part : (s : List ℕ) → Bytes s → (a e : ℕ) → Bytes (part s a e)
-bytes-part s by a e j = elim (decLt j (e - a)) [
-  | yes h ↦ rw (getD-take (e - a) (drop a s) j 0 h, getD-drop a s j 0) (by (a + j))
-  | no h ↦ rw (List·getD-eq-default (part s a e) 0 {n = j} (simp length-take (omega arith))) (omega arith)
-]
-
 module _ (f : List ℕ) (by : Bytes f) (l : Later f) where
   abbrev b : List ℕ
   b = bodyOf f
@@ -226,19 +218,19 @@ module _ (f : List ℕ) (by : Bytes f) (l : Later f) where
 
   ok : AllWithin f b (rowsOf b)
   unfolding rowsOf endOf limit
-  ok = within f b bytes-b limit (omega arith) (countOf b) 2 64 0 (omega (arith, z .fills)) apart
+  ok = within f b bytes-b limit (omega arith) (entryCount b) 2 64 0 (omega (arith, z .fills)) apart
 
   paid : 64 + length (payload ss) ≤ length f - footLen f
   unfolding rowsOf limit
-  paid = total f b bytes-b limit (omega arith) (countOf b) 2 64 0 (omega (arith, z .low, z .most)) apart
+  paid = total f b bytes-b limit (omega arith) (entryCount b) 2 64 0 (omega (arith, z .low, z .most)) apart
 
   shorter : length (entries 64 ss) + 19 ≤ length b
   unfolding rowsOf endOf
-  shorter = omega (arith, names-total f b (countOf b) 2 64 (omega (arith, z .fills)), z .fills)
+  shorter = omega (arith, names-total f b (entryCount b) 2 64 (omega (arith, z .fills)), z .fills)
 
   pub small : Small ss
   unfolding rowsOf
-  small = (omega (arith, fewer f b (rowsOf b), length-rows (countOf b) b 2, l .few), all-fit f b ok 64 (omega (arith, paid, z .high)))
+  small = (omega (arith, fewer f b (rowsOf b), length-rows (entryCount b) b 2, l .few), all-fit f b ok 64 (omega (arith, paid, z .high)))
 
   pub h64 : length (set (take 64 f) 9 0) ≡ 64
   h64 = rw length-set (length-take-le 64 f (omega (arith, z .low)))

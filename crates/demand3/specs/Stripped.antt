@@ -21,7 +21,7 @@ use Rattle.frame.specs.declared.Range.{Range}
 use Rattle.frame.specs.declared.Opened.{Opened}
 use Rattle.frame.specs.declared.Opening.{Opening}
 use Rattle.frame.specs.Kind as kind
-use Rattle.frame.specs.Frame.{recordFrom, recordOf, framedFrom, framedOf, has, twice, rangeOf, sectionOf, all, nameGood, kindsGood, codecGood, codecs, ranges, countOf, rowsOf, endOf, countsGood, keyCount, edgeCount, bitsOf, bodyOf, footLen, flagsOf, sizeCheck, tailCheck, sumCheck, frameCheck}
+use Rattle.frame.specs.Frame.{recordFrom, recordOf, framedFrom, framedOf, has, repeated, rangeOf, sectionOf, all, nameGood, kindsGood, codecGood, codecs, ranges, entryCount, rowsOf, endOf, countsGood, keyCount, edgeCount, bitsOf, bodyOf, footLen, flagsOf, sizeCheck, tailCheck, sumCheck, frameCheck}
 use Rattle.frame.specs.Frame.Laws.{length-rows, Table, Apart, Short, names-short, ranges-parts, ranges-made, SameKnown, skipped, section-skipped, kinds-known, kinds-some, counts-known, codec-skipped, name-skipped, ButMinor, flags-minor, head-minor}
 use Rattle.frame.specs.Open.{Known, knownOf, bytesAt, contentCheck, fileCheck, openOf}
 use Rattle.frame.specs.Open.Laws.{frames-made, opens-parts, opens-record, opens-fine, size-parts, size-made, tail-parts, tail-magic, tail-made, sum-parts, sum-made}
@@ -77,7 +77,7 @@ pub record Stripped (f g : List ℕ) : Type 0 where
 -- what is asked of a later writer's file besides: at most 64 sections, and names of at most 63 bytes
 pub record Later (f : List ℕ) : Type 0 where
   pub outer : Outer f
-  pub few : countOf (bodyOf f) ≤ 64
+  pub few : entryCount (bodyOf f) ≤ 64
   pub names : Short (rowsOf (bodyOf f))
 
 -- ---- what a copied table keeps, of a kind that is known
@@ -89,12 +89,12 @@ module _ (f b g c : List ℕ) where
   has-copied k h (dropped {r} {rs} u d) = has-copied k h d ∙ skipped r rs u .there k h
   has-copied k h (kept u w d) = rw (w .kind, has-copied k h d)
 
-  twice-copied : (k : ℕ) → kind.unknown k ≡ false → {rs ts : List Row} → Copied f b g c rs ts → twice k ts ≡ twice k rs
-  unfolding twice
+  twice-copied : (k : ℕ) → kind.unknown k ≡ false → {rs ts : List Row} → Copied f b g c rs ts → repeated k ts ≡ repeated k rs
+  unfolding repeated
   twice-copied k h none = refl
   twice-copied k h (dropped {r} {rs} u d) = twice-copied k h d ∙ skipped r rs u .doubled k h
   twice-copied k h (kept {r} {t} {rs} {ts} u w d) =
-      ap (λ (x : ℕ). pick (eqb x k) (has k ts) (twice k ts)) (w .kind)
+      ap (λ (x : ℕ). pick (eqb x k) (has k ts) (repeated k ts)) (w .kind)
       ∙ ap₂ (λ (x y : Bool). pick (eqb (r .kind) k) x y) (has-copied k h d) (twice-copied k h d)
 
   len-copied : (k : ℕ) → kind.unknown k ≡ false → {rs ts : List Row} → Copied f b g c rs ts → sectionOf k ts .len ≡ sectionOf k rs .len
@@ -157,9 +157,9 @@ module _ (f b g c : List ℕ) where
   length-copied (dropped u d) = omega (arith, length-copied d)
   length-copied (kept u w d) = omega (arith, length-copied d)
 
-rows-count : (b : List ℕ) → length (rowsOf b) ≡ countOf b
+rows-count : (b : List ℕ) → length (rowsOf b) ≡ entryCount b
 unfolding rowsOf
-rows-count b = length-rows (countOf b) b 2
+rows-count b = length-rows (entryCount b) b 2
 
 -- ---- the copy opens exactly if the file does, and knows the same
 
@@ -226,7 +226,7 @@ module _ (f g : List ℕ) (s : Stripped f g) where
   kinds-same : kindsGood (rowsOf c) ≡ kindsGood (rowsOf b)
   kinds-same = kinds-known (rowsOf b) (rowsOf c) table-known
 
-  fewer : countOf c ≤ countOf b
+  fewer : entryCount c ≤ entryCount b
   fewer = omega (arith, rows-count c, rows-count b, length-copied f b g c (s .table))
 
   -- the copy's table

@@ -8,13 +8,14 @@ use lib.ListN.{length, getD, take, drop, set, length-take}
 use lib.Dec.{lit<}
 use Rattle.base.specs.Pick.{pick}
 use Rattle.base.specs.Over.{part}
+use Rattle.base.specs.Bytes.{Bytes, bytes-part}
 use Rattle.codes.specs.Little.{leBytes}
 use Rattle.frame.specs.declared.Row.{Row}
 use Rattle.frame.specs.Kind as kind
-use Rattle.frame.specs.Frame.{all, rowsOf, bodyOf, footLen, rowAt, nextAt, rowsFrom, countOf}
+use Rattle.frame.specs.Frame.{all, rowsOf, bodyOf, footLen, rowAt, nextAt, rowsFrom, entryCount}
 use Rattle.frame.specs.Layout.{Section, Layout, payload, entry, entries, bodyBytes, trailer, layOut}
 use Rattle.laid_out.specs.Rows.{rowsIn}
-use Rattle.demand3.specs.Strip.{sectionAt, keptOf, stripped, strip, Bytes, bytes-part}
+use Rattle.demand3.specs.Strip.{sectionAt, keptOf, stripped, strip}
 
 -- every element is a byte
 pub data Byted : List ℕ → Type 0 where
@@ -119,4 +120,4 @@ pub byted-strip : (f : List ℕ) → Bytes f → Byted (strip f)
 unfolding strip stripped rowsOf bodyOf
 byted-strip f by =
     let bb : Bytes (bodyOf f) = bytes-part f by (length f - footLen f) (length f - 20) in
-    byted-laid (stripped f) (byted-set 9 0 (lit< tt) (byted-take 64 (byted f by))) (plain-kept f (bodyOf f) by bb (countOf (bodyOf f)) 2) (bb (length (bodyOf f) - 1))
+    byted-laid (stripped f) (byted-set 9 0 (lit< tt) (byted-take 64 (byted f by))) (plain-kept f (bodyOf f) by bb (entryCount (bodyOf f)) 2) (bb (length (bodyOf f) - 1))

@@ -5,12 +5,16 @@ use mathlib.Core.Bool.{true, false}
 use Prim.Native.Nat.{_/_, _≤_}
 use lib.ListN.{length}
 use denote.Ref.{now}
+use Rattle.base.specs.Bytes.{Bytes}
+use Rattle.base.specs.Over.{part}
 use Rattle.codes.specs.Ids.{idAt}
 use Rattle.refusal.specs.declared.Check.{Check}
 use Rattle.frame.specs.declared.Opening.{Opening}
 use Rattle.frame.specs.Open.{openOf}
+use Rattle.reader.specs.declared.header.HeaderRead.{HeaderRead}
+use Rattle.reader.specs.Header.{headerOf}
 use Rattle.lookup.specs.declared.Looked.{Looked}
-use Rattle.lookup.specs.Lookup.{answerOf, lookOf, lookWith}
+use Rattle.lookup.specs.Lookup.{lookedOf, lookOf, lookWith}
 use Rattle.lookup.specs.Calls.{alone, lent, Alone, Whole}
 use Rattle.full_check.specs.Full.{fullCheck}
 use Rattle.readout.specs.declared.ReadOut.{ReadOut}
@@ -19,12 +23,14 @@ use Rattle.write_file.specs.declared.Written.{Written}
 use Rattle.write_file.specs.Written.{neededOf, writtenOf, Wrote}
 use Rattle.listing.specs.declared.Listed.{Listed}
 use Rattle.listing.specs.List as list
-use Rattle.edge_sst_c.specs.Look.{recordFrom}
-use Rattle.edge_sst_c.specs.Back.{openingFrom, lookedFrom, checkFrom, readFrom, writtenFrom, listedFrom, opening-back, looked-back, check-back, read-back, written-back, listed-back}
-use Rattle.edge_sst_c.specs.Refused.{Tells, Unfound, opened-tells, looked-tells, check-tells, read-tells, written-tells, listed-tells, partners-stay, edges-stay, read-stays, write-stays, sections-stay}
+use Rattle.edge_sst_c.specs.Look.{recordLent}
+use Rattle.edge_sst_c.specs.Back.{openingFrom, headerFrom, lookedFrom, checkFrom, readFrom, writtenFrom, listedFrom, opening-back, header-back, header-bytes, looked-back, check-back, read-out-back, written-back, listed-back}
+use Rattle.edge_sst_c.specs.Refused.{Tells, Unfound, opened-tells, header-tells, looked-tells, check-tells, read-tells, written-tells, listed-tells, partners-stay, edges-stay, read-stays, write-stays, sections-stay}
 use Rattle.edge_sst_c.proofs.Every.{Every}
 use Rattle.edge_sst_c.proofs.edge_sst_open as c-open
 use Rattle.edge_sst_c.proofs.edge_sst_open.Reads as c-open-reads
+use Rattle.edge_sst_c.proofs.header.edge_sst_header as c-header
+use Rattle.edge_sst_c.proofs.header.edge_sst_header.Reads as c-header-reads
 use Rattle.edge_sst_c.proofs.look.edge_sst_partners as c-partners
 use Rattle.edge_sst_c.proofs.look.edge_sst_partners.Reads as c-partners-reads
 use Rattle.edge_sst_c.proofs.look.edge_sst_partners_with as c-partners-with
@@ -49,27 +55,36 @@ use Rattle.edge_sst_c.proofs.section_list.edge_sst_sections.Reads as c-
 pub open-says : Every c-open.ended c-open-reads.Post (λ κs a r e. openingFrom r ≡ openOf (now (a .0)))
 open-says κs a r e p = ap openingFrom p ∙ opening-back (now (a .0)) (openOf (now (a .0))) refl
 
+-- the lent bytes are bytes: the ids are told as theirs
+pub header-says : Every c-header.ended c-header-reads.Post (λ κs a r e. Bytes (now (a .0)) → headerFrom r ≡ headerOf (now (a .0)))
+header-says κs a r e p by = ap headerFrom p ∙ header-back (now (a .0)) by (headerOf (now (a .0))) refl
+
+-- and their bytes are the header's own
+pub header-ids : Every c-header.ended c-header-reads.Post (λ κs a r e. Bytes (now (a .0)) → r .number ≡ 0
+    → (r .edgetype ≡ part (now (a .0)) 16 32) × (r .source ≡ part (now (a .0)) 32 48) × (r .destination ≡ part (now (a .0)) 48 64))
+header-ids κs a r e p by = rw p (header-bytes (now (a .0)) by (headerOf (now (a .0))) refl)
+
 pub partners-says : Every c-partners.ended c-partners-reads.Post
-    (λ κs a r e. lookedFrom r ≡ answerOf (lookOf false (alone (length (now (a .1 .1 .0)))) (idAt (now (a .1 .0)) 0) (now (a .0))))
+    (λ κs a r e. lookedFrom r ≡ lookedOf (lookOf false (alone (length (now (a .1 .1 .0)))) (idAt (now (a .1 .0)) 0) (now (a .0))))
 partners-says κs a r e p = ap lookedFrom (p .answer) ∙ looked-back _
 
 pub partners-with-says : Every c-partners-with.ended c-partners-with-reads.Post
-    (λ κs a r e. lookedFrom r ≡ answerOf (lookWith false (alone (length (now (a .1 .1 .1 .0)))) (idAt (now (a .1 .1 .0)) 0) (now (a .0)) (recordFrom (now (a .1 .0)))))
+    (λ κs a r e. lookedFrom r ≡ lookedOf (lookWith false (alone (length (now (a .1 .1 .1 .0)))) (idAt (now (a .1 .1 .0)) 0) (now (a .0)) (recordLent (now (a .1 .0)))))
 partners-with-says κs a r e p = ap lookedFrom (p .answer) ∙ looked-back _
 
 pub lookup-says : Every c-lookup.ended c-lookup-reads.Post
-    (λ κs a r e. lookedFrom r ≡ answerOf (lookOf true (lent (length (now (a .1 .1 .0))) (length (now (a .1 .1 .1 .0))) (length (now (a .1 .1 .1 .1 .0)))) (idAt (now (a .1 .0)) 0) (now (a .0))))
+    (λ κs a r e. lookedFrom r ≡ lookedOf (lookOf true (lent (length (now (a .1 .1 .0))) (length (now (a .1 .1 .1 .0))) (length (now (a .1 .1 .1 .1 .0)))) (idAt (now (a .1 .0)) 0) (now (a .0))))
 lookup-says κs a r e p = ap lookedFrom (p .answer) ∙ looked-back _
 
 pub lookup-with-says : Every c-lookup-with.ended c-lookup-with-reads.Post
-    (λ κs a r e. lookedFrom r ≡ answerOf (lookWith true (lent (length (now (a .1 .1 .1 .0))) (length (now (a .1 .1 .1 .1 .0))) (length (now (a .1 .1 .1 .1 .1 .0)))) (idAt (now (a .1 .1 .0)) 0) (now (a .0)) (recordFrom (now (a .1 .0)))))
+    (λ κs a r e. lookedFrom r ≡ lookedOf (lookWith true (lent (length (now (a .1 .1 .1 .0))) (length (now (a .1 .1 .1 .1 .0))) (length (now (a .1 .1 .1 .1 .1 .0)))) (idAt (now (a .1 .1 .0)) 0) (now (a .0)) (recordLent (now (a .1 .0)))))
 lookup-with-says κs a r e p = ap lookedFrom (p .answer) ∙ looked-back _
 
 pub check-says : Every c-check.ended c-check-reads.Post (λ κs a r e. checkFrom r ≡ fullCheck (now (a .0)))
 check-says κs a r e p = ap checkFrom p ∙ check-back _
 
 pub read-out-says : Every c-read-out.ended c-read-out-reads.Post (λ κs a r e. readFrom r ≡ readOutOf (now (a .0)) (length (now (a .1 .0))))
-read-out-says κs a r e p = ap readFrom (p .0) ∙ read-back _
+read-out-says κs a r e p = ap readFrom (p .0) ∙ read-out-back _
 
 pub needed-says : Every c-needed.ended c-needed-reads.Post (λ κs a r e. writtenFrom r ≡ neededOf (now (a .0)))
 needed-says κs a r e p = ap writtenFrom p ∙ written-back _
@@ -77,7 +92,7 @@ needed-says κs a r e p = ap writtenFrom p ∙ written-back _
 pub write-says : Every c-write.ended c-write-reads.Post (λ κs a r e. writtenFrom r ≡ writtenOf (now (a .0)) (length (now (a .1 .0))))
 write-says κs a r e p = ap writtenFrom (p .answer) ∙ written-back _
 
-pub sections-says : Every c-sections.ended c-sections-reads.Post (λ κs a r e. listedFrom r ≡ list.answerOf (now (a .0)) (length (now (a .1 .0)) / 7))
+pub sections-says : Every c-sections.ended c-sections-reads.Post (λ κs a r e. listedFrom r ≡ list.listedOf (now (a .0)) (length (now (a .1 .0)) / 7))
 sections-says κs a r e p = ap listedFrom (p .0) ∙ listed-back _
 
 -- ---- number
@@ -85,21 +100,24 @@ sections-says κs a r e p = ap listedFrom (p .0) ∙ listed-back _
 pub open-number : Every c-open.ended c-open-reads.Post (λ κs a r e. Tells Opening.Refused (openOf (now (a .0))) (r .number))
 open-number κs a r e p = rw p (opened-tells (openOf (now (a .0))))
 
+pub header-number : Every c-header.ended c-header-reads.Post (λ κs a r e. Tells HeaderRead.Refused (headerOf (now (a .0))) (r .number))
+header-number κs a r e p = rw p (header-tells (headerOf (now (a .0))))
+
 pub partners-number : Every c-partners.ended c-partners-reads.Post
-    (λ κs a r e. Tells Looked.Refused (answerOf (lookOf false (alone (length (now (a .1 .1 .0)))) (idAt (now (a .1 .0)) 0) (now (a .0)))) (r .number))
-partners-number κs a r e p = rw (p .answer) (looked-tells (answerOf _))
+    (λ κs a r e. Tells Looked.Refused (lookedOf (lookOf false (alone (length (now (a .1 .1 .0)))) (idAt (now (a .1 .0)) 0) (now (a .0)))) (r .number))
+partners-number κs a r e p = rw (p .answer) (looked-tells (lookedOf _))
 
 pub partners-with-number : Every c-partners-with.ended c-partners-with-reads.Post
-    (λ κs a r e. Tells Looked.Refused (answerOf (lookWith false (alone (length (now (a .1 .1 .1 .0)))) (idAt (now (a .1 .1 .0)) 0) (now (a .0)) (recordFrom (now (a .1 .0))))) (r .number))
-partners-with-number κs a r e p = rw (p .answer) (looked-tells (answerOf _))
+    (λ κs a r e. Tells Looked.Refused (lookedOf (lookWith false (alone (length (now (a .1 .1 .1 .0)))) (idAt (now (a .1 .1 .0)) 0) (now (a .0)) (recordLent (now (a .1 .0))))) (r .number))
+partners-with-number κs a r e p = rw (p .answer) (looked-tells (lookedOf _))
 
 pub lookup-number : Every c-lookup.ended c-lookup-reads.Post
-    (λ κs a r e. Tells Looked.Refused (answerOf (lookOf true (lent (length (now (a .1 .1 .0))) (length (now (a .1 .1 .1 .0))) (length (now (a .1 .1 .1 .1 .0)))) (idAt (now (a .1 .0)) 0) (now (a .0)))) (r .number))
-lookup-number κs a r e p = rw (p .answer) (looked-tells (answerOf _))
+    (λ κs a r e. Tells Looked.Refused (lookedOf (lookOf true (lent (length (now (a .1 .1 .0))) (length (now (a .1 .1 .1 .0))) (length (now (a .1 .1 .1 .1 .0)))) (idAt (now (a .1 .0)) 0) (now (a .0)))) (r .number))
+lookup-number κs a r e p = rw (p .answer) (looked-tells (lookedOf _))
 
 pub lookup-with-number : Every c-lookup-with.ended c-lookup-with-reads.Post
-    (λ κs a r e. Tells Looked.Refused (answerOf (lookWith true (lent (length (now (a .1 .1 .1 .0))) (length (now (a .1 .1 .1 .1 .0))) (length (now (a .1 .1 .1 .1 .1 .0)))) (idAt (now (a .1 .1 .0)) 0) (now (a .0)) (recordFrom (now (a .1 .0))))) (r .number))
-lookup-with-number κs a r e p = rw (p .answer) (looked-tells (answerOf _))
+    (λ κs a r e. Tells Looked.Refused (lookedOf (lookWith true (lent (length (now (a .1 .1 .1 .0))) (length (now (a .1 .1 .1 .1 .0))) (length (now (a .1 .1 .1 .1 .1 .0)))) (idAt (now (a .1 .1 .0)) 0) (now (a .0)) (recordLent (now (a .1 .0))))) (r .number))
+lookup-with-number κs a r e p = rw (p .answer) (looked-tells (lookedOf _))
 
 pub check-number : Every c-check.ended c-check-reads.Post (λ κs a r e. Tells Check.Bad (fullCheck (now (a .0))) (r .number))
 check-number κs a r e p = rw p (check-tells (fullCheck (now (a .0))))
@@ -113,8 +131,8 @@ needed-number κs a r e p = rw p (written-tells (neededOf (now (a .0))))
 pub write-number : Every c-write.ended c-write-reads.Post (λ κs a r e. Tells Written.Refused (writtenOf (now (a .0)) (length (now (a .1 .0)))) (r .number))
 write-number κs a r e p = rw (p .answer) (written-tells (writtenOf (now (a .0)) (length (now (a .1 .0)))))
 
-pub sections-number : Every c-sections.ended c-sections-reads.Post (λ κs a r e. Tells Listed.Refused (list.answerOf (now (a .0)) (length (now (a .1 .0)) / 7)) (r .number))
-sections-number κs a r e p = rw (p .0) (listed-tells (list.answerOf (now (a .0)) (length (now (a .1 .0)) / 7)))
+pub sections-number : Every c-sections.ended c-sections-reads.Post (λ κs a r e. Tells Listed.Refused (list.listedOf (now (a .0)) (length (now (a .1 .0)) / 7)) (r .number))
+sections-number κs a r e p = rw (p .0) (listed-tells (list.listedOf (now (a .0)) (length (now (a .1 .0)) / 7)))
 
 -- ---- outputs
 
@@ -148,7 +166,7 @@ pub partners-same : Every c-partners.ended c-partners-reads.Post
 partners-same κs a r e p = record { answer = partners-says κs a r e p; partners = p .partners }
 
 pub partners-with-same : Every c-partners-with.ended c-partners-with-reads.Post
-    (λ κs a r e. Alone (lookWith false (alone (length (now (a .1 .1 .1 .0)))) (idAt (now (a .1 .1 .0)) 0) (now (a .0)) (recordFrom (now (a .1 .0)))) (lookedFrom r) (now (a .1 .1 .1 .0)) (now (e .1 .1 .1 .0)))
+    (λ κs a r e. Alone (lookWith false (alone (length (now (a .1 .1 .1 .0)))) (idAt (now (a .1 .1 .0)) 0) (now (a .0)) (recordLent (now (a .1 .0)))) (lookedFrom r) (now (a .1 .1 .1 .0)) (now (e .1 .1 .1 .0)))
 partners-with-same κs a r e p = record { answer = partners-with-says κs a r e p; partners = p .partners }
 
 pub lookup-same : Every c-lookup.ended c-lookup-reads.Post
@@ -157,7 +175,7 @@ pub lookup-same : Every c-lookup.ended c-lookup-reads.Post
 lookup-same κs a r e p = record { answer = lookup-says κs a r e p; partners = p .partners; numbers = p .numbers; dead = p .dead }
 
 pub lookup-with-same : Every c-lookup-with.ended c-lookup-with-reads.Post
-    (λ κs a r e. Whole (lookWith true (lent (length (now (a .1 .1 .1 .0))) (length (now (a .1 .1 .1 .1 .0))) (length (now (a .1 .1 .1 .1 .1 .0)))) (idAt (now (a .1 .1 .0)) 0) (now (a .0)) (recordFrom (now (a .1 .0)))) (lookedFrom r)
+    (λ κs a r e. Whole (lookWith true (lent (length (now (a .1 .1 .1 .0))) (length (now (a .1 .1 .1 .1 .0))) (length (now (a .1 .1 .1 .1 .1 .0)))) (idAt (now (a .1 .1 .0)) 0) (now (a .0)) (recordLent (now (a .1 .0)))) (lookedFrom r)
     (now (a .1 .1 .1 .0)) (now (e .1 .1 .1 .0)) (now (a .1 .1 .1 .1 .0)) (now (e .1 .1 .1 .1 .0)) (now (a .1 .1 .1 .1 .1 .0)) (now (e .1 .1 .1 .1 .1 .0)))
 lookup-with-same κs a r e p = record { answer = lookup-with-says κs a r e p; partners = p .partners; numbers = p .numbers; dead = p .dead }
 

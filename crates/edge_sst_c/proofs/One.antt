@@ -3,6 +3,8 @@ use mathlib.Core.Path.{_≡_, refl, sym, ap, _∙_}
 use mathlib.Core.List.{List}
 use Prim.Native.Nat.{ℕ}
 use Rattle.base.proofs.Determined.{Determined}
+use Rattle.edge_sst_c.proofs.header.edge_sst_header as c-header
+use Rattle.edge_sst_c.proofs.header.edge_sst_header.Reads as c-header-reads
 use Rattle.edge_sst_c.proofs.look.edge_sst_partners as c-partners
 use Rattle.edge_sst_c.proofs.look.edge_sst_partners.Reads as c-partners-reads
 use Rattle.edge_sst_c.proofs.look.edge_sst_lookup as c-lookup
@@ -28,6 +30,9 @@ use Rattle.edge_sst_c.proofs.look.edge_sst_partners_with.Reads as partn
 
 pub edge-sst-open-determined : Determined edge-sst-open.ended edge-sst-open-reads.Pre edge-sst-open-reads.Post
 edge-sst-open-determined κs a pre r₁ r₂ w₁ w₂ p q = (p ∙ sym q, refl)
+
+pub edge-sst-header-determined : Determined c-header.ended c-header-reads.Pre c-header-reads.Post
+edge-sst-header-determined κs a pre r₁ r₂ w₁ w₂ p q = (p ∙ sym q, refl)
 
 pub edge-sst-partners-with-determined : Determined partners-with.ended partners-with-reads.Pre partners-with-reads.Post
 edge-sst-partners-with-determined κs a pre r₁ r₂ w₁ w₂ p q =

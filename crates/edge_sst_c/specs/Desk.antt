@@ -18,13 +18,13 @@ readTold (ReadOut.Refused r) = record { number = numberOf r; place = placeOf r; 
 
 -- ---- laws
 
-pub check-fine : (c : Check) → c ≡ Check.Fine → record { number = 0; place = 0; beside = 0 } ≡ checkTold c
+pub check-told-fine : (c : Check) → c ≡ Check.Fine → record { number = 0; place = 0; beside = 0 } ≡ checkTold c
 unfolding checkTold
-check-fine c e = sym (ap checkTold e)
+check-told-fine c e = sym (ap checkTold e)
 
-pub check-bad : (k : Check) (r : Refusal) {n p s : ℕ} → k ≡ Check.Bad r → n ≡ numberOf r → p ≡ placeOf r → s ≡ besideOf r → record { number = n; place = p; beside = s } ≡ checkTold k
+pub check-told-bad : (k : Check) (r : Refusal) {n p s : ℕ} → k ≡ Check.Bad r → n ≡ numberOf r → p ≡ placeOf r → s ≡ besideOf r → record { number = n; place = p; beside = s } ≡ checkTold k
 unfolding checkTold
-check-bad k r e a b c = (λ i. record { number = a i; place = b i; beside = c i }) ∙ sym (ap checkTold e)
+check-told-bad k r e a b c = (λ i. record { number = a i; place = b i; beside = c i }) ∙ sym (ap checkTold e)
 
 pub read-done : (x : ReadOut) (n : ℕ) → x ≡ ReadOut.Done n → record { number = 0; place = 0; beside = 0; bytes = n } ≡ readTold x
 unfolding readTold

@@ -3,7 +3,7 @@ use mathlib.Core.Path.{_≡_, ap, _∙_}
 use Prim.Native.Nat.{ℕ, _+_, _≤_, _<_}
 use mathlib.Core.Bool.{Bool, true, false}
 use mathlib.Core.List.{List}
-use lib.ListN.{getD}
+use lib.ListN.{length, getD}
 use lib.Dec.{ltb}
 use borrow.Author.Tests.{lt-ltb, le-ltb}
 use Rattle.base.specs.Pick.{pick}
@@ -12,8 +12,8 @@ use Rattle.refusal.specs.Refusal.{numberOf, placeOf, besideOf}
 use Rattle.frame.specs.declared.Opened.{Opened}
 use Rattle.frame.specs.declared.Range.{Range}
 use Rattle.lookup.specs.declared.Looked.{Looked}
-use Rattle.lookup.specs.Lookup.{Outcome, answerOf, partnersLeft, logsLeft, marksLeft}
-use Rattle.lookup.specs.Calls.{Alone, Whole}
+use Rattle.lookup.specs.Lookup.{Outcome, Rooms, lookedOf, partnersLeft, logsLeft, marksLeft}
+use Rattle.lookup.specs.Calls.{lent, Alone, Whole}
 use Rattle.edge_sst_c.specs.declared.look.EdgeSstLooked.{EdgeSstLooked}
 
 abbrev pub refusedTold : ℕ → ℕ → ℕ → EdgeSstLooked
@@ -73,20 +73,24 @@ recordWithBits c b = record {
   bits = b;
 }
 
-abbrev pub recordFrom : List ℕ → Opened
-recordFrom c = recordWithBits c (byteOr (getD c bitsPlace 0))
+abbrev pub recordLent : List ℕ → Opened
+recordLent c = recordWithBits c (byteOr (getD c bitsPlace 0))
 
 -- what a call of partners alone tells and leaves
 pub record PartnersTold (x : Outcome) (r : EdgeSstLooked) (o out : List ℕ) : Type 0 where
-  pub answer : r ≡ lookedTold (answerOf x)
+  pub answer : r ≡ lookedTold (lookedOf x)
   pub partners : out ≡ partnersLeft x o
 
 -- what a call with log numbers and dead marks tells and leaves
 pub record EdgesTold (x : Outcome) (r : EdgeSstLooked) (o out l logs m marks : List ℕ) : Type 0 where
-  pub answer : r ≡ lookedTold (answerOf x)
+  pub answer : r ≡ lookedTold (lookedOf x)
   pub partners : out ≡ partnersLeft x o
   pub numbers : logs ≡ logsLeft x l
   pub dead : marks ≡ marksLeft x m
+
+-- the same of a lookup whose rooms are the outputs' own lengths
+abbrev pub EdgesToldBy : (Rooms → Outcome) → EdgeSstLooked → List ℕ → List ℕ → List ℕ → List ℕ → List ℕ → List ℕ → Type 0
+EdgesToldBy look r o out l logs m marks = EdgesTold (look (lent (length o) (length l) (length m))) r o out l logs m marks
 
 -- ---- laws
 

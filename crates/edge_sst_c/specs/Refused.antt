@@ -14,8 +14,9 @@ use Rattle.refusal.specs.Refusal.Laws.{number-some}
 use Rattle.frame.specs.declared.Opened.{Opened}
 use Rattle.frame.specs.declared.Opening.{Opening}
 use Rattle.lookup.specs.declared.Looked.{Looked}
-use Rattle.lookup.specs.Lookup.{Outcome, answerOf}
+use Rattle.lookup.specs.Lookup.{Outcome, lookedOf}
 use Rattle.lookup.specs.Lookup.Laws.{unfound-leaves}
+use Rattle.reader.specs.declared.header.HeaderRead.{HeaderRead}
 use Rattle.readout.specs.declared.ReadOut.{ReadOut}
 use Rattle.readout.specs.ReadOut.{readOutOf, readOutLeaves}
 use Rattle.readout.specs.ReadOut.Laws as read-out
@@ -30,6 +31,7 @@ use Rattle.edge_sst_c.specs.declared.look.EdgeSstLooked.{EdgeSstLooked}
 use Rattle.edge_sst_c.specs.declared.desk.EdgeSstDone.{EdgeSstDone}
 use Rattle.edge_sst_c.specs.declared.section_list.EdgeSstListed.{EdgeSstListed}
 use Rattle.edge_sst_c.specs.Told.{openedTold}
+use Rattle.edge_sst_c.specs.Header.{headerTold}
 use Rattle.edge_sst_c.specs.Look.{lookedTold, PartnersTold, EdgesTold}
 use Rattle.edge_sst_c.specs.Desk.{checkTold, readTold}
 use Rattle.edge_sst_c.specs.Write.{writtenTold, WroteTold}
@@ -62,6 +64,11 @@ pub opened-tells : (x : Opening) → Tells Opening.Refused x (openedTold x .numb
 unfolding openedTold
 opened-tells (Opening.Good o) = answered (λ q e. let z : _≡_ {A = ℕ} 0 1 = cc in omega arith)
 opened-tells (Opening.Refused r) = refusing r
+
+pub header-tells : (x : HeaderRead) → Tells HeaderRead.Refused x (headerTold x .number)
+unfolding headerTold
+header-tells (HeaderRead.Good h) = answered (λ q e. let z : _≡_ {A = ℕ} 0 1 = cc in omega arith)
+header-tells (HeaderRead.Refused r) = refusing r
 
 pub looked-tells : (x : Looked) → Tells Looked.Refused x (lookedTold x .number)
 unfolding lookedTold
@@ -108,8 +115,8 @@ unfound (Looked.Found a b g) (inr h) d i c e = omega arith
 unfound (Looked.Absent a) h d i c e = let z : _≡_ {A = ℕ} 0 1 = cc in omega arith
 unfound (Looked.Refused r) h d i c e = let z : _≡_ {A = ℕ} 0 1 = cc in omega arith
 
-left-unfound : (x : Outcome) {r : EdgeSstLooked} → r ≡ lookedTold (answerOf x) → Unfound r → (d i c : ℕ) → answerOf x ≡ Looked.Found d i c → ⊥
-left-unfound x e h = unfound (answerOf x) (rw e at h)
+left-unfound : (x : Outcome) {r : EdgeSstLooked} → r ≡ lookedTold (lookedOf x) → Unfound r → (d i c : ℕ) → lookedOf x ≡ Looked.Found d i c → ⊥
+left-unfound x e h = unfound (lookedOf x) (rw e at h)
 
 pub partners-stay : {x : Outcome} {r : EdgeSstLooked} {o out : List ℕ} → PartnersTold x r o out → Unfound r → out ≡ o
 partners-stay {x} {o = o} t h = t .partners ∙ unfound-leaves x (left-unfound x (t .answer) h) o o o .0
@@ -123,15 +130,15 @@ edges-stay {x} {o = o} {l = l} {m = m} t h =
 pub read-stays : (f o : List ℕ) {r : EdgeSstDone} {out : List ℕ} → r ≡ readTold (readOutOf f (length o)) → out ≡ readOutLeaves f o → 1 ≤ r .number → out ≡ o
 read-stays f o a b h =
     let s = read-tells (readOutOf f (length o)) .some (rw a at h) in
-    b ∙ read-out.refused-leaves f o (s .0) (s .1)
+    b ∙ read-out.read-out-refused-leaves f o (s .0) (s .1)
 
 pub write-stays : {s o out : List ℕ} {r : EdgeSstDone} → WroteTold s o r out → 1 ≤ r .number → out ≡ o
 write-stays {s} {o} t h =
     let q = written-tells (writtenOf s (length o)) .some (rw (t .answer) at h) in
-    t .output ∙ writer.refused-leaves s o (q .0) (q .1)
+    t .output ∙ writer.write-refused-leaves s o (q .0) (q .1)
 
-pub sections-stay : (f o : List ℕ) {r : EdgeSstListed} {out : List ℕ} → r ≡ listedTold (list.answerOf f (length o / 7))
+pub sections-stay : (f o : List ℕ) {r : EdgeSstListed} {out : List ℕ} → r ≡ listedTold (list.listedOf f (length o / 7))
     → out ≡ numbered f (planOf f (length o / 7) .n) o → 1 ≤ r .number → out ≡ o
 sections-stay f o a b h =
-    let s = listed-tells (list.answerOf f (length o / 7)) .some (rw a at h) in
+    let s = listed-tells (list.listedOf f (length o / 7)) .some (rw a at h) in
     b ∙ ap (λ (n : ℕ). numbered f n o) (plan-refused f (length o / 7) (s .0) (s .1)) ∙ sym (numbered-none f o)

@@ -7,7 +7,7 @@ use lib.ListN.{length, getD, drop}
 use lib.Seq.{drop-append-add}
 use Rattle.frame.specs.declared.Row.{Row}
 use Rattle.listing.specs.declared.Listed.{Listed}
-use Rattle.listing.specs.List.{planOf, answerOf, rowIs, noRow}
+use Rattle.listing.specs.List.{planOf, listedOf, rowIs, noRow}
 use Rattle.listing.specs.List.Laws.{plan-done, plan-refused}
 use Rattle.listing.specs.Table.{rowsTo, length-rows-to, rows-to-at}
 use Rattle.edge_sst_c.specs.declared.section_list.EdgeSstListed.{EdgeSstListed}
@@ -40,22 +40,22 @@ in-back (r ∷ rs) (suc i) t d h =
     ∙ ap rowFrom (drop-append-add (numbersOf r) (inNumbers rs ++ t) (7 * i))
     ∙ in-back rs i t d (omega arith)
 
-pub rows-back : (f : List ℕ) (n i : ℕ) (o : List ℕ) → 7 * n ≤ length o → i < n → rowFrom (drop (7 * i) (numbered f n o)) ≡ rowIs f i
-rows-back f n i o h l =
+pub numbers-back : (f : List ℕ) (n i : ℕ) (o : List ℕ) → 7 * n ≤ length o → i < n → rowFrom (drop (7 * i) (numbered f n o)) ≡ rowIs f i
+numbers-back f n i o h l =
     ap (λ (t : List ℕ). rowFrom (drop (7 * i) t)) (numbered-is f n o h)
     ∙ in-back (rowsTo f n) i _ noRow (rw (length-rows-to f n) l)
     ∙ rows-to-at f n i noRow l
 
 -- what is told as the count of rows is how many are written
-listed-rows : (f : List ℕ) (room : ℕ) (x : Listed) → answerOf f room ≡ x → listedTold x .rows ≡ planOf f room .n
+listed-rows : (f : List ℕ) (room : ℕ) (x : Listed) → listedOf f room ≡ x → listedTold x .rows ≡ planOf f room .n
 unfolding listedTold
 listed-rows f room (Listed.Done n) e = sym (plan-done f room n e)
 listed-rows f room (Listed.Refused r) e = sym (plan-refused f room r e)
 
 -- after a call for the sections of f the seven numbers of row i, for each i below the count that is told, say row i of f
-pub sections-back : (f o : List ℕ) {r : EdgeSstListed} {out : List ℕ} → r ≡ listedTold (answerOf f (length o / 7))
+pub sections-back : (f o : List ℕ) {r : EdgeSstListed} {out : List ℕ} → r ≡ listedTold (listedOf f (length o / 7))
     → out ≡ numbered f (planOf f (length o / 7) .n) o → (i : ℕ) → i < r .rows → rowFrom (drop (7 * i) out) ≡ rowIs f i
 sections-back f o a b i h =
-    let n = ap (λ (x : EdgeSstListed). x .rows) a ∙ listed-rows f (length o / 7) (answerOf f (length o / 7)) refl in
+    let n = ap (λ (x : EdgeSstListed). x .rows) a ∙ listed-rows f (length o / 7) (listedOf f (length o / 7)) refl in
     ap (λ (t : List ℕ). rowFrom (drop (7 * i) t)) b
-    ∙ rows-back f (planOf f (length o / 7) .n) i o (numbers-fit f (length o) refl) (rw n at h)
+    ∙ numbers-back f (planOf f (length o / 7) .n) i o (numbers-fit f (length o) refl) (rw n at h)

@@ -12,7 +12,7 @@ use Rattle.refusal.specs.declared.Refusal.{Refusal}
 use Rattle.refusal.specs.Refusal.{numberOf, placeOf, besideOf}
 use Rattle.frame.specs.declared.Row.{Row}
 use Rattle.listing.specs.declared.Listed.{Listed}
-use Rattle.listing.specs.declared.Plan.{Plan}
+use Rattle.listing.specs.declared.ListPlan.{ListPlan}
 use Rattle.listing.specs.List.{planOf, rowIs}
 use Rattle.listing.specs.List.Laws.{plan-fits}
 use Rattle.listing.specs.Table.{rowsTo}
@@ -53,7 +53,7 @@ length-numbered f zero o = refl
 length-numbered f (suc n) o = simp length-sets (length-numbered f n o)
 
 -- the rows that are written have room for their numbers
-pub numbers-fit : (f : List ℕ) (m : ℕ) {p : Plan} → p ≡ planOf f (m / 7) → 7 * p .n ≤ m
+pub numbers-fit : (f : List ℕ) (m : ℕ) {p : ListPlan} → p ≡ planOf f (m / 7) → 7 * p .n ≤ m
 numbers-fit f m e = let h = plan-fits f (m / 7) in rw e (omega arith)
 
 pub numbered-on : (f o : List ℕ) (i : ℕ) {t u : List ℕ} {r : Row} → t ≡ numbered f i o → r ≡ rowIs f i → u ≡ sets t (7 * i) (numbersOf r) → u ≡ numbered f (i + 1) o

@@ -6,7 +6,7 @@ use lib.ListN.{length}
 use Rattle.refusal.specs.declared.Refusal.{Refusal}
 use Rattle.refusal.specs.Refusal.{numberOf, placeOf, besideOf}
 use Rattle.write_file.specs.declared.Written.{Written}
-use Rattle.write_file.specs.Written.{leaves, writtenOf, fileIn, Wrote}
+use Rattle.write_file.specs.Written.{writeLeaves, writtenOf, fileIn, Wrote}
 use Rattle.edge_sst_c.specs.declared.desk.EdgeSstDone.{EdgeSstDone}
 
 unfoldable pub writtenTold : Written → EdgeSstDone
@@ -16,7 +16,7 @@ writtenTold (Written.Refused r) = record { number = numberOf r; place = placeOf 
 -- what a call of the writer tells and leaves
 pub record WroteTold (s o : List ℕ) (r : EdgeSstDone) (out : List ℕ) : Type 0 where
   pub answer : r ≡ writtenTold (writtenOf s (length o))
-  pub output : out ≡ leaves (writtenOf s (length o)) (fileIn s) o
+  pub output : out ≡ writeLeaves (writtenOf s (length o)) (fileIn s) o
 
 -- ---- laws
 

@@ -6,8 +6,8 @@ ghost use lib.Dec.{ltb};
 ghost use Rattle.base.specs.Pick.{pick};
 ghost use Rattle.codes.specs.Ids.{idAt};
 ghost use Rattle.lookup.specs.Lookup.{lookOf, lookWith};
-ghost use Rattle.lookup.specs.Calls.{alone, lent};
-ghost use Rattle.edge_sst_c.specs.Look.{lookedTold, refusedTold, byteOr, recordFrom, PartnersTold, EdgesTold};
+ghost use Rattle.lookup.specs.Calls.{alone};
+ghost use Rattle.edge_sst_c.specs.Look.{lookedTold, refusedTold, byteOr, recordLent, PartnersTold, EdgesToldBy};
 ghost use Rattle.refusal.specs.Refusal.{numberOf, placeOf, besideOf};
 use super::EdgeSstOpened;
 use frame::Opened;
@@ -90,7 +90,7 @@ fn byte_or(x: u64) -> u8
 // The record that C lends, an EdgeSstOpened seen as its numbers in order; a mark other than 0 says that there are
 // tombstones.
 fn record_from(c: &[u64; 17]) -> Opened
-    ensures { λ r. ⌜ r ≡ recordFrom (now (c .entry)) ⌝ }
+    ensures { λ r. ⌜ r ≡ recordLent (now (c .entry)) ⌝ }
 {
     Opened {
         keys: Range {
@@ -128,7 +128,7 @@ pub extern "C" fn edge_sst_partners_with(
     key: &[u8; 16],
     out: &mut [u8],
 ) -> EdgeSstLooked
-    ensures { λ r. ⌜ PartnersTold (lookWith false (alone (length (now (out .entry)))) (idAt (now (key .entry)) 0) (now (file .entry)) (recordFrom (now (o .entry)))) r (now (out .entry)) (now (out .exit)) ⌝ }
+    ensures { λ r. ⌜ PartnersTold (lookWith false (alone (length (now (out .entry)))) (idAt (now (key .entry)) 0) (now (file .entry)) (recordLent (now (o .entry)))) r (now (out .entry)) (now (out .exit)) ⌝ }
 {
     looked_told(partners_with(file, record_from(o), key, out))
 }
@@ -151,7 +151,7 @@ pub extern "C" fn edge_sst_lookup_with(
     logs: &mut [u64],
     marks: &mut [u8],
 ) -> EdgeSstLooked
-    ensures { λ r. ⌜ EdgesTold (lookWith true (lent (length (now (out .entry))) (length (now (logs .entry))) (length (now (marks .entry)))) (idAt (now (key .entry)) 0) (now (file .entry)) (recordFrom (now (o .entry)))) r (now (out .entry)) (now (out .exit)) (now (logs .entry)) (now (logs .exit)) (now (marks .entry)) (now (marks .exit)) ⌝ }
+    ensures { λ r. ⌜ EdgesToldBy (λ rooms. lookWith true rooms (idAt (now (key .entry)) 0) (now (file .entry)) (recordLent (now (o .entry)))) r (now (out .entry)) (now (out .exit)) (now (logs .entry)) (now (logs .exit)) (now (marks .entry)) (now (marks .exit)) ⌝ }
 {
     looked_told(lookup_with(file, record_from(o), key, out, logs, marks))
 }
@@ -165,7 +165,7 @@ pub extern "C" fn edge_sst_lookup(
     logs: &mut [u64],
     marks: &mut [u8],
 ) -> EdgeSstLooked
-    ensures { λ r. ⌜ EdgesTold (lookOf true (lent (length (now (out .entry))) (length (now (logs .entry))) (length (now (marks .entry)))) (idAt (now (key .entry)) 0) (now (file .entry))) r (now (out .entry)) (now (out .exit)) (now (logs .entry)) (now (logs .exit)) (now (marks .entry)) (now (marks .exit)) ⌝ }
+    ensures { λ r. ⌜ EdgesToldBy (λ rooms. lookOf true rooms (idAt (now (key .entry)) 0) (now (file .entry))) r (now (out .entry)) (now (out .exit)) (now (logs .entry)) (now (logs .exit)) (now (marks .entry)) (now (marks .exit)) ⌝ }
 {
     looked_told(lookup(file, key, out, logs, marks))
 }

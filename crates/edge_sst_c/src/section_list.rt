@@ -3,7 +3,7 @@ ghost use mathlib.Core.Path.{_≡_};
 ghost use Prim.Native.Nat.{_+_, _*_, _/_, _≤_};
 ghost use lib.ListN.{length};
 ghost use lib.Seq.{sets};
-ghost use Rattle.listing.specs.List.{planOf, answerOf};
+ghost use Rattle.listing.specs.List.{planOf, listedOf};
 ghost use Rattle.edge_sst_c.specs.SectionList.{listedTold, numbersOf, numbered};
 use frame::Row;
 use listing::Listed;
@@ -43,7 +43,7 @@ fn listed_told(l: Listed) -> EdgeSstListed
 }
 
 // Stores a row's numbers from `at` on.
-fn put_row(out: &mut [u64], at: usize, r: Row)
+fn tell_row(out: &mut [u64], at: usize, r: Row)
     requires { ⌜ at + 7 ≤ length (now out) ⌝ }
     ensures { λ _. ⌜ now (out .exit) ≡ sets (now (out .entry)) at (numbersOf r) ⌝ }
 {
@@ -57,13 +57,13 @@ fn put_row(out: &mut [u64], at: usize, r: Row)
 }
 
 // Stores the numbers of the first n rows of a file.
-fn put_rows(file: &[u8], out: &mut [u64], n: usize)
+fn tell_rows(file: &[u8], out: &mut [u64], n: usize)
     requires { ⌜ 7 * n ≤ length (now out) ⌝ }
     ensures { λ _. ⌜ now (out .exit) ≡ numbered (now (file .entry)) n (now (out .entry)) ⌝ }
 {
     let mut i: usize = 0;
     while i < n {
-        put_row(out, 7 * i, row_of(file, i));
+        tell_row(out, 7 * i, row_of(file, i));
         i = i + 1;
     }
 }
@@ -71,10 +71,10 @@ fn put_rows(file: &[u8], out: &mut [u64], n: usize)
 // Lists a file's sections, seven numbers for each.
 #[no_mangle]
 pub extern "C" fn edge_sst_sections(file: &[u8], numbers: &mut [u64]) -> EdgeSstListed
-    ensures { λ r. ⌜ (r ≡ listedTold (answerOf (now (file .entry)) (length (now (numbers .entry)) / 7))) × (now (numbers .exit) ≡ numbered (now (file .entry)) (planOf (now (file .entry)) (length (now (numbers .entry)) / 7) .n) (now (numbers .entry))) ⌝ }
+    ensures { λ r. ⌜ (r ≡ listedTold (listedOf (now (file .entry)) (length (now (numbers .entry)) / 7))) × (now (numbers .exit) ≡ numbered (now (file .entry)) (planOf (now (file .entry)) (length (now (numbers .entry)) / 7) .n) (now (numbers .entry))) ⌝ }
 {
     let p = plan_for(file, numbers.len() / 7);
-    put_rows(file, numbers, p.n);
+    tell_rows(file, numbers, p.n);
     let answer = p.answer;
     listed_told(answer)
 }

@@ -5,12 +5,16 @@ use mathlib.Core.Bool.{false}
 use Prim.Native.Nat.{ℕ}
 use lib.ListN.{length}
 use Rattle.codes.specs.Little.{leAt, leBytes}
-use Rattle.codes.specs.Ids.{beAt, idAt}
-use Rattle.xxh3_spec.specs.Xxh3.{mul, fold, xorshift, rotl, swap, rrmxmx, secret, of1to3, of4to8, of9to16, small, pair, mixStep, inward, of17to128, onward, of129to240, lane, accumulate, stir, scramble, turn, run, start, twice, merge, large, xxh3}
+use Rattle.codes.specs.Ids.{beAt, idAt, halvesAt}
+use Rattle.xxh3_spec.specs.Xxh3.{mul, fold, xorshift, rotl, swap, rrmxmx, secret, of1to3, of4to8, of9to16, small, pair, mixStep, inward, of17to128, onward, of129to240, lane, accumulate, stir, scramble, turn, run, startLanes, twice, merge, large, xxh3}
+use Rattle.refusal.specs.declared.Refusal.{Refusal}
+use Rattle.refusal.specs.declared.Check.{Check}
+use Rattle.frame.specs.declared.Row.{Row}
 use Rattle.frame.specs.declared.Opened.{Opened}
 use Rattle.frame.specs.declared.Opening.{Opening}
+use Rattle.frame.specs.declared.ends.Header.{Header}
 use Rattle.frame.specs.Kind as kind
-use Rattle.frame.specs.Frame.{rowAt, rowsFrom, endFrom, rowsOf, endOf, has, twice as doubled, sectionOf, all, kindsGood, tableGood, codecs, ranges, sizesGood, presenceGood, countsGood, bodyOf, sizeCheck, headCheck, tailCheck, sumCheck, endsCheck, rowsCheck, footerCheck, shapeCheck, frameCheck}
+use Rattle.frame.specs.Frame.{rowAt, rowsFrom, endFrom, rowsOf, endOf, has, repeated, sectionOf, all, kindsGood, tableGood, codecs, ranges, sizesGood, presenceGood, countsGood, bodyOf, headerIn, sizeCheck, headCheck, tailCheck, sumCheck, endsCheck, rowsCheck, footerCheck, shapeCheck, frameCheck, codecCheck, rangeCheck}
 use Rattle.frame.specs.Open.{recordFrom, recordOf, framedFrom, framedOf, knownOf, keysFrom, offsetGood, offsetsFrom, fenceGood, fencesFrom, fencesGood, contentCheck, fileCheck, opening, openOf}
 use Rattle.frame.specs.Layout.{Layout, rawSection, headBytes, payload, entry, entries, bodyBytes, trailer, layOut}
 
@@ -76,7 +80,7 @@ pub laid-out :
       edgecount = 1;
       bits = 24;
     }) ≡ oneEdge)
-unfolding headingOnly oneEdge leAt leBytes headBytes payload entry entries bodyBytes trailer layOut mul fold xorshift rotl swap rrmxmx secret of1to3 of4to8 of9to16 small pair mixStep inward of17to128 onward of129to240 lane accumulate stir scramble turn run start twice merge large xxh3
+unfolding headingOnly oneEdge leAt leBytes headBytes payload entry entries bodyBytes trailer layOut mul fold xorshift rotl swap rrmxmx secret of1to3 of4to8 of9to16 small pair mixStep inward of17to128 onward of129to240 lane accumulate stir scramble turn run startLanes twice merge large xxh3
 laid-out = (refl, refl)
 
 pub opened :
@@ -102,5 +106,36 @@ pub opened :
       edgecount = 1;
       bits = 24;
     }))
-unfolding headingOnly oneEdge leAt beAt idAt mul fold xorshift rotl swap rrmxmx secret of1to3 of4to8 of9to16 small pair mixStep inward of17to128 onward of129to240 lane accumulate stir scramble turn run start twice merge large xxh3 rowAt rowsFrom endFrom rowsOf endOf has doubled sectionOf all kindsGood tableGood codecs ranges sizesGood presenceGood countsGood bodyOf sizeCheck headCheck tailCheck sumCheck endsCheck rowsCheck footerCheck shapeCheck frameCheck recordFrom recordOf framedFrom framedOf knownOf keysFrom offsetGood offsetsFrom fenceGood fencesFrom fencesGood contentCheck fileCheck opening openOf
+unfolding headingOnly oneEdge leAt beAt idAt mul fold xorshift rotl swap rrmxmx secret of1to3 of4to8 of9to16 small pair mixStep inward of17to128 onward of129to240 lane accumulate stir scramble turn run startLanes twice merge large xxh3 rowAt rowsFrom endFrom rowsOf endOf has repeated sectionOf all kindsGood tableGood codecs ranges sizesGood presenceGood countsGood bodyOf sizeCheck headCheck tailCheck sumCheck endsCheck rowsCheck footerCheck shapeCheck frameCheck recordFrom recordOf framedFrom framedOf knownOf keysFrom offsetGood offsetsFrom fenceGood fencesFrom fencesGood contentCheck fileCheck opening openOf
 opened = (refl, refl)
+
+-- what their header says, and that of a later writer's inverse file
+abbrev pub headerWith : ℕ → ℕ → ℕ → Header
+headerWith minor direction flags = record {
+  minor = minor;
+  direction = direction;
+  flags = flags;
+  edgetype = record { hi = 0x1011121314151617; lo = 0x18191a1b1c1d1e1f };
+  source = record { hi = 0x2021222324252627; lo = 0x28292a2b2c2d2e2f };
+  destination = record { hi = 0x3031323334353637; lo = 0x38393a3b3c3d3e3f };
+}
+
+pub headers : (headerIn headingOnly ≡ headerWith 0 0 0) × (headerIn oneEdge ≡ headerWith 0 0 0) × (headerIn (headBytes 200 0xb ids) ≡ headerWith 200 1 0xb)
+unfolding headingOnly oneEdge leAt leBytes beAt halvesAt headBytes headerIn
+headers = (refl, refl, refl)
+
+-- ---- places of 10 and 11: "entry index", counted from 0 at the first such entry
+
+-- an entry of keys of one byte at `start`, by its codec
+abbrev entryOf : ℕ → ℕ → Row
+entryOf codec start = record { kind = kind.keys; codec = codec; namelen = 0; nameat = 0; start = start; len = 1; sum = 0 }
+
+pub first-place :
+    (codecCheck (entryOf 1 64 ∷ entryOf 0 65 ∷ entryOf 1 66 ∷ []) ≡ Check.Bad (Refusal.Codec 0))
+    × (codecCheck (entryOf 0 64 ∷ entryOf 0 65 ∷ entryOf 1 66 ∷ []) ≡ Check.Bad (Refusal.Codec 2))
+    × (rangeCheck 67 (entryOf 0 63 ∷ entryOf 0 65 ∷ entryOf 0 67 ∷ []) ≡ Check.Bad (Refusal.Range 0))
+    × (rangeCheck 67 (entryOf 0 64 ∷ entryOf 0 65 ∷ entryOf 0 67 ∷ []) ≡ Check.Bad (Refusal.Range 2))
+    × (rangeCheck 67 (entryOf 0 64 ∷ entryOf 0 64 ∷ entryOf 0 66 ∷ []) ≡ Check.Bad (Refusal.Range 1))
+    × (rangeCheck 67 (entryOf 0 64 ∷ entryOf 0 65 ∷ entryOf 0 66 ∷ []) ≡ Check.Fine)
+unfolding codecs ranges
+first-place = (refl, refl, refl, refl, refl, refl)

@@ -8,6 +8,7 @@ use lib.Dec.{ltb, leb, eqb}
 use Rattle.base.specs.Pick.{pick}
 use Rattle.base.specs.Over.{part}
 use Rattle.codes.specs.Little.{leAt}
+use Rattle.codes.specs.Ids.{halvesAt}
 use Rattle.xxh3_spec.specs.Xxh3.{xxh3}
 use Rattle.refusal.specs.declared.Refusal.{Refusal}
 use Rattle.refusal.specs.declared.Check.{Check}
@@ -16,6 +17,7 @@ use Rattle.frame.specs.declared.Row.{Row}
 use Rattle.frame.specs.declared.Range.{Range}
 use Rattle.frame.specs.declared.Opened.{Opened}
 use Rattle.frame.specs.declared.Framed.{Framed}
+use Rattle.frame.specs.declared.ends.Header.{Header}
 use Rattle.frame.specs.Kind as kind
 pub mod Laws
 
@@ -52,14 +54,14 @@ unfoldable pub endFrom : ℕ → List ℕ → ℕ → ℕ
 endFrom zero b i = i
 endFrom (suc d) b i = endFrom d b (nextAt b i)
 
-abbrev pub countOf : List ℕ → ℕ
-countOf b = leAt b 0 2
+abbrev pub entryCount : List ℕ → ℕ
+entryCount b = leAt b 0 2
 
 unfoldable pub rowsOf : List ℕ → List Row
-rowsOf b = rowsFrom (countOf b) b 2
+rowsOf b = rowsFrom (entryCount b) b 2
 
 unfoldable pub endOf : List ℕ → ℕ
-endOf b = endFrom (countOf b) b 2
+endOf b = endFrom (entryCount b) b 2
 
 abbrev pub keyCount : List ℕ → ℕ
 keyCount b = leAt b (length b - kind.countsSize) 8
@@ -77,9 +79,9 @@ unfoldable pub has : ℕ → List Row → Bool
 has k [] = false
 has k (r ∷ rs) = eqb (r .kind) k || has k rs
 
-unfoldable pub twice : ℕ → List Row → Bool
-twice k [] = false
-twice k (r ∷ rs) = pick (eqb (r .kind) k) (has k rs) (twice k rs)
+unfoldable pub repeated : ℕ → List Row → Bool
+repeated k [] = false
+repeated k (r ∷ rs) = pick (eqb (r .kind) k) (has k rs) (repeated k rs)
 
 -- where the first section of kind k lies; none: an empty range
 abbrev pub rangeOf : Row → Range
@@ -127,7 +129,7 @@ nameGood r = leb (r .namelen) kind.longestName && (not (kind.fixed (r .kind)) ||
 
 -- kind q stands there as often as it may: exactly once, or at most once
 abbrev pub onceGood : List Row → kind.Kind → Bool
-onceGood rs q = not (twice (q .number) rs) && (not (q .needed) || has (q .number) rs)
+onceGood rs q = not (repeated (q .number) rs) && (not (q .needed) || has (q .number) rs)
 
 unfoldable pub kindsGood : List Row → Bool
 kindsGood rs = all (onceGood rs) kind.kinds
@@ -138,7 +140,7 @@ fills b = eqb (endOf b + kind.countsSize) (length b)
 
 unfoldable pub tableGood : List ℕ → Bool
 tableGood b =
-    leb 1 (countOf b) && (leb (countOf b) kind.mostSections && (fills b && (all nameGood (rowsOf b) && kindsGood (rowsOf b))))
+    leb 1 (entryCount b) && (leb (entryCount b) kind.mostSections && (fills b && (all nameGood (rowsOf b) && kindsGood (rowsOf b))))
 
 -- ---- rules 10 and 11, at the first such entry
 
@@ -196,6 +198,32 @@ countsGood flags x = widthGood (x .opened .bits) && (sizesGood (x .opened) && pr
 -- "Magic `TGEDGE` and two zero bytes; major u8 = 1; minor u8, any; header size u16 = 64; flags u32"
 abbrev pub flagsOf : List ℕ → ℕ
 flagsOf h = leAt h 12 4
+
+-- "Flag bits: [..] 3 inverse file": 1 is an inverse file, 0 a forward one
+abbrev pub directionOf : ℕ → ℕ
+directionOf flags = flags / 8 % 2
+
+-- what it says besides, with "edge type, source label and destination label ids, 16 bytes each"
+unfoldable pub headerIn : List ℕ → Header
+headerIn h = record {
+  minor = getD h 9 0;
+  direction = directionOf (flagsOf h);
+  flags = flagsOf h;
+  edgetype = halvesAt h 16;
+  source = halvesAt h 32;
+  destination = halvesAt h 48;
+}
+
+-- the same header at another minor version
+abbrev pub atMinor : ℕ → Header → Header
+atMinor n h = record {
+  minor = n;
+  direction = h .direction;
+  flags = h .flags;
+  edgetype = h .edgetype;
+  source = h .source;
+  destination = h .destination;
+}
 
 -- "Trailer, 20 bytes. XXH3-64 of the body u64; footer length u32 (body plus 20); the header's eight magic bytes."
 abbrev pub footLen : List ℕ → ℕ

@@ -9,7 +9,8 @@ use mathlib.Core.List.{List, [], _∷_}
 use mathlib.Core.Bool.{Bool, true, false, not, _&&_, _||_}
 use lib.ListN.{length, getD}
 use lib.Dec.{ltb, eqb}
-use borrow.Author.Tests.{ltb-true, lt-ltb, eqb-true, eqb-false, eq-eqb, ne-eqb, not-true, not-false}
+use borrow.Author.Tests.{ltb-true, ltb-false, lt-ltb, eqb-true, eqb-false, eq-eqb, ne-eqb, not-true, not-false}
+use Rattle.base.specs.Bytes.{Bytes}
 use Rattle.codes.specs.Little.{leAt}
 use Rattle.codes.specs.Little.Laws.{leAt-lt}
 use Rattle.xxh3_spec.specs.Xxh3.{xxh3}
@@ -17,7 +18,7 @@ use Rattle.refusal.specs.declared.Refusal.{Refusal}
 use Rattle.refusal.specs.declared.Check.{Check}
 use Rattle.refusal.specs.Refusal.{numberOf}
 use Rattle.refusal.specs.Check.{_⊳_, refuse}
-use Rattle.refusal.specs.Check.Laws.{then-assoc, by-first, by-second, refuse-bad, refuse-fine, refuse-own, Numbers, numbers-fine, numbers-bad, numbers-refuse, numbers-then, numbers-pick, below, above}
+use Rattle.refusal.specs.Check.Laws.{fine-parts, then-assoc, by-first, by-second, refuse-bad, refuse-fine, refuse-own, Numbers, numbers-fine, numbers-bad, numbers-refuse, numbers-then, numbers-pick, below, above}
 use Rattle.frame.specs.declared.Row.{Row}
 use Rattle.frame.specs.Kind as kind
 use Rattle.frame.specs.Frame.{codecGood, codecs, rangeGood, ranges, tableGood, countsGood, recordOf, framedOf, rowsOf, bodyOf, footLen, flag, flagsOf, sizeCheck, headCheck, tailCheck, sumCheck, countsCheck, endsCheck, rowsCheck, footerCheck, shapeCheck, frameCheck}
@@ -34,7 +35,7 @@ module _ (f : List ℕ) where
   otherMajor = not (eqb (getD f 8 0) 1)
 
   abbrev otherSize : Bool
-  otherSize = not (eqb (leAt f 10 2) 64)
+  otherSize = not (eqb (leAt f 10 2) kind.headerSize)
 
   abbrev moreFlags : Bool
   moreFlags = ltb 15 (flagsOf f)
@@ -43,7 +44,7 @@ module _ (f : List ℕ) where
   otherTail = not (eqb (leAt f (length f - 8) 8) kind.magic)
 
   abbrev otherFoot : Bool
-  otherFoot = ltb (footLen f) 39 || ltb (length f - 64) (footLen f)
+  otherFoot = ltb (footLen f) kind.leastFooter || ltb (length f - kind.headerSize) (footLen f)
 
   abbrev otherSum : Bool
   otherSum = not (eqb (xxh3 (bodyOf f)) (leAt f (length f - 20) 8))
@@ -170,7 +171,7 @@ pub record OtherMajor (f : List ℕ) : Type 0 where
 pub record UnassignedFlag (f : List ℕ) : Type 0 where
   pub begins : Begins f
   pub major : getD f 8 0 ≡ 1
-  pub header : leAt f 10 2 ≡ 64
+  pub header : leAt f 10 2 ≡ kind.headerSize
   pub bit : ℕ
   pub least : 4 ≤ bit
   pub most : bit < 32
@@ -220,6 +221,14 @@ module _ (f : List ℕ) where
   abbrev flagsRule : Check
   flagsRule = refuse Refusal.Flags (moreFlags f)
 
+  -- where 5 passes, bits 0 to 3 alone are set
+  pub flags-few : headCheck f ≡ Check.Fine → flagsOf f ≤ 15
+  unfolding headCheck
+  flags-few e =
+      let a = fine-parts magicRule (majorRule ⊳ (sizeRule ⊳ flagsRule)) e in
+      let b = fine-parts majorRule (sizeRule ⊳ flagsRule) (a .1) in
+      ltb-false 15 (flagsOf f) (refuse-fine Refusal.Flags (moreFlags f) .0 (fine-parts sizeRule flagsRule (b .1) .1))
+
   begins : sizeCheck (length f) ≡ Check.Fine → magicRule ≡ Check.Fine → Begins f
   begins s m =
       let z = size-parts (length f) s in
@@ -246,7 +255,7 @@ module _ (f : List ℕ) where
       )
 
   -- 5, exactly, of a file of bytes
-  pub flags-exactly : ((j : ℕ) → getD f j 0 < 2 ^ 8) → (fileCheck f ≡ Check.Bad Refusal.Flags) ↔ UnassignedFlag f
+  pub flags-exactly : Bytes f → (fileCheck f ≡ Check.Bad Refusal.Flags) ↔ UnassignedFlag f
   unfolding headCheck
   flags-exactly by =
       let first = head-first f Refusal.Flags (omega arith) (omega arith) in
@@ -271,7 +280,7 @@ module _ (f : List ℕ) where
         λ u.
             let x = begun (u .begins) in
             let major = refuse-fine Refusal.Major (otherMajor f) .1 (ap not (eq-eqb (getD f 8 0) 1 (u .major))) in
-            let size = refuse-fine Refusal.HeaderSize (otherSize f) .1 (ap not (eq-eqb (leAt f 10 2) 64 (u .header))) in
+            let size = refuse-fine Refusal.HeaderSize (otherSize f) .1 (ap not (eq-eqb (leAt f 10 2) kind.headerSize (u .header))) in
             let flags = refuse-bad Refusal.Flags (moreFlags f) .1 (lt-ltb 15 (flagsOf f) (bits-flag (flagsOf f) (u .bit) (u .least) (u .set))) in
             first .1 (x .0, a .1 (x .1, b .1 (major, c .1 (size, flags)))),
       )

@@ -111,13 +111,13 @@ fencesFrom (suc d) x keys stride i = fenceGood x keys stride i && fencesFrom d x
 abbrev pub strideOf : List ℕ → ℕ
 strideOf x = leAt x 0 4
 
-abbrev pub fenceCount : List ℕ → ℕ
-fenceCount x = leAt x 4 4
+abbrev pub fencesTold : List ℕ → ℕ
+fencesTold x = leAt x 4 4
 
 unfoldable pub fencesGood : List ℕ → List ℕ → ℕ → Bool
 fencesGood x keys n =
-    leb kind.fencesHead (length x) && (leb 1 (strideOf x) && (eqb (fenceCount x) ((n + (strideOf x - 1)) / strideOf x)
-    && (eqb (length x) (kind.fencesLen (fenceCount x)) && fencesFrom (fenceCount x) x keys (strideOf x) 0)))
+    leb kind.fencesHead (length x) && (leb 1 (strideOf x) && (eqb (fencesTold x) ((n + (strideOf x - 1)) / strideOf x)
+    && (eqb (length x) (kind.fencesLen (fencesTold x)) && fencesFrom (fencesTold x) x keys (strideOf x) 0)))
 
 -- ---- opening
 

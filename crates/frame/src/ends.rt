@@ -4,15 +4,36 @@ ghost use Prim.Native.Nat.{_-_, _≤_};
 ghost use lib.ListN.{length};
 ghost use Rattle.frame.specs.Kind as kind;
 ghost use Rattle.frame.specs.Frame.{footLen, bodyOf};
+use codes::ids::Id;
 use codes::little::le32;
 
-pub struct Header {}
+// What the header says, beside its magic, major version and size, which opening asks.
+pub struct Header {
+    pub minor: u8,
+    // 1 says that the file is inverse.
+    pub direction: u8,
+    pub flags: u32,
+    pub edgetype: Id,
+    pub source: Id,
+    pub destination: Id,
+}
 
 impl Header {
     pub const SIZE: usize = 64;
 
     // `TGEDGE` and two zero bytes, as a little-endian number.
     pub const MAGIC: u64 = 0x0000_4547_4445_4754;
+
+    // Where the fields stand in it.
+    pub const MINOR: usize = 9;
+
+    pub const FLAGS: usize = 12;
+
+    pub const EDGE_TYPE: usize = 16;
+
+    pub const SOURCE: usize = 32;
+
+    pub const DESTINATION: usize = 48;
 }
 
 // A footer is its body and the trailer.
@@ -20,6 +41,9 @@ pub struct Footer {}
 
 impl Footer {
     pub const LEAST: usize = 39;
+
+    // Bytes of a body without entries: the section count, and what ends it.
+    pub const EMPTY: usize = 19;
 
     // Key count, edge count and offset bits, which end the body.
     pub const COUNTS: usize = 17;

@@ -15,6 +15,7 @@ impl Keys {
 
     pub const SLOT: usize = 0;
 
+    // The length that the counts give.
     pub fn bytes(keys: u64) -> u64
         requires { ⌜ keys ≤ kind.mostBytes ⌝ }
         ensures { λ r. ⌜ r ≡ kind.keysLen keys ⌝ }
@@ -22,6 +23,7 @@ impl Keys {
         Keys::ROW * keys
     }
 
+    // The table entry of such a section, from its place, its counts and its checksum.
     pub fn entry(start: u64, keys: u64, sum: u64) -> Row
         requires { ⌜ keys ≤ kind.mostBytes ⌝ }
         ensures { λ r. ⌜ r ≡ rawRow kind.keys start (kind.keysLen keys) sum ⌝ }
@@ -35,6 +37,13 @@ pub struct Offsets {}
 impl Offsets {
     pub const KIND: u16 = 2;
 
+    // The writer's offsets have three bytes where the partners have fewer bytes than this, otherwise four.
+    pub const NARROW: usize = 1 << 24;
+
+    pub const SHORT: usize = 3;
+
+    pub const LONG: usize = 4;
+
     pub const SLOT: usize = 1;
 
     // One more than there are keys, of `width` bytes each.
@@ -45,6 +54,7 @@ impl Offsets {
         (keys + 1) * width
     }
 
+    // The table entry of such a section, from its place, its counts and its checksum.
     pub fn entry(start: u64, keys: u64, width: u64, sum: u64) -> Row
         requires { ⌜ (keys ≤ kind.mostBytes) × (width ≤ 255) ⌝ }
         ensures { λ r. ⌜ r ≡ rawRow kind.offsets start (kind.offsetsLen keys width) sum ⌝ }
@@ -60,6 +70,7 @@ impl Partners {
 
     pub const SLOT: usize = 2;
 
+    // The table entry of such a section, from its place, its counts and its checksum.
     pub fn entry(start: u64, bytes: u64, sum: u64) -> Row
         ensures { λ r. ⌜ r ≡ rawRow kind.partners start bytes sum ⌝ }
     {
@@ -76,6 +87,7 @@ impl Logs {
 
     pub const SLOT: usize = 3;
 
+    // The length that the counts give.
     pub fn bytes(edges: u64) -> u64
         requires { ⌜ edges ≤ kind.mostBytes ⌝ }
         ensures { λ r. ⌜ r ≡ kind.logsLen edges ⌝ }
@@ -83,6 +95,7 @@ impl Logs {
         Logs::ROW * edges
     }
 
+    // The table entry of such a section, from its place, its counts and its checksum.
     pub fn entry(start: u64, edges: u64, sum: u64) -> Row
         requires { ⌜ edges ≤ kind.mostBytes ⌝ }
         ensures { λ r. ⌜ r ≡ rawRow kind.logs start (kind.logsLen edges) sum ⌝ }
@@ -106,6 +119,7 @@ impl Tombstones {
         (edges + 7) / 8
     }
 
+    // The table entry of such a section, from its place, its counts and its checksum.
     pub fn entry(start: u64, edges: u64, sum: u64) -> Row
         requires { ⌜ edges ≤ kind.mostBytes ⌝ }
         ensures { λ r. ⌜ r ≡ rawRow kind.tombstones start (kind.tombstonesLen edges) sum ⌝ }
@@ -126,9 +140,12 @@ impl Fences {
 
     pub const SLOT: usize = 5;
 
-    // The writer's stride.
-    pub const STRIDE: u64 = 256;
+    // The writer's stride, and one less, by which a count of fences is rounded up.
+    pub const STRIDE: usize = 256;
 
+    pub const ROUND: usize = 255;
+
+    // The length that the counts give.
     pub fn bytes(entries: u64) -> u64
         requires { ⌜ entries ≤ kind.mostBytes ⌝ }
         ensures { λ r. ⌜ r ≡ kind.fencesLen entries ⌝ }
@@ -136,6 +153,7 @@ impl Fences {
         Fences::HEAD + Fences::ROW * entries
     }
 
+    // The table entry of such a section, from its place, its counts and its checksum.
     pub fn entry(start: u64, entries: u64, sum: u64) -> Row
         requires { ⌜ entries ≤ kind.mostBytes ⌝ }
         ensures { λ r. ⌜ r ≡ rawRow kind.fences start (kind.fencesLen entries) sum ⌝ }

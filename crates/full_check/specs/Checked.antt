@@ -21,7 +21,7 @@ use Rattle.lookup.specs.Lookup.{markAt}
 use Rattle.lookup.specs.Lookup.Laws.{mark-none}
 use Rattle.full_check.specs.declared.groups.Groups.{Groups}
 use Rattle.full_check.specs.declared.marks.Marks.{Marks}
-use Rattle.full_check.specs.Full.{sumsFrom, groupsFrom, degreesFrom, denseFrom, deadFrom, marksOf, dataGood, edgesCheck, fullCheck, groupsTold, groupsOf, checkedOf}
+use Rattle.full_check.specs.Full.{sumsFrom, groupsFrom, degreesFrom, denseFrom, deadFrom, marksOf, dataGood, edgesCheck, fullCheck, groupsTold, groupsSeen, checkedOf}
 
 -- ---- tombstones
 
@@ -61,18 +61,18 @@ told-good (Check.Bad q) s d t b e = let z : _≡_ {A = ℕ} 0 1 = cc in absurd (
 
 module _ (flags : ℕ) (f : List ℕ) (o : Opened) where
   abbrev groups : Groups
-  groups = groupsOf (bytesAt f (o .partners)) (bytesAt f (o .offsets)) (o .bits / 8) (o .keycount)
+  groups = groupsSeen (bytesAt f (o .partners)) (bytesAt f (o .offsets)) (o .bits / 8) (o .keycount)
 
   abbrev pub tombstones : List ℕ
   tombstones = pick (o .marked) (bytesAt f (o .dead)) []
 
   pub edges-refused : (r : Refusal) → groups ≡ Groups.Refused r → edgesCheck flags (knownOf f o) ≡ Check.Bad r
-  unfolding edgesCheck knownOf groupsOf
+  unfolding edgesCheck knownOf groupsSeen
   edges-refused r e = bad-then _ (told-refused _ _ _ r e)
 
   module _ (s : ℕ) (d : Bool) (e : groups ≡ Groups.Good s d) where
     parts : edgesCheck flags (knownOf f o) ≡ refuse Refusal.Data (not (dataGood flags (o .edgecount) tombstones s d))
-    unfolding edgesCheck knownOf groupsOf
+    unfolding edgesCheck knownOf groupsSeen
     parts =
         let t = told-good _ _ _ s d e in
         fine-then _ (t .0) ∙ ap₂ (λ (x : ℕ) (y : Bool). refuse Refusal.Data (not (dataGood flags (o .edgecount) tombstones x y))) (t .1) (t .2)

@@ -14,7 +14,7 @@ use Rattle.frame.specs.Frame.{rangeOf, rowsOf, flag, flagsOf, bodyOf, recordOf}
 use Rattle.frame.specs.declared.Opening.{Opening}
 use Rattle.frame.specs.Open.{Known, knownOf, bytesAt, fileCheck, opening}
 use Rattle.degrees.specs.Degrees.{groupAt}
-use Rattle.group.specs.Group.{Partners, good, bad, groupOf, partnersOf}
+use Rattle.group.specs.Group.{Decoded, good, bad, groupOf, partnersOf}
 use Rattle.lookup.specs.Lookup.{groupCheck, markAt}
 use Rattle.full_check.specs.declared.groups.Groups.{Groups}
 use Rattle.full_check.specs.declared.marks.Marks.{Marks}
@@ -31,7 +31,7 @@ sumsFrom f (r ∷ rs) k = pick (sumGood f r) (sumsFrom f rs (k + 1)) (Check.Bad 
 
 -- ---- a group is dense
 
-unfoldable pub denseOf : Partners → Bool
+unfoldable pub denseOf : Decoded → Bool
 denseOf (good dense ps) = dense
 denseOf (bad f) = false
 
@@ -39,7 +39,7 @@ denseOf (bad f) = false
 -- offsets, w bytes each
 
 module _ (p o : List ℕ) (w : ℕ) where
-  abbrev pub groupIn : ℕ → Partners
+  abbrev pub groupIn : ℕ → Decoded
   groupIn i = groupOf (groupAt p o w i)
 
   unfoldable pub groupsFrom : ℕ → ℕ → Check
@@ -94,8 +94,8 @@ unfoldable pub groupsTold : Check → ℕ → Bool → Groups
 groupsTold Check.Fine sum dense = Groups.Good sum dense
 groupsTold (Check.Bad r) sum dense = Groups.Refused r
 
-unfoldable pub groupsOf : List ℕ → List ℕ → ℕ → ℕ → Groups
-groupsOf p o w n = groupsTold (groupsFrom p o w n 0) (degreesFrom p o w n 0) (denseFrom p o w n 0)
+unfoldable pub groupsSeen : List ℕ → List ℕ → ℕ → ℕ → Groups
+groupsSeen p o w n = groupsTold (groupsFrom p o w n 0) (degreesFrom p o w n 0) (denseFrom p o w n 0)
 
 -- the record of a file that passes
 unfoldable pub checkedOf : List ℕ → Opening

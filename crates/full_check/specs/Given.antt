@@ -16,7 +16,7 @@ use Rattle.frame.specs.Frame.{rowsOf, flagsOf, bodyOf, recordOf}
 use Rattle.frame.specs.Header.{opening-numbers}
 use Rattle.frame.specs.Open.{Known, knownOf, bytesAt, fileCheck}
 use Rattle.degrees.specs.Degrees.{groupAt}
-use Rattle.group.specs.Group.{Partners, good, bad, isGood, groupOf}
+use Rattle.group.specs.Group.{Decoded, good, bad, isGood, groupOf}
 use Rattle.group.specs.declared.fault.Fault.{Fault}
 use Rattle.group.specs.Fault.{refusalOf}
 use Rattle.group.specs.Fault.Laws.{fault-tag}
@@ -77,7 +77,7 @@ module _ (p o : List ℕ) (w : ℕ) where
             tag = t .tag;
           }
 
-      there : (x : Partners) → groupIn p o w b ≡ x → (rest ≡ Check.Bad (Refusal.Tag i) → TagFrom d (b + 1) i)
+      there : (x : Decoded) → groupIn p o w b ≡ x → (rest ≡ Check.Bad (Refusal.Tag i) → TagFrom d (b + 1) i)
           → groupCheck b x ⊳ rest ≡ Check.Bad (Refusal.Tag i) → TagFrom (suc d) b i
       there (good dense ps) q ih e = later (ap isGood q) (ih e)
       there (bad f) q ih e = let same : refusalOf b f ≡ Refusal.Tag i = cc in let t = fault-tag b f i same in first (q ∙ ap bad (t .0)) (t .1)

@@ -8,16 +8,16 @@ ghost use Rattle.base.specs.Pick.{pick};
 ghost use Rattle.frame.specs.declared.Opening.{Opening};
 ghost use Rattle.frame.specs.Frame.{flag, flagsOf};
 ghost use Rattle.frame.specs.Open.{bytesAt, knownOf, openOf};
-ghost use Rattle.full_check.specs.Full.{marksOf, groupsOf, edgesCheck};
+ghost use Rattle.full_check.specs.Full.{marksOf, groupsSeen, edgesCheck};
 use super::groups::Groups;
 use super::groups::groups_of;
 use super::marks::Marks;
 use super::marks::marks_of;
 use codes::little::le32;
-use open_counts::alike;
-use open_counts::flag_of;
 use frame::Opened;
 use frame::bytes_of;
+use open_counts::alike;
+use open_counts::flag_of;
 use refusal::Check;
 use refusal::Refusal;
 
@@ -39,7 +39,7 @@ fn marks_in(file: &[u8], o: Opened) -> Marks
 // All groups of a file.
 fn groups_in(file: &[u8], o: Opened) -> Groups
     requires { ⌜ openOf (now file) ≡ Opening.Good o ⌝ }
-    ensures { λ r. ⌜ r ≡ groupsOf (bytesAt (now (file .entry)) (o .partners)) (bytesAt (now (file .entry)) (o .offsets)) (o .bits / 8) (o .keycount) ⌝ }
+    ensures { λ r. ⌜ r ≡ groupsSeen (bytesAt (now (file .entry)) (o .partners)) (bytesAt (now (file .entry)) (o .offsets)) (o .bits / 8) (o .keycount) ⌝ }
 {
     let partners = o.partners;
     let offsets = o.offsets;

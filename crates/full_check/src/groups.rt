@@ -3,10 +3,11 @@ ghost use mathlib.Core.Path.{_≡_};
 ghost use mathlib.Core.Bool.{_||_};
 ghost use Prim.Native.Nat.{_+_, _*_, _≤_};
 ghost use lib.ListN.{length};
-ghost use Rattle.index.specs.Order.{Offsets};
+ghost use Rattle.index.specs.Order.{OffsetsRise};
 ghost use Rattle.full_check.specs.declared.groups.Groups.{Groups};
-ghost use Rattle.full_check.specs.Full.{groupsOf};
-use group::Group;
+ghost use Rattle.full_check.specs.Full.{groupsSeen};
+use base::either;
+use group::GroupVerdict;
 use group::check_group;
 use group::fault::refusal_of;
 use index::offsets::offset_at;
@@ -24,19 +25,10 @@ fn refused(refusal: Refusal) -> Groups
     Groups::Refused { refusal }
 }
 
-fn either(a: bool, b: bool) -> bool
-    ensures { λ r. ⌜ r ≡ (a || b) ⌝ }
-{
-    if a {
-        return true;
-    }
-    b
-}
-
 // Checks n groups by their offsets of w bytes, which rise from 0 to the partners' length.
 pub fn groups_of(partners: &[u8], offs: &[u8], w: usize, n: usize) -> Groups
-    requires { ⌜ (3 ≤ w) × (w ≤ 6) × (n ≤ 16777216) × ((n + 1) * w ≤ length (now offs)) × Offsets (now offs) w n (length (now partners)) ⌝ }
-    ensures { λ r. ⌜ r ≡ groupsOf (now (partners .entry)) (now (offs .entry)) w n ⌝ }
+    requires { ⌜ (3 ≤ w) × (w ≤ 6) × (n ≤ 16777216) × ((n + 1) * w ≤ length (now offs)) × OffsetsRise (now offs) w n (length (now partners)) ⌝ }
+    ensures { λ r. ⌜ r ≡ groupsSeen (now (partners .entry)) (now (offs .entry)) w n ⌝ }
 {
     let mut edges: u64 = 0;
     let mut dense = false;
@@ -45,13 +37,13 @@ pub fn groups_of(partners: &[u8], offs: &[u8], w: usize, n: usize) -> Groups
     while i < n {
         let e = offset_at(offs, w, i + 1) as usize;
         match check_group(&partners[a..e]) {
-            Group::Good { degree, dense: d } => {
+            GroupVerdict::Good { degree, dense: d } => {
                 edges = edges + degree;
                 dense = either(dense, d);
                 a = e;
                 i = i + 1;
             }
-            Group::Bad { fault } => {
+            GroupVerdict::Bad { fault } => {
                 return refused(refusal_of(i as u64, fault));
             }
         }

@@ -9,15 +9,15 @@ ghost use Rattle.frame.specs.Open.{bytesAt};
 ghost use Rattle.frame.specs.Frame.Laws.{Table};
 ghost use Rattle.frame.specs.Open.Laws.{Frames};
 ghost use Rattle.full_check.specs.Full.{sumsFrom};
-ghost use Rattle.full_check.specs.Full.Laws.{Within};
+ghost use Rattle.full_check.specs.Full.Laws.{RowsWithin};
 use codes::little::le16;
 use frame::Range;
 use frame::Row;
 use frame::bytes_of;
 use frame::ends::body_of;
+use open_table::row_at;
 use refusal::Check;
 use refusal::Refusal;
-use open_table::row_at;
 use xxh3::xxh3;
 
 // The sum of the bytes from `start` on.
@@ -31,7 +31,7 @@ fn sum_of(file: &[u8], start: u64, len: u64) -> u64
 
 // The first of `count` entries of the footer body b whose section does not have its checksum.
 fn sums_from(file: &[u8], b: &[u8], count: usize) -> Check
-    requires { ⌜ (count ≤ kind.mostSections) × (endFrom count (now b) 2 ≤ length (now b)) × (length (now b) ≤ kind.mostBytes) × Within (length (now file)) (rowsFrom count (now b) 2) ⌝ }
+    requires { ⌜ (count ≤ kind.mostSections) × (endFrom count (now b) 2 ≤ length (now b)) × (length (now b) ≤ kind.mostBytes) × RowsWithin (length (now file)) (rowsFrom count (now b) 2) ⌝ }
     ensures { λ r. ⌜ r ≡ sumsFrom (now (file .entry)) (rowsFrom count (now (b .entry)) 2) 0 ⌝ }
 {
     let mut at: usize = 2;
@@ -50,7 +50,7 @@ fn sums_from(file: &[u8], b: &[u8], count: usize) -> Check
 
 // The same of all entries of b.
 fn sums_in(file: &[u8], b: &[u8]) -> Check
-    requires { ⌜ Table (now b) × (length (now b) ≤ kind.mostBytes) × Within (length (now file)) (rowsOf (now b)) ⌝ }
+    requires { ⌜ Table (now b) × (length (now b) ≤ kind.mostBytes) × RowsWithin (length (now file)) (rowsOf (now b)) ⌝ }
     ensures { λ r. ⌜ r ≡ sumsFrom (now (file .entry)) (rowsOf (now (b .entry))) 0 ⌝ }
 {
     sums_from(file, b, le16(b, 0) as usize)

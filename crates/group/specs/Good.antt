@@ -9,70 +9,22 @@ use mathlib.Core.Bool.{Bool, true, false}
 use lib.ListN.{length, getD, drop, take-append-drop, length-drop, drop-of-length-le}
 use lib.Seq.{append-snoc, drop-cons, drop-drop}
 use lib.Arith.{digits-div, digits-mod}
+use Rattle.base.specs.Bytes.{Bytes}
 use Rattle.codes.specs.declared.ids.Id.{Id}
 use Rattle.codes.specs.declared.varint.Varint.the-variants.{Value}
 use Rattle.codes.specs.Little.{leAt, leBytes}
 use Rattle.codes.specs.Little.Laws.{leAt-low, leAt-lt}
-use Rattle.codes.specs.Ids.{beAt, beBytes, numberOf, idBytes, halvesAt}
+use Rattle.codes.specs.Ids.{beAt, beBytes, idNumber, idBytes, halvesAt}
 use Rattle.codes.specs.Ids.Laws.{beAt-lt}
 use Rattle.codes.specs.Varint.{varintAt, varBytes}
-use Rattle.codes.specs.Varint.Laws.{varint-next, varint-bytes}
+use Rattle.codes.specs.Varint.Laws.{varint-next}
+use Rattle.codes.specs.Stood.{le-stood, id-stood, varint-stood}
 use Rattle.group.specs.declared.fault.Fault.{Fault}
 use Rattle.group.specs.declared.head.Head.{Head}
 use Rattle.group.specs.declared.split.Step.{Step}
-use Rattle.group.specs.Group.{Partners, good, bad, splitStep, stepAt, walkFrom, degreeOf, headOf, groupOf, isGood, partnersOf, bytesOf}
-use Rattle.group.specs.Group.Laws.{SplitRead, split-read, split-varint, dense-read, step-split, step-dense, step-next, headIs, tagOf, Headed, headed, group-walk, group-bad, good-turn, good-end, good-is, length-bytesOf}
+use Rattle.group.specs.Group.{Decoded, good, bad, splitStep, stepAt, walkFrom, degreeOf, headOf, groupOf, isGood, partnersOf, bytesOf}
+use Rattle.group.specs.Group.Laws.{SplitRead, split-read, split-varint, dense-read, step-split, step-dense, step-next, headIs, tagOf, Headed, head-headed, group-walk, group-bad, good-turn, good-end, good-is, length-bytesOf}
 use Rattle.group.specs.Written.{Halves, Above, Rising, stepBytes, payloadOf, payload-none, payload-cons, writtenAs, written-is}
-
-abbrev pub Bytes : List ℕ → Type 0
-Bytes g = (j : ℕ) → getD g j 0 < 2 ^ 8
-
--- ---- what is read as a number is what is written for it
-
-le-stood : (n : ℕ) (g : List ℕ) (i : ℕ) → Bytes g → i + n ≤ length g → drop i g ≡ leBytes n (leAt g i n) ++ drop (i + n) g
-unfolding leBytes
-le-stood zero g i b h = ap (λ (t : ℕ). drop t g) (sym (add-zero i))
-le-stood (suc n) g i b h =
-    let x : ℕ = getD g i 0 in
-    let y : ℕ = leAt g (i + 1) n in
-    let low : leAt g i (suc n) ≡ y * 256 + x = leAt-low g i n in
-    let first : leAt g i (suc n) % 256 ≡ x = rw low (digits-mod y (b i)) in
-    let others : leAt g i (suc n) / 256 ≡ y = rw low (digits-div y (b i)) in
-    let ih = le-stood n g (i + 1) b (omega arith) in
-    let place : i + 1 + n ≡ i + suc n = omega arith in
-    rw (first, others)
-    (rw (add-one i) (drop-cons g i 0 (omega arith)) ∙ ap (λ (t : List ℕ). x ∷ t) (ih ∙ ap (λ (t : ℕ). leBytes n y ++ drop t g) place))
-
-be-stood : (n : ℕ) (g : List ℕ) (i : ℕ) → Bytes g → i + n ≤ length g → drop i g ≡ beBytes n (beAt g i n) ++ drop (i + n) g
-unfolding beAt beBytes
-be-stood zero g i b h = ap (λ (t : ℕ). drop t g) (sym (add-zero i))
-be-stood (suc n) g i b h =
-    let x : ℕ = getD g (i + n) 0 in
-    let y : ℕ = beAt g i n in
-    let last : (y * 256 + x) % 256 ≡ x = digits-mod y (b (i + n)) in
-    let others : (y * 256 + x) / 256 ≡ y = digits-div y (b (i + n)) in
-    let place : suc (i + n) ≡ i + suc n = omega arith in
-    rw (last, others)
-    (be-stood n g i b (omega arith)
-    ∙ ap (λ (t : List ℕ). beBytes n y ++ t) (drop-cons g (i + n) 0 (omega arith) ∙ ap (λ (t : ℕ). x ∷ drop t g) place)
-    ∙ sym (append-snoc (beBytes n y) x (drop (i + suc n) g)))
-
-id-stood : (g : List ℕ) (i : ℕ) → Bytes g → i + 16 ≤ length g → drop i g ≡ idBytes (halvesAt g i) ++ drop (i + 16) g
-unfolding idBytes halvesAt
-id-stood g i b h =
-    let up : List ℕ = beBytes 8 (beAt g i 8) in
-    let low : List ℕ = beBytes 8 (beAt g (i + 8) 8) in
-    let place : i + 8 + 8 ≡ i + 16 = omega arith in
-    be-stood 8 g i b (omega arith)
-    ∙ ap (λ (t : List ℕ). up ++ t) (be-stood 8 g (i + 8) b (omega arith) ∙ ap (λ (t : ℕ). low ++ drop t g) place)
-    ∙ sym (append-assoc up low (drop (i + 16) g))
-
-varint-stood : (g : List ℕ) (i v n : ℕ) → Bytes g → varintAt g i ≡ Value v n → drop i g ≡ varBytes v ++ drop n g
-varint-stood g i v n b e =
-    let after = varint-next g i v n e in
-    let place : i + (n - i) ≡ n = omega arith in
-    sym (take-append-drop (n - i) (drop i g))
-    ∙ ap₂ (λ (x y : List ℕ). x ++ y) (varint-bytes g i v n b e) (drop-drop (n - i) i g ∙ ap (λ (t : ℕ). drop t g) place)
 
 -- ---- one partner
 
@@ -135,7 +87,7 @@ walked dense (suc d) g i hi floor b ps e =
     let p = t .partner in
     let n = t .next in
     let qs = t .others in
-    let w = walked dense d g n (p .hi) (suc (numberOf p)) b qs (t .rest) in
+    let w = walked dense d g n (p .hi) (suc (idNumber p)) b qs (t .rest) in
     let count = w .count in
     let room = w .room in
     let after = step-next dense g i hi p n (t .step) in
@@ -154,24 +106,24 @@ walked dense (suc d) g i hi floor b ps e =
 -- ---- the whole group
 
 -- partners come after a head
-pub record Grouped (g : List ℕ) (dense : Bool) (ps : List Id) : Type 0 where
+pub record GoodGroup (g : List ℕ) (dense : Bool) (ps : List Id) : Type 0 where
   pub place : ℕ
   pub head : Headed g dense (length ps) place
   pub walk : Walked dense (length ps) g place 0 0 dense ps
 
-pub grouped : (g : List ℕ) (dense : Bool) (ps : List Id) → groupOf g ≡ good dense ps → Grouped g dense ps
-grouped g dense ps e = go (headOf g) refl
+pub good-group : (g : List ℕ) (dense : Bool) (ps : List Id) → groupOf g ≡ good dense ps → GoodGroup g dense ps
+good-group g dense ps e = go (headOf g) refl
   where
-    walk : (c : Bool) (d i : ℕ) → headOf g ≡ headIs c d i → Grouped g dense ps
+    walk : (c : Bool) (d i : ℕ) → headOf g ≡ headIs c d i → GoodGroup g dense ps
     walk c d i q =
         let w = walked c d g i 0 0 dense ps (sym (group-walk g c d i q) ∙ e) in
         record {
           place = i;
-          head = subst (λ (x : Bool). Headed g x (length ps) i) (sym (w .kind)) (subst (λ (x : ℕ). Headed g c x i) (sym (w .count)) (headed g c d i q));
+          head = subst (λ (x : Bool). Headed g x (length ps) i) (sym (w .kind)) (subst (λ (x : ℕ). Headed g c x i) (sym (w .count)) (head-headed g c d i q));
           walk = subst (λ (x : Bool). Walked x (length ps) g i 0 0 dense ps) (sym (w .kind)) (subst (λ (x : ℕ). Walked c x g i 0 0 dense ps) (sym (w .count)) w);
         }
 
-    go : (h : Head) → headOf g ≡ h → Grouped g dense ps
+    go : (h : Head) → headOf g ≡ h → GoodGroup g dense ps
     go (Head.Split d i) q = walk false d i q
     go (Head.Dense d i) q = walk true d i q
     go (Head.Bad f) q =
@@ -181,19 +133,19 @@ grouped g dense ps e = go (headOf g) refl
 module _ (g : List ℕ) (dense : Bool) (ps : List Id) (e : groupOf g ≡ good dense ps) where
   -- the degree that is read is the number of partners, and at least 1
   pub degree-is : (1 ≤ length ps) × ((n : ℕ) × (degreeOf g ≡ Value (length ps) n))
-  degree-is = let h = grouped g dense ps e .head in (h .some, (h .tag, h .degree))
+  degree-is = let h = good-group g dense ps e .head in (h .some, (h .tag, h .degree))
 
   pub partners-rise : Rising ps
-  partners-rise = grouped g dense ps e .walk .above
+  partners-rise = good-group g dense ps e .walk .above
 
   pub partners-halves : Bytes g → Halves ps
-  partners-halves = grouped g dense ps e .walk .halves
+  partners-halves = good-group g dense ps e .walk .halves
 
   -- nine bytes or more for each partner, after a degree and a tag
   pub group-length : 2 + 9 * length ps ≤ length g
   unfolding degreeOf
   group-length =
-      let r = grouped g dense ps e in
+      let r = good-group g dense ps e in
       let h = r .head in
       let room = r .walk .room in
       let place = h .place in
@@ -204,7 +156,7 @@ module _ (g : List ℕ) (dense : Bool) (ps : List Id) (e : groupOf g ≡ good de
   pub group-bytes : Bytes g → g ≡ writtenAs dense ps
   unfolding degreeOf
   group-bytes b =
-      let r = grouped g dense ps e in
+      let r = good-group g dense ps e in
       let h = r .head in
       let n = h .tag in
       let tag : drop n g ≡ tagOf dense ∷ drop (r .place) g =

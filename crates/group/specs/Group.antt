@@ -10,18 +10,18 @@ use Rattle.codes.specs.declared.ids.Id.{Id}
 use Rattle.codes.specs.declared.varint.Varint.{Varint}
 use Rattle.codes.specs.declared.varint.Unread.{Unread}
 use Rattle.codes.specs.Little.{leAt}
-use Rattle.codes.specs.Ids.{halvesAt, numberOf, idBytes}
+use Rattle.codes.specs.Ids.{halvesAt, idNumber, idBytes}
 use Rattle.codes.specs.Varint.{varintAt}
 use Rattle.group.specs.declared.fault.Fault.{Fault}
 use Rattle.group.specs.declared.head.Head.{Head}
 use Rattle.group.specs.declared.split.Step.{Step}
-use Rattle.group.specs.declared.Group.{Group}
+use Rattle.group.specs.declared.GroupVerdict.{GroupVerdict}
 pub mod Laws
 
 -- what a group holds: whether it is dense, and its partners; or its first fault
-pub data Partners : Type 0 where
-  good : Bool → List Id → Partners
-  bad : Fault → Partners
+pub data Decoded : Type 0 where
+  good : Bool → List Id → Decoded
+  bad : Fault → Decoded
 
 -- what is made of a varint's number and the place after it, or of why there is none
 unfoldable pub onVarint {ℓ} : {X : Type ℓ} → Varint → (Unread → X) → (ℕ → ℕ → X) → X
@@ -49,25 +49,25 @@ stepAt dense g i hi = pick dense (denseStep g i) (splitStep g i hi)
 
 -- ---- the partners, one after the other
 
-unfoldable pub onStep : Step → (Id → ℕ → Partners) → Partners
+unfoldable pub onStep : Step → (Id → ℕ → Decoded) → Decoded
 onStep (Step.Partner p n) go = go p n
 onStep (Step.Bad f) go = bad f
 
-unfoldable pub cons : Id → Partners → Partners
+unfoldable pub cons : Id → Decoded → Decoded
 cons p (good dense ps) = good dense (p ∷ ps)
 cons p (bad f) = bad f
 
 -- d partners from i on, which end the group: "Partners strictly increase", so the floor is the least number that the next
 -- may be, 0 for the first
-unfoldable pub walkFrom : Bool → ℕ → List ℕ → ℕ → ℕ → ℕ → Partners
+unfoldable pub walkFrom : Bool → ℕ → List ℕ → ℕ → ℕ → ℕ → Decoded
 walkFrom dense zero g i hi floor = pick (eqb i (length g)) (good dense []) (bad Fault.Shape)
 walkFrom dense (suc d) g i hi floor =
     onStep (stepAt dense g i hi)
-    (λ p n. pick (leb floor (numberOf p)) (cons p (walkFrom dense d g n (p .hi) (suc (numberOf p)))) (bad Fault.Shape))
+    (λ p n. pick (leb floor (idNumber p)) (cons p (walkFrom dense d g n (p .hi) (suc (idNumber p)))) (bad Fault.Shape))
 
 -- the floor of partner k after the last one
 unfoldable pub floorOf : ℕ → Id → ℕ
-floorOf k last = pick (eqb k 0) 0 (suc (numberOf last))
+floorOf k last = pick (eqb k 0) 0 (suc (idNumber last))
 
 -- ---- the whole group
 
@@ -86,22 +86,22 @@ headOf g =
     (pick (eqb (getD g n 0) 0x01) (Head.Split d (n + 1))
     (pick (eqb (getD g n 0) 0x10) (Head.Dense d (n + 1)) (Head.Bad Fault.Tag)))))
 
-unfoldable pub onHead : Head → (Bool → ℕ → ℕ → Partners) → Partners
+unfoldable pub onHead : Head → (Bool → ℕ → ℕ → Decoded) → Decoded
 onHead (Head.Split d i) go = go false d i
 onHead (Head.Dense d i) go = go true d i
 onHead (Head.Bad f) go = bad f
 
-unfoldable pub groupOf : List ℕ → Partners
+unfoldable pub groupOf : List ℕ → Decoded
 groupOf g = onHead (headOf g) (λ dense d i. walkFrom dense d g i 0 0)
 
 -- ---- what is answered
 
-unfoldable pub isGood : Partners → Bool
+unfoldable pub isGood : Decoded → Bool
 isGood (good dense ps) = true
 isGood (bad f) = false
 
 -- the partners, none where there is a fault
-unfoldable pub partnersOf : Partners → List Id
+unfoldable pub partnersOf : Decoded → List Id
 partnersOf (good dense ps) = ps
 partnersOf (bad f) = []
 
@@ -111,6 +111,6 @@ bytesOf [] = []
 bytesOf (p ∷ ps) = idBytes p ++ bytesOf ps
 
 -- what a check answers: the degree is the number of partners
-unfoldable pub answerOf : Partners → Group
-answerOf (good dense ps) = Group.Good (length ps) dense
-answerOf (bad f) = Group.Bad f
+unfoldable pub verdictOf : Decoded → GroupVerdict
+verdictOf (good dense ps) = GroupVerdict.Good (length ps) dense
+verdictOf (bad f) = GroupVerdict.Bad f

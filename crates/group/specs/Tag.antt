@@ -11,12 +11,12 @@ use lib.Dec.{leb}
 use Rattle.codes.specs.declared.ids.Id.{Id}
 use Rattle.codes.specs.declared.varint.Varint.{Varint}
 use Rattle.codes.specs.declared.varint.Varint.the-variants.{Value}
-use Rattle.codes.specs.Ids.{numberOf}
+use Rattle.codes.specs.Ids.{idNumber}
 use Rattle.codes.specs.Varint.{varintAt}
 use Rattle.group.specs.declared.head.Head.{Head}
 use Rattle.group.specs.declared.split.Step.{Step}
 use Rattle.group.specs.declared.fault.Fault.{Fault}
-use Rattle.group.specs.Group.{Partners, good, bad, stepAt, cons, walkFrom, headOf, groupOf}
+use Rattle.group.specs.Group.{Decoded, good, bad, stepAt, cons, walkFrom, headOf, groupOf}
 use Rattle.group.specs.Group.Laws.{split-unread, split-over, split-short, split-good, dense-short, dense-good, step-split, step-dense, head-unread, head-none, head-short, head-split, head-dense, head-tag, group-walk, group-bad, walk-end, walk-over, walk-bad, walk-low, walk-more}
 
 -- after a degree that is read and not 0 stands a byte, which is neither 0x01 nor 0x10
@@ -49,7 +49,7 @@ step-tag false g i hi e = go (varintAt g i) refl
           ]
         ]
 
-cons-tag : (p : Id) (w : Partners) → cons p w ≡ bad Fault.Tag → w ≡ bad Fault.Tag
+cons-tag : (p : Id) (w : Decoded) → cons p w ≡ bad Fault.Tag → w ≡ bad Fault.Tag
 unfolding cons
 cons-tag p (good dense ps) e = let z : _≡_ {A = ℕ} 0 1 = cc in absurd (omega arith)
 cons-tag p (bad f) e = e
@@ -60,15 +60,15 @@ walk-tag dense zero g i hi floor e =
       | yes h ↦ let z : _≡_ {A = ℕ} 0 1 = cc (walk-end dense g i hi floor h) in omega arith
       | no h ↦ let z : _≡_ {A = ℕ} 0 1 = cc (walk-over dense g i hi floor h) in omega arith
     ]
-walk-tag dense (suc d) g i hi floor e = go (stepAt dense g i hi) refl (λ p n. walk-tag dense d g n (p .hi) (suc (numberOf p)))
+walk-tag dense (suc d) g i hi floor e = go (stepAt dense g i hi) refl (λ p n. walk-tag dense d g n (p .hi) (suc (idNumber p)))
   where
-    low : (p : Id) (n : ℕ) → stepAt dense g i hi ≡ Step.Partner p n → (t : Bool) → leb floor (numberOf p) ≡ t
-        → (walkFrom dense d g n (p .hi) (suc (numberOf p)) ≡ bad Fault.Tag → ⊥) → ⊥
+    low : (p : Id) (n : ℕ) → stepAt dense g i hi ≡ Step.Partner p n → (t : Bool) → leb floor (idNumber p) ≡ t
+        → (walkFrom dense d g n (p .hi) (suc (idNumber p)) ≡ bad Fault.Tag → ⊥) → ⊥
     low p n q true l ih = ih (cons-tag p _ (sym (walk-more dense g i hi floor d p n q l) ∙ e))
     low p n q false l ih = let z : _≡_ {A = ℕ} 0 1 = cc (walk-low dense g i hi floor d p n q l) in omega arith
 
-    go : (s : Step) → stepAt dense g i hi ≡ s → ((p : Id) (n : ℕ) → walkFrom dense d g n (p .hi) (suc (numberOf p)) ≡ bad Fault.Tag → ⊥) → ⊥
-    go (Step.Partner p n) q ih = low p n q (leb floor (numberOf p)) refl (ih p n)
+    go : (s : Step) → stepAt dense g i hi ≡ s → ((p : Id) (n : ℕ) → walkFrom dense d g n (p .hi) (suc (idNumber p)) ≡ bad Fault.Tag → ⊥) → ⊥
+    go (Step.Partner p n) q ih = low p n q (leb floor (idNumber p)) refl (ih p n)
     go (Step.Bad f) q ih =
         let same : f ≡ Fault.Tag = cc (walk-bad dense g i hi floor d f q) in
         step-tag dense g i hi (q ∙ ap Step.Bad same)

@@ -13,12 +13,12 @@ use Rattle.codes.specs.declared.ids.Id.{Id}
 use Rattle.codes.specs.declared.varint.Varint.the-variants.{Value}
 use Rattle.codes.specs.Little.{leAt, leBytes}
 use Rattle.codes.specs.Little.Laws.{leAt-back, length-leBytes}
-use Rattle.codes.specs.Ids.{numberOf, idBytes}
+use Rattle.codes.specs.Ids.{idNumber, idBytes}
 use Rattle.codes.specs.Ids.Laws.{length-idBytes, halves-back}
 use Rattle.codes.specs.Varint.{varintAt, varBytes}
 use Rattle.codes.specs.Varint.Laws.{read-back}
 use Rattle.group.specs.declared.split.Step.{Step}
-use Rattle.group.specs.Group.{Partners, good, splitStep, stepAt, cons, walkFrom, headOf, groupOf, bytesOf}
+use Rattle.group.specs.Group.{Decoded, good, splitStep, stepAt, cons, walkFrom, headOf, groupOf, bytesOf}
 use Rattle.group.specs.Group.Laws.{split-good, dense-good, step-split, step-dense, walk-end, walk-more, headIs, tagOf, head-split, head-dense, group-walk}
 
 -- ---- what can be written
@@ -31,25 +31,25 @@ Halves (p ∷ ps) = (p .hi < 2 ^ 64) × (p .lo < 2 ^ 64) × Halves ps
 -- numbers that strictly increase from the floor on
 unfoldable pub Above : ℕ → List Id → Type 0
 Above floor [] = Unit {0}
-Above floor (p ∷ ps) = (floor ≤ numberOf p) × Above (suc (numberOf p)) ps
+Above floor (p ∷ ps) = (floor ≤ idNumber p) × Above (suc (idNumber p)) ps
 
 -- "Partners strictly increase"
 abbrev pub Rising : List Id → Type 0
 Rising ps = Above 0 ps
 
 -- so each number is above every one before it; z is any id
-above-floor : (ps : List Id) (floor j : ℕ) (z : Id) → Above floor ps → j < length ps → floor ≤ numberOf (getD ps j z)
+above-floor : (ps : List Id) (floor j : ℕ) (z : Id) → Above floor ps → j < length ps → floor ≤ idNumber (getD ps j z)
 unfolding Above
 above-floor [] floor j z u h = absurd (omega arith)
 above-floor (p ∷ ps) floor zero z u h = u .0
-above-floor (p ∷ ps) floor (suc j) z u h = let first = u .0 in omega (arith, above-floor ps (suc (numberOf p)) j z (u .1) (omega arith))
+above-floor (p ∷ ps) floor (suc j) z u h = let first = u .0 in omega (arith, above-floor ps (suc (idNumber p)) j z (u .1) (omega arith))
 
-pub above-before : (ps : List Id) (floor i j : ℕ) (z : Id) → Above floor ps → i < j → j < length ps → numberOf (getD ps i z) < numberOf (getD ps j z)
+pub above-before : (ps : List Id) (floor i j : ℕ) (z : Id) → Above floor ps → i < j → j < length ps → idNumber (getD ps i z) < idNumber (getD ps j z)
 unfolding Above
 above-before [] floor i j z u l h = absurd (omega arith)
 above-before (p ∷ ps) floor i zero z u l h = absurd (omega arith)
-above-before (p ∷ ps) floor zero (suc j) z u l h = above-floor ps (suc (numberOf p)) j z (u .1) (omega arith)
-above-before (p ∷ ps) floor (suc i) (suc j) z u l h = above-before ps (suc (numberOf p)) i j z (u .1) (omega arith) (omega arith)
+above-before (p ∷ ps) floor zero (suc j) z u l h = above-floor ps (suc (idNumber p)) j z (u .1) (omega arith)
+above-before (p ∷ ps) floor (suc i) (suc j) z u l h = above-before ps (suc (idNumber p)) i j z (u .1) (omega arith) (omega arith)
 
 -- ---- the two writings
 
@@ -139,11 +139,11 @@ walk-back dense (p ∷ ps) q hi floor a h u =
     let r : List ℕ = payloadOf dense (p .hi) ps in
     let same : q ++ (w ++ r) ≡ (q ++ w) ++ r = sym (append-assoc q w r) in
     let up : hi ≤ p .hi = upper-from hi (p .hi) (p .lo) floor a (u .0) (h .1) in
-    let ih = walk-back dense ps (q ++ w) (p .hi) (suc (numberOf p)) (omega arith) (h .2) (u .1) in
+    let ih = walk-back dense ps (q ++ w) (p .hi) (suc (idNumber p)) (omega arith) (h .2) (u .1) in
     ap (λ (t : List ℕ). walkFrom dense (suc (length ps)) (q ++ t) (length q) hi floor) (payload-cons dense hi p ps)
     ∙ walk-more dense (q ++ (w ++ r)) (length q) hi floor (length ps) p (length (q ++ w))
-    (step-back dense q r hi p up (h .0) (h .1)) (le-leb floor (numberOf p) (u .0))
-    ∙ ap (λ (t : List ℕ). cons p (walkFrom dense (length ps) t (length (q ++ w)) (p .hi) (suc (numberOf p)))) same
+    (step-back dense q r hi p up (h .0) (h .1)) (le-leb floor (idNumber p) (u .0))
+    ∙ ap (λ (t : List ℕ). cons p (walkFrom dense (length ps) t (length (q ++ w)) (p .hi) (suc (idNumber p)))) same
     ∙ ap (cons p) ih
 
 -- ---- the whole group

@@ -4,27 +4,27 @@ ghost use mathlib.Core.Bool.{true};
 ghost use Prim.Native.Nat.{_-_, _≤_};
 ghost use lib.ListN.{length, drop};
 ghost use Rattle.base.specs.Over.{over};
-ghost use Rattle.group.specs.Group.{walkFrom, answerOf};
-use super::Group;
+ghost use Rattle.group.specs.Group.{walkFrom, verdictOf};
+use super::GroupVerdict;
 use super::fault::Fault;
 use codes::ids::be64;
 use codes::ids::precedes;
 
 // Checks the partners from `at` on. Every fault of a dense payload is a bad shape, so its length can be held against the
 // degree before any partner is read.
-pub fn check_dense(g: &[u8], at: usize, degree: u64) -> Group
+pub fn check_dense(g: &[u8], at: usize, degree: u64) -> GroupVerdict
     requires { ⌜ (at ≤ length (now g)) × (1 ≤ degree) ⌝ }
-    ensures { λ r. ⌜ r ≡ answerOf (walkFrom true degree (now (g .entry)) at 0 0) ⌝ }
+    ensures { λ r. ⌜ r ≡ verdictOf (walkFrom true degree (now (g .entry)) at 0 0) ⌝ }
 {
     let rest = g.len() - at;
     if rest % 16 != 0 {
-        return Group::Bad {
+        return GroupVerdict::Bad {
             fault: Fault::Shape,
         };
     }
     let count = (rest / 16) as u64;
     if count != degree {
-        return Group::Bad {
+        return GroupVerdict::Bad {
             fault: Fault::Shape,
         };
     }
@@ -33,14 +33,14 @@ pub fn check_dense(g: &[u8], at: usize, degree: u64) -> Group
     while i < g.len() {
         let hi = be64(g, i);
         if !precedes(g, i - 16, i, last, hi) {
-            return Group::Bad {
+            return GroupVerdict::Bad {
                 fault: Fault::Shape,
             };
         }
         last = hi;
         i = i + 16;
     }
-    Group::Good {
+    GroupVerdict::Good {
         degree,
         dense: true,
     }

@@ -6,8 +6,8 @@ ghost use Prim.Native.Nat.{_*_, _≤_};
 ghost use lib.ListN.{length};
 ghost use lib.Dec.{ltb};
 ghost use Rattle.base.specs.Over.{over};
-ghost use Rattle.codes.specs.Ids.{numberOf};
-ghost use Rattle.group.specs.Group.{groupOf, answerOf, isGood, partnersOf, bytesOf};
+ghost use Rattle.codes.specs.Ids.{idNumber};
+ghost use Rattle.group.specs.Group.{groupOf, verdictOf, isGood, partnersOf, bytesOf};
 
 pub mod dense;
 pub mod fault;
@@ -24,14 +24,14 @@ use split::check_split;
 use split::fill_split;
 
 // A group's partners are good, or its first fault in reading order.
-pub enum Group {
+pub enum GroupVerdict {
     Good { degree: u64, dense: bool },
     Bad { fault: Fault },
 }
 
 // Is a partner above the last one?
-fn above(last: Id, id: Id) -> bool
-    ensures { λ r. ⌜ r ≡ ltb (numberOf last) (numberOf id) ⌝ }
+fn rises(last: Id, id: Id) -> bool
+    ensures { λ r. ⌜ r ≡ ltb (idNumber last) (idNumber id) ⌝ }
 {
     if last.hi < id.hi {
         return true;
@@ -43,13 +43,13 @@ fn above(last: Id, id: Id) -> bool
 }
 
 // Is g a group, and of how many partners?
-pub fn check_group(g: &[u8]) -> Group
-    ensures { λ r. ⌜ r ≡ answerOf (groupOf (now (g .entry))) ⌝ }
+pub fn check_group(g: &[u8]) -> GroupVerdict
+    ensures { λ r. ⌜ r ≡ verdictOf (groupOf (now (g .entry))) ⌝ }
 {
     match head_of(g) {
         Head::Split { degree, at } => check_split(g, at, degree),
         Head::Dense { degree, at } => check_dense(g, at, degree),
-        Head::Bad { fault } => Group::Bad { fault },
+        Head::Bad { fault } => GroupVerdict::Bad { fault },
     }
 }
 

@@ -6,11 +6,11 @@ ghost use Prim.Native.Nat.{_*_, _≤_};
 ghost use lib.ListN.{length};
 ghost use lib.Dec.{leb};
 ghost use Rattle.base.specs.Over.{over};
-ghost use Rattle.codes.specs.Ids.{numberOf};
-ghost use Rattle.group.specs.Group.{splitStep, floorOf, walkFrom, answerOf, isGood, partnersOf, bytesOf};
-use super::Group;
-use super::above;
+ghost use Rattle.codes.specs.Ids.{idNumber};
+ghost use Rattle.group.specs.Group.{splitStep, floorOf, walkFrom, verdictOf, isGood, partnersOf, bytesOf};
+use super::GroupVerdict;
 use super::fault::Fault;
+use super::rises;
 use codes::ids::Id;
 use codes::ids::put_be64;
 use codes::little::le64;
@@ -53,17 +53,17 @@ pub fn split_step(g: &[u8], i: usize, hi: u64) -> Step
 
 // Is partner k above the last one? Partner 0 has none before it.
 fn in_order(k: u64, last: Id, id: Id) -> bool
-    ensures { λ r. ⌜ r ≡ leb (floorOf k last) (numberOf id) ⌝ }
+    ensures { λ r. ⌜ r ≡ leb (floorOf k last) (idNumber id) ⌝ }
 {
     if k == 0 {
         return true;
     }
-    above(last, id)
+    rises(last, id)
 }
 
 // Checks the partners from `at` on.
-pub fn check_split(g: &[u8], at: usize, degree: u64) -> Group
-    ensures { λ r. ⌜ r ≡ answerOf (walkFrom false degree (now (g .entry)) at 0 0) ⌝ }
+pub fn check_split(g: &[u8], at: usize, degree: u64) -> GroupVerdict
+    ensures { λ r. ⌜ r ≡ verdictOf (walkFrom false degree (now (g .entry)) at 0 0) ⌝ }
 {
     let mut i = at;
     let mut k: u64 = 0;
@@ -72,7 +72,7 @@ pub fn check_split(g: &[u8], at: usize, degree: u64) -> Group
         match split_step(g, i, last.hi) {
             Step::Partner { id, next } => {
                 if !in_order(k, last, id) {
-                    return Group::Bad {
+                    return GroupVerdict::Bad {
                         fault: Fault::Shape,
                     };
                 }
@@ -81,17 +81,17 @@ pub fn check_split(g: &[u8], at: usize, degree: u64) -> Group
                 k = k + 1;
             }
             Step::Bad { fault } => {
-                return Group::Bad { fault };
+                return GroupVerdict::Bad { fault };
             }
         }
     }
     if i == g.len() {
-        return Group::Good {
+        return GroupVerdict::Good {
             degree,
             dense: false,
         };
     }
-    Group::Bad {
+    GroupVerdict::Bad {
         fault: Fault::Shape,
     }
 }

@@ -13,7 +13,7 @@ use Rattle.base.specs.Pick.{pick}
 use Rattle.codes.specs.Little.{leAt}
 use Rattle.refusal.specs.declared.Refusal.{Refusal}
 use Rattle.refusal.specs.declared.Check.{Check}
-use Rattle.frame.specs.Open.{keyAt, keysFrom, offsetAt, offsetGood, offsetsFrom, fenceGood, fencesFrom, fencesGood, strideOf, fenceCount}
+use Rattle.frame.specs.Open.{keyAt, keysFrom, offsetAt, offsetGood, offsetsFrom, fenceGood, fencesFrom, fencesGood, strideOf, fencesTold}
 
 -- ---- rule 13: of n keys, k is the next
 
@@ -37,13 +37,13 @@ pub of-width : (o : List ℕ) (w i b : ℕ) → w ≡ b → leAt o (i * w) b ≡
 of-width o w i b e = ap (leAt o (i * w)) (sym e)
 
 -- the first is 0, another is above the one before
-abbrev pub rises : List ℕ → ℕ → ℕ → Bool
-rises o w i = pick (eqb i 0) (eqb (offsetAt o w i) 0) (ltb (offsetAt o w (i - 1)) (offsetAt o w i))
+abbrev pub risingKeys : List ℕ → ℕ → ℕ → Bool
+risingKeys o w i = pick (eqb i 0) (eqb (offsetAt o w i) 0) (ltb (offsetAt o w (i - 1)) (offsetAt o w i))
 
-pub first-rises : (o : List ℕ) (w : ℕ) → offsetAt o w 0 ≡ 0 → rises o w 0 ≡ true
+pub first-rises : (o : List ℕ) (w : ℕ) → offsetAt o w 0 ≡ 0 → risingKeys o w 0 ≡ true
 first-rises o w e = simp (eq-eqb (offsetAt o w 0) 0 e)
 
-pub next-rises : (o : List ℕ) (w i : ℕ) → offsetAt o w i < offsetAt o w (i + 1) → rises o w (i + 1) ≡ true
+pub next-rises : (o : List ℕ) (w i : ℕ) → offsetAt o w i < offsetAt o w (i + 1) → risingKeys o w (i + 1) ≡ true
 next-rises o w i h =
     let e : i + 1 - 1 ≡ i = omega arith in
     rw e (simp (ne-eqb (i + 1) 0 (λ q. omega arith), lt-ltb (offsetAt o w i) (offsetAt o w (i + 1)) h))
@@ -54,7 +54,7 @@ module _ (o : List ℕ) (w n len : ℕ) where
   offsets-first ne = let d : n + 1 ≡ suc n = omega arith in rw d (simp (ne-eqb (offsetAt o w 0) 0 ne))
 
   -- offset i stands before the last and rises, so that the next one decides
-  module _ (i : ℕ) (lt : i < n) (up : rises o w i ≡ true) where
+  module _ (i : ℕ) (lt : i < n) (up : risingKeys o w i ≡ true) where
     pub offsets-on : offsetsFrom (n + 1 - i) o w n len i ≡ offsetsFrom (n + 1 - (i + 1)) o w n len (i + 1)
     unfolding offsetsFrom offsetGood
     offsets-on =
@@ -69,7 +69,7 @@ module _ (o : List ℕ) (w n len : ℕ) where
         offsets-on ∙ rw (d, e) (simp (ne-eqb (i + 1) 0 (λ q. omega arith), le-ltb (offsetAt o w i) (offsetAt o w (i + 1)) h))
 
   -- the last one rises: its value decides
-  module _ (i : ℕ) (eq : i ≡ n) (up : rises o w i ≡ true) where
+  module _ (i : ℕ) (eq : i ≡ n) (up : risingKeys o w i ≡ true) where
     pub offsets-end : (b : Bool) → eqb (offsetAt o w i) len ≡ b → offsetsFrom (n + 1 - i) o w n len i ≡ pick b Check.Fine (Check.Bad (Refusal.Offset n))
     unfolding offsetsFrom offsetGood
     offsets-end b e =
@@ -102,7 +102,7 @@ module _ (x keys : List ℕ) (n : ℕ) where
     unfolding fencesGood
     fences-stride h = rw (← es) (simp (le-leb 8 (length x) long, lt-leb 1 s h))
 
-    module _ (some : 1 ≤ s) (k : ℕ) (ek : k ≡ fenceCount x) where
+    module _ (some : 1 ≤ s) (k : ℕ) (ek : k ≡ fencesTold x) where
       fences-are : fencesGood x keys n ≡ (eqb k ((n + (s - 1)) / s) && (eqb (length x) (8 + 24 * k) && fencesFrom k x keys s 0))
       unfolding fencesGood
       fences-are = rw (← es, ← ek) (simp (le-leb 8 (length x) long, le-leb 1 s some))

@@ -15,17 +15,17 @@ abbrev pub middle : ℕ → ℕ → ℕ
 middle low high = low + (high - low) / 2
 
 -- the key that was compared is smaller: the search goes on above it; equal: it ends here; larger: it goes on below it
-unfoldable pub turn : Order → Found → Found → Found → Found
-turn Order.Less above here below = above
-turn Order.Equal above here below = here
-turn Order.Greater above here below = below
+unfoldable pub narrowed : Order → Found → Found → Found → Found
+narrowed Order.Less above here below = above
+narrowed Order.Equal above here below = here
+narrowed Order.Greater above here below = below
 
 -- at most d turns of the search for k from low to high, c keys having been compared
 unfoldable pub findFrom : ℕ → List ℕ → ℕ → ℕ → ℕ → ℕ → Found
 findFrom zero s k low high c = Found.Absent c
 findFrom (suc d) s k low high c =
     pick (ltb low high)
-    (turn (order (keyAt s (middle low high)) k)
+    (narrowed (order (keyAt s (middle low high)) k)
     (findFrom d s k (middle low high + 1) high (c + 1))
     (Found.At (middle low high) (c + 1))
     (findFrom d s k low (middle low high) (c + 1)))

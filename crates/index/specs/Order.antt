@@ -12,12 +12,12 @@ use Rattle.refusal.specs.declared.Check.{Check}
 use Rattle.refusal.specs.Check.Laws.{pick-fine, and-parts}
 use Rattle.frame.specs.Open.{keyAt, keysFrom, offsetAt, offsetGood, offsetsFrom}
 use Rattle.index.specs.Compare.{tri}
-use Rattle.index.specs.Cases.{rises}
+use Rattle.index.specs.Cases.{risingKeys}
 
 -- ---- keys: n of them
 
-abbrev pub Rising : List ℕ → ℕ → Type 0
-Rising s n = (i j : ℕ) → i < j → j < n → keyAt s i < keyAt s j
+abbrev pub KeysRise : List ℕ → ℕ → Type 0
+KeysRise s n = (i j : ℕ) → i < j → j < n → keyAt s i < keyAt s j
 
 -- of d keys from k on, each is above the one before
 keys-above : (d : ℕ) (s : List ℕ) (k : ℕ) → keysFrom d s k ≡ Check.Fine → (j : ℕ) → k ≤ j → j < k + d → keyAt s (j - 1) < keyAt s j
@@ -29,7 +29,7 @@ keys-above (suc d) s k e j a b =
     let others = keys-above d s (k + 1) (p .1) j in
     tri k j (λ lt. others (omega arith) (omega arith)) (λ eq. (rw eq at first)) (λ gt. absurd (omega arith))
 
-pub keys-rise : (s : List ℕ) (n : ℕ) → keysFrom (n - 1) s 1 ≡ Check.Fine → Rising s n
+pub keys-rise : (s : List ℕ) (n : ℕ) → keysFrom (n - 1) s 1 ≡ Check.Fine → KeysRise s n
 keys-rise s n e i zero lt ltn = absurd (omega arith)
 keys-rise s n e i (suc j) lt ltn =
     let back : suc j - 1 ≡ j = omega arith in
@@ -38,7 +38,7 @@ keys-rise s n e i (suc j) lt ltn =
     tri i j (λ l. omega (arith, before l (omega arith))) (λ q. rw q next) (λ g. absurd (omega arith))
 
 -- a smaller key stands before, an equal one is the same
-module _ (s : List ℕ) (n : ℕ) (up : Rising s n) where
+module _ (s : List ℕ) (n : ℕ) (up : KeysRise s n) where
   pub key-before : (i j : ℕ) → i < n → keyAt s i < keyAt s j → i < j
   key-before i j h lt = tri i j (λ l. l) (λ q. absurd (omega (arith, ap (keyAt s) q))) (λ g. absurd (omega (arith, up j i g h)))
 
@@ -47,7 +47,7 @@ module _ (s : List ℕ) (n : ℕ) (up : Rising s n) where
 
 -- ---- offsets: n + 1 of them, of w bytes, into partners of len bytes
 
-pub record Offsets (o : List ℕ) (w n len : ℕ) : Type 0 where
+pub record OffsetsRise (o : List ℕ) (w n len : ℕ) : Type 0 where
   pub first : offsetAt o w 0 ≡ 0
   pub above : (i : ℕ) → i < n → offsetAt o w i < offsetAt o w (i + 1)
   pub last : offsetAt o w n ≡ len
@@ -64,17 +64,17 @@ module _ (o : List ℕ) (w n len : ℕ) where
       tri i j (λ lt. others (omega arith) (omega arith)) (λ eq. (rw eq at (p .0))) (λ gt. absurd (omega arith))
 
   -- a good offset rises, and a good last one is len
-  good-rises : (i : ℕ) → offsetGood o w n len i ≡ true → rises o w i ≡ true
+  good-rises : (i : ℕ) → offsetGood o w n len i ≡ true → risingKeys o w i ≡ true
   unfolding offsetGood
-  good-rises i e = and-parts (rises o w i) (not (eqb i n) || eqb (offsetAt o w i) len) e .0
+  good-rises i e = and-parts (risingKeys o w i) (not (eqb i n) || eqb (offsetAt o w i) len) e .0
 
   good-last : offsetGood o w n len n ≡ true → offsetAt o w n ≡ len
   unfolding offsetGood
   good-last e =
-      let p = and-parts (rises o w n) (not (eqb n n) || eqb (offsetAt o w n) len) e .1 in
+      let p = and-parts (risingKeys o w n) (not (eqb n n) || eqb (offsetAt o w n) len) e .1 in
       eqb-true _ _ (rw (eq-eqb n n refl) at p)
 
-  rises-above : (i : ℕ) → rises o w (i + 1) ≡ true → offsetAt o w i < offsetAt o w (i + 1)
+  rises-above : (i : ℕ) → risingKeys o w (i + 1) ≡ true → offsetAt o w i < offsetAt o w (i + 1)
   rises-above i e =
       let d : i + 1 - 1 ≡ i = omega arith in
       ltb-true _ _ (rw (ne-eqb (i + 1) 0 (λ q. omega arith), d) at e)
@@ -84,7 +84,7 @@ module _ (o : List ℕ) (w n len : ℕ) where
   within-from up zero i q = let e : i ≡ n = omega arith in rw e (omega arith)
   within-from up (suc d) i q = omega (arith, up i (omega arith), within-from up d (i + 1) (omega arith))
 
-  pub offsets-rise : offsetsFrom (n + 1) o w n len 0 ≡ Check.Fine → Offsets o w n len
+  pub offsets-rise : offsetsFrom (n + 1) o w n len 0 ≡ Check.Fine → OffsetsRise o w n len
   offsets-rise e =
       let good : (i : ℕ) → i ≤ n → offsetGood o w n len i ≡ true = λ i h. offsets-good (n + 1) 0 e i (omega arith) (omega arith) in
       let up : (i : ℕ) → i < n → offsetAt o w i < offsetAt o w (i + 1) = λ i h. rises-above i (good-rises (i + 1) (good (i + 1) (omega arith))) in

@@ -2,30 +2,15 @@
 ghost use mathlib.Core.Path.{_≡_};
 ghost use Prim.Native.Nat.{_+_, _*_, _≤_, _<_};
 ghost use lib.ListN.{length};
-ghost use lib.Dec.{eqb};
-ghost use Rattle.codes.specs.Ids.{numberOf};
 ghost use Rattle.frame.specs.Kind as kind;
 ghost use Rattle.frame.specs.Open.{fenceGood, fencesFrom, fencesGood};
 use super::keys::key_at;
-use codes::ids::Id;
-use codes::ids::Order;
-use codes::ids::compare;
 use codes::ids::id_at;
+use codes::ids::same_id;
 use codes::little::le32;
 use codes::little::le64;
 use frame::kind::Fences;
 use frame::kind::Keys;
-
-// Are a and b one id?
-fn same(a: Id, b: Id) -> bool
-    ensures { λ r. ⌜ r ≡ eqb (numberOf a) (numberOf b) ⌝ }
-{
-    match compare(a, b) {
-        Order::Less => false,
-        Order::Equal => true,
-        Order::Greater => false,
-    }
-}
 
 // Is fence i key i * stride, and its place?
 fn fence_good(x: &[u8], keys: &[u8], stride: usize, i: usize) -> bool
@@ -34,7 +19,7 @@ fn fence_good(x: &[u8], keys: &[u8], stride: usize, i: usize) -> bool
 {
     let k = i * stride;
     let at = (Fences::HEAD as usize) + (Fences::ROW as usize) * i;
-    if !same(id_at(x, at), key_at(keys, k)) {
+    if !same_id(id_at(x, at), key_at(keys, k)) {
         return false;
     }
     let place = le64(x, at + (Keys::ROW as usize));

@@ -2,7 +2,7 @@
 ghost use mathlib.Core.Path.{_≡_};
 ghost use Prim.Native.Nat.{_+_, _-_, _*_, _≤_};
 ghost use lib.ListN.{length};
-ghost use Rattle.codes.specs.Ids.{numberOf, halvesAt};
+ghost use Rattle.codes.specs.Ids.{idNumber, halvesAt};
 ghost use Rattle.frame.specs.Kind as kind;
 ghost use Rattle.frame.specs.Open.{keysFrom};
 ghost use Rattle.index.specs.Find.{findIn};
@@ -58,7 +58,7 @@ pub fn keys_check(keys: &[u8], n: usize) -> Check
 // The place of a key among n keys. The count is of keys compared, the one that was found too.
 pub fn find(keys: &[u8], n: usize, key: Id) -> Found
     requires { ⌜ (n ≤ kind.mostKeys) × (n * kind.keySize ≤ length (now keys)) ⌝ }
-    ensures { λ r. ⌜ r ≡ findIn (now (keys .entry)) n (numberOf key) ⌝ }
+    ensures { λ r. ⌜ r ≡ findIn (now (keys .entry)) n (idNumber key) ⌝ }
 {
     let mut low: usize = 0;
     let mut high = n;

@@ -16,7 +16,7 @@ use Rattle.refusal.specs.declared.Refusal.{Refusal}
 use Rattle.refusal.specs.declared.Check.{Check}
 use Rattle.refusal.specs.Check.Laws.{fine-pick, and-both}
 use Rattle.frame.specs.declared.Row.{Row}
-use Rattle.frame.specs.Frame.{rowAt, rowsFrom, endFrom, rowsOf, endOf, countOf, keyCount, edgeCount, bitsOf, ranges}
+use Rattle.frame.specs.Frame.{rowAt, rowsFrom, endFrom, rowsOf, endOf, entryCount, keyCount, edgeCount, bitsOf, ranges}
 use Rattle.frame.specs.Layout.{Section, payload, entry, entries, bodyBytes}
 
 -- the rows that reading the entries gives: sections from `at` on, entries from i on
@@ -41,7 +41,7 @@ leAt-at n q r x s i e l b = rw (e, ← l) (leAt-back n q r x b)
 
 -- ---- one entry
 
-pub record Fits (at : ℕ) (s : Section) : Type 0 where
+pub record SectionFits (at : ℕ) (s : Section) : Type 0 where
   pub kind : s .kind < 2 ^ 16
   pub start : at < 2 ^ 64
   pub len : length (s .bytes) < 2 ^ 64
@@ -51,7 +51,7 @@ pub length-entry : (at : ℕ) (s : Section) → length (entry at s) ≡ 28 + len
 unfolding entry
 length-entry at s = simp (length-append, length-leBytes) (omega arith)
 
-module _ (at : ℕ) (s : Section) (r : List ℕ) (h : Fits at s) where
+module _ (at : ℕ) (s : Section) (r : List ℕ) (h : SectionFits at s) where
   row-first : rowAt (entry at s ++ r) 0 ≡ record { kind = s .kind; codec = s .codec; namelen = length (s .name); nameat = 28; start = at; len = length (s .bytes); sum = s .sum }
   unfolding rowAt entry leAt leBytes
   row-first = λ j. record {
@@ -80,9 +80,9 @@ row-past p q = λ j. record {
 -- ---- the table
 
 -- every section fits where it lies
-unfoldable pub AllFit : ℕ → List Section → Type 0
-AllFit at [] = Unit {0}
-AllFit at (s ∷ ss) = Fits at s × AllFit (at + length (s .bytes)) ss
+unfoldable pub SectionsFit : ℕ → List Section → Type 0
+SectionsFit at [] = Unit {0}
+SectionsFit at (s ∷ ss) = SectionFits at s × SectionsFit (at + length (s .bytes)) ss
 
 -- the first of several entries, and what follows it
 module _ (s : Section) (ss : List Section) (at : ℕ) (p r : List ℕ) where
@@ -111,15 +111,15 @@ module _ (s : Section) (ss : List Section) (at : ℕ) (p r : List ℕ) where
       ap (λ (t : List ℕ). part t (length p + 28) (length p + 28 + length (s .name))) open-first
       ∙ ap₂ take n (drop-append-add p (entry at s ++ left) 28) ∙ take-at (s .name) left (length (s .name)) refl
 
-  row-at : Fits at s → rowAt (p ++ (entries at (s ∷ ss) ++ r)) (length p)
+  row-at : SectionFits at s → rowAt (p ++ (entries at (s ∷ ss) ++ r)) (length p)
       ≡ record { kind = s .kind; codec = s .codec; namelen = length (s .name); nameat = length p + 28; start = at; len = length (s .bytes); sum = s .sum }
   row-at h =
       rw open-first (row-past p (entry at s ++ left)
       ∙ ap (λ (w : Row). record { kind = w .kind; codec = w .codec; namelen = w .namelen; nameat = length p + 28; start = w .start; len = w .len; sum = w .sum }) (row-first at s left h))
 
 -- the entries are read back
-pub rows-back : (ss : List Section) (at : ℕ) (p r : List ℕ) → AllFit at ss → rowsFrom (length ss) (p ++ (entries at ss ++ r)) (length p) ≡ rowsIn at (length p) ss
-unfolding AllFit rowsFrom rowsIn entries
+pub rows-back : (ss : List Section) (at : ℕ) (p r : List ℕ) → SectionsFit at ss → rowsFrom (length ss) (p ++ (entries at ss ++ r)) (length p) ≡ rowsIn at (length p) ss
+unfolding SectionsFit rowsFrom rowsIn entries
 rows-back [] at p r h = refl
 rows-back (s ∷ ss) at p r h =
     let w : List ℕ = p ++ (entries at (s ∷ ss) ++ r) in
@@ -129,8 +129,8 @@ rows-back (s ∷ ss) at p r h =
     ∙ ap₂ (λ (t : List ℕ) (i : ℕ). rowsFrom (length ss) t i) (past-first s ss at p r) (sym (length-first s ss at p r))
     ∙ ih ∙ ap (λ (i : ℕ). rowsIn (at + length (s .bytes)) i ss) (length-first s ss at p r))
 
-pub end-back : (ss : List Section) (at : ℕ) (p r : List ℕ) → AllFit at ss → endFrom (length ss) (p ++ (entries at ss ++ r)) (length p) ≡ length p + length (entries at ss)
-unfolding AllFit endFrom entries
+pub end-back : (ss : List Section) (at : ℕ) (p r : List ℕ) → SectionsFit at ss → endFrom (length ss) (p ++ (entries at ss ++ r)) (length p) ≡ length p + length (entries at ss)
+unfolding SectionsFit endFrom entries
 end-back [] at p r h = omega arith
 end-back (s ∷ ss) at p r h =
     let w : List ℕ = p ++ (entries at (s ∷ ss) ++ r) in
@@ -152,15 +152,15 @@ ranges-back (s ∷ ss) at i k limit h =
 -- ---- the body
 
 abbrev pub Small : List Section → Type 0
-Small ss = (length ss ≤ 64) × AllFit 64 ss
+Small ss = (length ss ≤ 64) × SectionsFit 64 ss
 
 -- kinds of 16 bits and checksums of 64
 unfoldable pub AllNumbers : List Section → Type 0
 AllNumbers [] = Unit {0}
 AllNumbers (s ∷ ss) = (s .kind < 2 ^ 16) × (s .sum < 2 ^ 64) × AllNumbers ss
 
-fit-from : (ss : List Section) (at : ℕ) → AllNumbers ss → at + length (payload ss) < 2 ^ 64 → AllFit at ss
-unfolding AllFit AllNumbers payload
+fit-from : (ss : List Section) (at : ℕ) → AllNumbers ss → at + length (payload ss) < 2 ^ 64 → SectionsFit at ss
+unfolding SectionsFit AllNumbers payload
 fit-from [] at n h = tt
 fit-from (s ∷ ss) at n h =
     let l = length-append (s .bytes) (payload ss) in
@@ -181,7 +181,7 @@ module _ (ss : List Section) (n e bits : ℕ) (h : Small ss) where
   unfolding bodyBytes
   length-body = simp (length-append, length-leBytes) (omega arith)
 
-  pub count-back : countOf b ≡ length ss
+  pub count-back : entryCount b ≡ length ss
   unfolding bodyBytes
   count-back = leAt-back 2 [] (entries 64 ss ++ after) (length ss) (omega (arith, h .0))
 

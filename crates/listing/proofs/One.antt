@@ -18,7 +18,7 @@ use denote.Triple.Entry.{Args, Res}
 use denote.Triple.Clauses.{AtExit}
 use Rattle.base.proofs.Determined.{Determined}
 use Rattle.frame.specs.declared.Row.{Row}
-use Rattle.listing.specs.List.{planOf, answerOf, listed}
+use Rattle.listing.specs.List.{planOf, listedOf, listed}
 use Rattle.listing.proofs.plan_for as plan-for
 use Rattle.listing.proofs.plan_for.Reads as plan-for-reads
 use Rattle.listing.proofs.row_of as row-of
@@ -36,7 +36,7 @@ row-of-determined κs a pre r₁ r₂ w₁ w₂ p q = (p ∙ sym q, refl)
 
 abbrev pub Listed-post : (κs : Lfts 2) → Args list-sections.signature κs → Res list-sections.signature κs → AtExit list-sections.ended κs → Type 0
 Listed-post κs a r e =
-    (r ≡ answerOf (now (a .0)) (length (now (a .1 .0))))
+    (r ≡ listedOf (now (a .0)) (length (now (a .1 .0))))
     × (now (e .1 .0) ≡ listed (now (a .0)) (planOf (now (a .0)) (length (now (a .1 .0))) .n) (now (a .1 .0)))
 
 pub list-sections-determined : Determined list-sections.ended (λ κs a. Unit {0}) Listed-post

@@ -18,7 +18,7 @@ use Rattle.frame.specs.Frame.Laws.{end-room}
 use Rattle.frame.specs.Open.{openOf}
 use Rattle.frame.specs.Open.Laws.{Frames, opens-parts, size-parts, tail-parts}
 use Rattle.reader.specs.Rows.{moved, row-here, row-footed}
-use Rattle.listing.specs.List.{needed, entry, rowIs, listed}
+use Rattle.listing.specs.List.{rowsNeeded, rowOfSection, rowIs, listed}
 
 -- ---- the first n rows
 
@@ -87,27 +87,27 @@ module _ (f : List ℕ) (s : Frames f) where
   b = bodyOf f
 
   -- entry i ends before the counts do
-  entry-room : (i : ℕ) → i < needed f → nextAt b (endFrom i b 2) + kind.countsSize ≤ length b
+  entry-room : (i : ℕ) → i < rowsNeeded f → nextAt b (endFrom i b 2) + kind.countsSize ≤ length b
   unfolding endOf
   entry-room i h =
-      let rest : ℕ = needed f - suc i in
-      let all : suc i + rest ≡ needed f = omega arith in
-      let a : endFrom rest b (nextAt b (endFrom i b 2)) ≡ endFrom (needed f) b 2 =
+      let rest : ℕ = rowsNeeded f - suc i in
+      let all : suc i + rest ≡ rowsNeeded f = omega arith in
+      let a : endFrom rest b (nextAt b (endFrom i b 2)) ≡ endFrom (rowsNeeded f) b 2 =
       ap (endFrom rest b) (sym (end-last i b 2)) ∙ sym (end-split (suc i) rest b 2) ∙ ap (λ (n : ℕ). endFrom n b 2) all in
       let room = end-room rest b (nextAt b (endFrom i b 2)) in
       let filled = s .table .filled in
       omega arith
 
   -- row i is entry i of the table, with its name's place counted from the file's first byte
-  pub row-is : (i : ℕ) → i < needed f → rowIs f i ≡ moved (bodyAt f) (rowAt b (endFrom i b 2))
-  unfolding rowIs entry bodyOf
+  pub row-is : (i : ℕ) → i < rowsNeeded f → rowIs f i ≡ moved (bodyAt f) (rowAt b (endFrom i b 2))
+  unfolding rowIs rowOfSection bodyOf
   row-is i h =
       let z = size-parts (length f) (s .size) in
       let t = tail-parts (length f) f (s .tail) in
-      ap entry (row-footed f i (z .0) (z .1) (footLen f) refl (t .0) (t .1) refl refl
+      ap rowOfSection (row-footed f i (z .0) (z .1) (footLen f) refl (t .0) (t .1) refl refl
       ∙ row-here (bodyAt f) b i (endFrom i b 2) refl h (getD b (endFrom i b 2 + 3) 0) refl (entry-room i h) (rowAt b (endFrom i b 2)) refl)
 
-  rows-to-is : (n : ℕ) → n ≤ needed f → rowsTo f n ≡ map (moved (bodyAt f)) (rowsFrom n b 2)
+  rows-to-is : (n : ℕ) → n ≤ rowsNeeded f → rowsTo f n ≡ map (moved (bodyAt f)) (rowsFrom n b 2)
   unfolding rowsTo rowsFrom
   rows-to-is zero h = refl
   rows-to-is (suc n) h =
@@ -118,13 +118,13 @@ module _ (f : List ℕ) (s : Frames f) where
 
 -- a file that opens, and a table with room for its sections: they stand there "in table order", and "rows past the count
 -- stay"
-pub table-is : (f : List ℕ) (o : Opened) → openOf f ≡ Opening.Good o → (ys : List Row) → needed f ≤ length ys
-    → listed f (needed f) ys ≡ map (moved (bodyAt f)) (rowsOf (bodyOf f)) ++ drop (needed f) ys
+pub table-is : (f : List ℕ) (o : Opened) → openOf f ≡ Opening.Good o → (ys : List Row) → rowsNeeded f ≤ length ys
+    → listed f (rowsNeeded f) ys ≡ map (moved (bodyAt f)) (rowsOf (bodyOf f)) ++ drop (rowsNeeded f) ys
 unfolding rowsOf
 table-is f o e ys h =
-    listed-is f (needed f) ys h
-    ∙ ap (λ (t : List Row). t ++ drop (needed f) ys) (rows-to-is f (opens-parts f o e .frames) (needed f) (omega arith))
+    listed-is f (rowsNeeded f) ys h
+    ∙ ap (λ (t : List Row). t ++ drop (rowsNeeded f) ys) (rows-to-is f (opens-parts f o e .frames) (rowsNeeded f) (omega arith))
 
 -- it has at most 64 of them
-pub needed-most : (f : List ℕ) (o : Opened) → openOf f ≡ Opening.Good o → needed f ≤ 64
+pub needed-most : (f : List ℕ) (o : Opened) → openOf f ≡ Opening.Good o → rowsNeeded f ≤ 64
 needed-most f o e = opens-parts f o e .frames .table .most

@@ -1,15 +1,15 @@
 // The section list: a caller's table of section rows is filled, in table order.
 ghost use mathlib.Core.Path.{_≡_};
 ghost use lib.ListN.{length};
-ghost use Rattle.frame.specs.Frame.{countOf, bodyOf};
+ghost use Rattle.frame.specs.Frame.{entryCount, bodyOf};
 ghost use Rattle.frame.specs.Open.Laws.{Frames};
-ghost use Rattle.listing.specs.List.{refusedPlan, planOf, answerOf, rowIs, listed};
+ghost use Rattle.listing.specs.List.{refusedPlan, planOf, listedOf, rowIs, listed};
 use codes::little::le16;
 use frame::Opening;
 use frame::Row;
 use frame::ends::body_of;
 use reader::open::open;
-use reader::rows::Section;
+use reader::rows::SectionAt;
 use reader::rows::section_at;
 use refusal::Refusal;
 
@@ -20,28 +20,28 @@ pub enum Listed {
 }
 
 // What is to be done: the answer, and how many rows are written.
-pub struct Plan {
+pub struct ListPlan {
     pub answer: Listed,
     pub n: usize,
 }
 
-fn refused(refusal: Refusal) -> Plan
+fn refused(refusal: Refusal) -> ListPlan
     ensures { λ r. ⌜ r ≡ refusedPlan refusal ⌝ }
 {
     let answer = Listed::Refused { refusal };
-    Plan { answer, n: 0 }
+    ListPlan { answer, n: 0 }
 }
 
 // How many entries the table of a file with a good frame has.
 fn count_of(file: &[u8]) -> usize
     requires { ⌜ Frames (now file) ⌝ }
-    ensures { λ r. ⌜ r ≡ countOf (bodyOf (now (file .entry))) ⌝ }
+    ensures { λ r. ⌜ r ≡ entryCount (bodyOf (now (file .entry))) ⌝ }
 {
     le16(body_of(file), 0) as usize
 }
 
 // The answer for a table of so many rows, and how many of them are written.
-pub fn plan_for(file: &[u8], room: usize) -> Plan
+pub fn plan_for(file: &[u8], room: usize) -> ListPlan
     ensures { λ r. ⌜ r ≡ planOf (now (file .entry)) room ⌝ }
 {
     match open(file) {
@@ -52,7 +52,7 @@ pub fn plan_for(file: &[u8], room: usize) -> Plan
                 return refused(Refusal::Room { needed: n as u64 });
             }
             let answer = Listed::Done { rows: n as u64 };
-            Plan { answer, n }
+            ListPlan { answer, n }
         }
     }
 }
@@ -62,8 +62,8 @@ pub fn row_of(file: &[u8], i: usize) -> Row
     ensures { λ r. ⌜ r ≡ rowIs (now (file .entry)) i ⌝ }
 {
     match section_at(file, i) {
-        Section::Entry { row } => row,
-        Section::Missing => Row {
+        SectionAt::Entry { row } => row,
+        SectionAt::Missing => Row {
             kind: 0,
             codec: 0,
             namelen: 0,
@@ -78,7 +78,7 @@ pub fn row_of(file: &[u8], i: usize) -> Row
 // Fills the caller's table with a file's section rows, in table order. A refusal leaves all of it, and rows past the count
 // stay.
 pub fn list_sections(file: &[u8], rows: &mut [Row]) -> Listed
-    ensures { λ r. ⌜ (r ≡ answerOf (now (file .entry)) (length (now (rows .entry)))) × (now (rows .exit) ≡ listed (now (file .entry)) (planOf (now (file .entry)) (length (now (rows .entry))) .n) (now (rows .entry))) ⌝ }
+    ensures { λ r. ⌜ (r ≡ listedOf (now (file .entry)) (length (now (rows .entry)))) × (now (rows .exit) ≡ listed (now (file .entry)) (planOf (now (file .entry)) (length (now (rows .entry))) .n) (now (rows .entry))) ⌝ }
 {
     let p = plan_for(file, rows.len());
     let n = p.n;

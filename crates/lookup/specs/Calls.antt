@@ -24,7 +24,7 @@ use Rattle.degrees.specs.Degrees.{edgesBefore, capped}
 use Rattle.group.specs.Group.{bytesOf}
 use Rattle.lookup.specs.declared.Looked.{Looked}
 use Rattle.lookup.specs.declared.groups.GroupSeen.{GroupSeen}
-use Rattle.lookup.specs.Lookup.{Outcome, found, absent, refused, outcome, Rooms, groupFault, logsFrom, marksFrom, within, firstOf, short, partnersAt, before, lookCheck, lookGroup, onFound, lookIn, answerOf, partnersLeft, logsLeft, marksLeft}
+use Rattle.lookup.specs.Lookup.{Outcome, found, absent, refused, outcome, Rooms, groupFault, logsFrom, marksFrom, within, firstOf, short, partnersAt, before, lookCheck, lookGroup, onFound, lookIn, lookedOf, partnersLeft, logsLeft, marksLeft}
 use Rattle.lookup.specs.Groups.{groupSeen, seen-fault, seen-degree, seen-refusal}
 
 -- partners alone lend n bytes
@@ -37,7 +37,7 @@ lent n l m = record { bytes = n; logs = l; marks = m }
 
 -- what a call of partners alone answers and leaves
 pub record Alone (x : Outcome) (r : Looked) (o out : List ℕ) : Type 0 where
-  pub answer : r ≡ answerOf x
+  pub answer : r ≡ lookedOf x
   pub partners : out ≡ partnersLeft x o
 
 outcome-bad : {c : Check} {r : Refusal} (x : Outcome) → c ≡ Check.Bad r → outcome c x ≡ refused r
@@ -102,18 +102,18 @@ capped-le e Sum.Bad s q = let z : _≡_ {A = ℕ} 0 1 = cc in absurd (omega arit
 -- ---- ways out of partners alone
 
 pub alone-absent : (x : Outcome) (c : ℕ) (o : List ℕ) → x ≡ absent c → Alone x (Looked.Absent c) o o
-unfolding answerOf partnersLeft
-alone-absent x c o e = record { answer = sym (ap answerOf e); partners = sym (ap (λ (y : Outcome). partnersLeft y o) e) }
+unfolding lookedOf partnersLeft
+alone-absent x c o e = record { answer = sym (ap lookedOf e); partners = sym (ap (λ (y : Outcome). partnersLeft y o) e) }
 
 pub alone-refused : (x : Outcome) (r : Refusal) (o : List ℕ) → x ≡ refused r → Alone x (Looked.Refused r) o o
-unfolding answerOf partnersLeft
-alone-refused x r o e = record { answer = sym (ap answerOf e); partners = sym (ap (λ (y : Outcome). partnersLeft y o) e) }
+unfolding lookedOf partnersLeft
+alone-refused x r o e = record { answer = sym (ap lookedOf e); partners = sym (ap (λ (y : Outcome). partnersLeft y o) e) }
 
 pub alone-found : (x : Outcome) (i c d : ℕ) (ps : List Id) (o out : List ℕ) → x ≡ found i c ps [] [] → length ps ≡ d → out ≡ over (bytesOf ps) o
     → Alone x (Looked.Found d i c) o out
-unfolding answerOf partnersLeft
+unfolding lookedOf partnersLeft
 alone-found x i c d ps o out e l q = record {
-  answer = sym (ap answerOf e ∙ ap (λ (n : ℕ). Looked.Found n i c) l);
+  answer = sym (ap lookedOf e ∙ ap (λ (n : ℕ). Looked.Found n i c) l);
   partners = q ∙ sym (ap (λ (y : Outcome). partnersLeft y o) e);
 }
 
@@ -218,24 +218,28 @@ module _ (f : List ℕ) (o : Opened) (i : ℕ) where
 
 -- what a call with log numbers and dead marks answers and leaves
 pub record Whole (x : Outcome) (r : Looked) (o out l logs m marks : List ℕ) : Type 0 where
-  pub answer : r ≡ answerOf x
+  pub answer : r ≡ lookedOf x
   pub partners : out ≡ partnersLeft x o
   pub numbers : logs ≡ logsLeft x l
   pub dead : marks ≡ marksLeft x m
 
+-- the same of a lookup whose rooms are the outputs' own lengths
+abbrev pub WholeBy : (Rooms → Outcome) → Looked → List ℕ → List ℕ → List ℕ → List ℕ → List ℕ → List ℕ → Type 0
+WholeBy look r o out l logs m marks = Whole (look (lent (length o) (length l) (length m))) r o out l logs m marks
+
 pub whole-absent : (x : Outcome) (c : ℕ) (o l m : List ℕ) → x ≡ absent c → Whole x (Looked.Absent c) o o l l m m
-unfolding answerOf partnersLeft logsLeft marksLeft
+unfolding lookedOf partnersLeft logsLeft marksLeft
 whole-absent x c o l m e = record {
-  answer = sym (ap answerOf e);
+  answer = sym (ap lookedOf e);
   partners = sym (ap (λ (y : Outcome). partnersLeft y o) e);
   numbers = sym (ap (λ (y : Outcome). logsLeft y l) e);
   dead = sym (ap (λ (y : Outcome). marksLeft y m) e);
 }
 
 pub whole-refused : (x : Outcome) (r : Refusal) (o l m : List ℕ) → x ≡ refused r → Whole x (Looked.Refused r) o o l l m m
-unfolding answerOf partnersLeft logsLeft marksLeft
+unfolding lookedOf partnersLeft logsLeft marksLeft
 whole-refused x r o l m e = record {
-  answer = sym (ap answerOf e);
+  answer = sym (ap lookedOf e);
   partners = sym (ap (λ (y : Outcome). partnersLeft y o) e);
   numbers = sym (ap (λ (y : Outcome). logsLeft y l) e);
   dead = sym (ap (λ (y : Outcome). marksLeft y m) e);
@@ -243,9 +247,9 @@ whole-refused x r o l m e = record {
 
 pub whole-given : (x : Outcome) (i c d : ℕ) (ps : List Id) (ls ms o out l logs m marks : List ℕ) → x ≡ found i c ps ls ms → length ps ≡ d
     → out ≡ over (bytesOf ps) o → logs ≡ over ls l → marks ≡ over ms m → Whole x (Looked.Found d i c) o out l logs m marks
-unfolding answerOf partnersLeft logsLeft marksLeft
+unfolding lookedOf partnersLeft logsLeft marksLeft
 whole-given x i c d ps ls ms o out l logs m marks e n p q r = record {
-  answer = sym (ap answerOf e ∙ ap (λ (t : ℕ). Looked.Found t i c) n);
+  answer = sym (ap lookedOf e ∙ ap (λ (t : ℕ). Looked.Found t i c) n);
   partners = p ∙ sym (ap (λ (y : Outcome). partnersLeft y o) e);
   numbers = q ∙ sym (ap (λ (y : Outcome). logsLeft y l) e);
   dead = r ∙ sym (ap (λ (y : Outcome). marksLeft y m) e);

@@ -19,7 +19,7 @@ use Rattle.frame.specs.Open.{Known, offsetAt}
 use Rattle.index.specs.declared.keys.Found.{Found}
 use Rattle.index.specs.Find.{findIn}
 use Rattle.degrees.specs.Degrees.{misplaced}
-use Rattle.group.specs.Group.{Partners, good, bad, isGood, groupOf}
+use Rattle.group.specs.Group.{Decoded, good, bad, isGood, groupOf}
 use Rattle.group.specs.declared.fault.Fault.{Fault}
 use Rattle.group.specs.Fault.{refusalOf}
 use Rattle.group.specs.Fault.Laws.{fault-least, fault-most, fault-tag}
@@ -28,21 +28,21 @@ use Rattle.lookup.specs.Lookup.{Outcome, found, absent, refused, outcome
 
 -- ---- a group's faults: 16, 17, 18
 
-pub group-numbers : (i : ℕ) (w : Partners) → Numbers 16 18 (groupCheck i w)
+pub group-numbers : (i : ℕ) (w : Decoded) → Numbers 16 18 (groupCheck i w)
 unfolding groupCheck
 group-numbers i (good dense ps) = numbers-fine 16 18
 group-numbers i (bad f) = λ r e. let same : refusalOf i f ≡ r = cc in let n = ap numberOf same in (omega (arith, fault-least i f), omega (arith, fault-most i f))
 
-pub group-fine : (i : ℕ) (w : Partners) → (groupCheck i w ≡ Check.Fine) ↔ (isGood w ≡ true)
+pub group-fine : (i : ℕ) (w : Decoded) → (groupCheck i w ≡ Check.Fine) ↔ (isGood w ≡ true)
 unfolding groupCheck isGood
 group-fine i (good dense ps) = (λ e. refl, λ e. refl)
 group-fine i (bad f) = (λ e. let z : _≡_ {A = ℕ} 0 1 = cc in absurd (omega arith), λ e. let z : _≡_ {A = ℕ} 0 1 = cc in absurd (omega arith))
 
-pub group-tag : (i : ℕ) (w : Partners) (j : ℕ) → (groupCheck i w ≡ Check.Bad (Refusal.Tag j)) ↔ ((w ≡ bad Fault.Tag) × (i ≡ j))
+pub group-tag : (i : ℕ) (w : Decoded) (j : ℕ) → (groupCheck i w ≡ Check.Bad (Refusal.Tag j)) ↔ ((w ≡ bad Fault.Tag) × (i ≡ j))
 unfolding groupCheck
 group-tag i w j = (go w, λ h. ap (groupCheck i) (h .0) ∙ ap (λ (t : ℕ). Check.Bad (Refusal.Tag t)) (h .1))
   where
-    go : (w : Partners) → groupCheck i w ≡ Check.Bad (Refusal.Tag j) → (w ≡ bad Fault.Tag) × (i ≡ j)
+    go : (w : Decoded) → groupCheck i w ≡ Check.Bad (Refusal.Tag j) → (w ≡ bad Fault.Tag) × (i ≡ j)
     go (good dense ps) e = let z : _≡_ {A = ℕ} 0 1 = cc in absurd (omega arith)
     go (bad f) e = let same : refusalOf i f ≡ Refusal.Tag j = cc in let t = fault-tag i f j same in (ap bad (t .0), t .1)
 

@@ -16,7 +16,7 @@ use Rattle.degrees.specs.Degrees.{misplaced}
 use Rattle.codes.specs.declared.ids.Id.{Id}
 use Rattle.group.specs.declared.fault.Fault.{Fault}
 use Rattle.group.specs.Fault.{refusalOf}
-use Rattle.group.specs.Group.{Partners, good, bad, groupOf, isGood, partnersOf}
+use Rattle.group.specs.Group.{Decoded, good, bad, groupOf, isGood, partnersOf}
 use Rattle.lookup.specs.declared.groups.GroupSeen.{GroupSeen}
 use Rattle.lookup.specs.Lookup.{groupCheck, groupFault}
 
@@ -55,7 +55,7 @@ pub check-bad : (i : ℕ) (f : Fault) → groupCheck i (bad f) ≡ Check.Bad (re
 unfolding groupCheck
 check-bad i f = refl
 
-pub check-good : (i : ℕ) (w : Partners) → groupCheck i w ≡ Check.Fine → isGood w ≡ true
+pub check-good : (i : ℕ) (w : Decoded) → groupCheck i w ≡ Check.Fine → isGood w ≡ true
 unfolding groupCheck isGood
 check-good i (good dense ps) e = refl
 check-good i (bad f) e = let z : _≡_ {A = ℕ} 0 1 = cc in absurd (omega arith)

@@ -20,7 +20,7 @@ use Rattle.index.specs.Find.{findIn}
 use Rattle.degrees.specs.declared.Sum.{Sum}
 use Rattle.degrees.specs.Degrees.{misplaced, edgesBefore}
 use Rattle.group.specs.Fault.{refusalOf}
-use Rattle.group.specs.Group.{Partners, good, bad, groupOf, partnersOf, bytesOf}
+use Rattle.group.specs.Group.{Decoded, good, bad, groupOf, partnersOf, bytesOf}
 use Rattle.lookup.specs.declared.Looked.{Looked}
 pub mod Laws
 
@@ -44,7 +44,7 @@ pub record Rooms : Type 0 where
 -- ---- the group asked for: i, from a to e of the partners p
 
 -- its faults, each by its own number, at the group
-unfoldable pub groupCheck : ℕ → Partners → Check
+unfoldable pub groupCheck : ℕ → Decoded → Check
 groupCheck i (good dense ps) = Check.Fine
 groupCheck i (bad f) = Check.Bad (refusalOf i f)
 
@@ -128,10 +128,10 @@ module _ (full : Bool) (rooms : Rooms) where
 
 -- ---- what the call answers, and what it leaves in the outputs
 
-unfoldable pub answerOf : Outcome → Looked
-answerOf (found i c ps logs marks) = Looked.Found (length ps) i c
-answerOf (absent c) = Looked.Absent c
-answerOf (refused r) = Looked.Refused r
+unfoldable pub lookedOf : Outcome → Looked
+lookedOf (found i c ps logs marks) = Looked.Found (length ps) i c
+lookedOf (absent c) = Looked.Absent c
+lookedOf (refused r) = Looked.Refused r
 
 unfoldable pub partnersLeft : Outcome → List ℕ → List ℕ
 partnersLeft (found i c ps logs marks) out = over (bytesOf ps) out

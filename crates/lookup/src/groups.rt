@@ -4,6 +4,7 @@ ghost use Prim.Native.Nat.{_+_, _*_, _/_, _≤_, _<_};
 ghost use lib.ListN.{length};
 ghost use Rattle.base.specs.Over.{part, over};
 ghost use Rattle.frame.specs.Open.{bytesAt, offsetAt};
+ghost use Rattle.degrees.specs.Degrees.{groupAt};
 ghost use Rattle.group.specs.Group.{groupOf, partnersOf, bytesOf};
 ghost use Rattle.lookup.specs.declared.groups.GroupSeen.{GroupSeen};
 ghost use Rattle.lookup.specs.Groups.{groupSeen, Fills};
@@ -11,7 +12,7 @@ ghost use Rattle.lookup.specs.Record.{Holds};
 use super::known::offset_of;
 use frame::Opened;
 use frame::bytes_of;
-use group::Group;
+use group::GroupVerdict;
 use group::check_group;
 use group::fault::refusal_of;
 use group::fill_group;
@@ -40,8 +41,8 @@ fn group_seen(partners: &[u8], a: usize, e: usize, i: u64) -> GroupSeen
         return refused(Refusal::Offset { index: i });
     }
     match check_group(&partners[a..e]) {
-        Group::Good { degree, dense: _ } => GroupSeen::Good { degree },
-        Group::Bad { fault } => refused(refusal_of(i, fault)),
+        GroupVerdict::Good { degree, dense: _ } => GroupSeen::Good { degree },
+        GroupVerdict::Bad { fault } => refused(refusal_of(i, fault)),
     }
 }
 
@@ -67,7 +68,7 @@ fn fill_part(partners: &[u8], a: usize, e: usize, out: &mut [u8])
 // Writes the partners of group i of a record, which is good.
 pub fn give_partners(file: &[u8], o: Opened, i: u64, out: &mut [u8])
     requires { ⌜ Holds (now file) o × (i < o .keycount) × Fills (bytesAt (now file) (o .partners)) (offsetAt (bytesAt (now file) (o .offsets)) (o .bits / 8) i) (offsetAt (bytesAt (now file) (o .offsets)) (o .bits / 8) (i + 1)) (length (now out)) ⌝ }
-    ensures { λ _. ⌜ now (out .exit) ≡ over (bytesOf (partnersOf (groupOf (part (bytesAt (now (file .entry)) (o .partners)) (offsetAt (bytesAt (now (file .entry)) (o .offsets)) (o .bits / 8) i) (offsetAt (bytesAt (now (file .entry)) (o .offsets)) (o .bits / 8) (i + 1)))))) (now (out .entry)) ⌝ }
+    ensures { λ _. ⌜ now (out .exit) ≡ over (bytesOf (partnersOf (groupOf (groupAt (bytesAt (now (file .entry)) (o .partners)) (bytesAt (now (file .entry)) (o .offsets)) (o .bits / 8) i)))) (now (out .entry)) ⌝ }
 {
     let partners = o.partners;
     let a = offset_of(file, o, i);

@@ -3,7 +3,7 @@ ghost use mathlib.Core.Path.{_≡_};
 ghost use Prim.Native.Nat.{_+_, _*_, _/_, _≤_, _<_};
 ghost use lib.ListN.{length};
 ghost use Rattle.base.specs.Over.{over};
-ghost use Rattle.codes.specs.Ids.{numberOf};
+ghost use Rattle.codes.specs.Ids.{idNumber};
 ghost use Rattle.frame.specs.Open.{bytesAt, offsetAt};
 ghost use Rattle.index.specs.Find.{findIn};
 ghost use Rattle.degrees.specs.Degrees.{edgesBefore, capped};
@@ -23,7 +23,7 @@ use index::offsets::offset_at;
 // The key's index among the keys, or absence.
 pub fn locate(file: &[u8], o: Opened, key: Id) -> Found
     requires { ⌜ Holds (now file) o ⌝ }
-    ensures { λ r. ⌜ r ≡ findIn (bytesAt (now (file .entry)) (o .keys)) (o .keycount) (numberOf key) ⌝ }
+    ensures { λ r. ⌜ r ≡ findIn (bytesAt (now (file .entry)) (o .keys)) (o .keycount) (idNumber key) ⌝ }
 {
     let keys = o.keys;
     find(bytes_of(file, keys), o.keycount as usize, key)

@@ -2,7 +2,7 @@
 ghost use mathlib.Core.Path.{_≡_};
 ghost use lib.ListN.{length};
 ghost use mathlib.Core.Bool.{false};
-ghost use Rattle.codes.specs.Ids.{numberOf};
+ghost use Rattle.codes.specs.Ids.{idNumber};
 ghost use Rattle.refusal.specs.declared.Refusal.{Refusal};
 ghost use Rattle.frame.specs.Open.{knownOf};
 ghost use Rattle.lookup.specs.declared.Looked.{Looked};
@@ -31,7 +31,7 @@ pub(crate) fn too_short(d: u64) -> Looked
 // The partners of a key.
 pub fn partners_of(file: &[u8], o: Opened, key: Id, out: &mut [u8]) -> Looked
     requires { ⌜ Holds (now file) o ⌝ }
-    ensures { λ r. ⌜ Alone (lookIn false (alone (length (now (out .entry)))) (knownOf (now (file .entry)) o) (numberOf key)) r (now (out .entry)) (now (out .exit)) ⌝ }
+    ensures { λ r. ⌜ Alone (lookIn false (alone (length (now (out .entry)))) (knownOf (now (file .entry)) o) (idNumber key)) r (now (out .entry)) (now (out .exit)) ⌝ }
 {
     match locate(file, o, key) {
         Found::Absent { compared } => Looked::Absent { compared },

@@ -6,14 +6,14 @@ ghost use Prim.Native.Nat.{_+_, _≤_, _<_};
 ghost use lib.ListN.{length};
 ghost use Rattle.base.specs.Pick.{pick};
 ghost use Rattle.base.specs.Over.{over};
-ghost use Rattle.codes.specs.Ids.{numberOf};
+ghost use Rattle.codes.specs.Ids.{idNumber};
 ghost use Rattle.refusal.specs.declared.Refusal.{Refusal};
 ghost use Rattle.frame.specs.Open.{knownOf, bytesAt};
 ghost use Rattle.group.specs.Group.{bytesOf};
 ghost use Rattle.lookup.specs.declared.Looked.{Looked};
 ghost use Rattle.lookup.specs.declared.groups.GroupSeen.{GroupSeen};
 ghost use Rattle.lookup.specs.Lookup.{partnersAt, logsFrom, marksFrom, short, lookGroup, lookIn};
-ghost use Rattle.lookup.specs.Calls.{lent, group, Whole};
+ghost use Rattle.lookup.specs.Calls.{lent, group, WholeBy};
 ghost use Rattle.lookup.specs.Groups.{Fills};
 ghost use Rattle.lookup.specs.Record.{Holds};
 use super::Looked;
@@ -33,7 +33,7 @@ use index::keys::Found;
 use refusal::Refusal;
 
 // The tombstones, none where there is no such section.
-pub fn dead_of<'a>(file: &'a [u8], o: Opened) -> &'a [u8]
+pub fn tombstones_of<'a>(file: &'a [u8], o: Opened) -> &'a [u8]
     requires { ⌜ Holds (now file) o ⌝ }
     ensures { λ s. ⌜ now s ≡ pick (o .marked) (bytesAt (now (file .entry)) (o .dead)) [] ⌝ }
 {
@@ -58,11 +58,11 @@ fn give_marks(file: &[u8], o: Opened, first: u64, d: u64, out: &mut [u8])
     requires { ⌜ Holds (now file) o × (first + d ≤ o .edgecount) × (d ≤ length (now out)) ⌝ }
     ensures { λ _. ⌜ now (out .exit) ≡ over (marksFrom d (pick (o .marked) (bytesAt (now (file .entry)) (o .dead)) []) first) (now (out .entry)) ⌝ }
 {
-    fill_marks(dead_of(file, o), first as usize, d as usize, out);
+    fill_marks(tombstones_of(file, o), first as usize, d as usize, out);
 }
 
 // An earlier degree that is unreadable or 0, or edges past the edge count.
-fn misplaced(i: u64) -> Looked
+fn degrees_refused(i: u64) -> Looked
     ensures { λ r. ⌜ r ≡ Looked.Refused (Refusal.Degrees i) ⌝ }
 {
     Looked::Refused {
@@ -95,13 +95,13 @@ fn group_edges(
     marks: &mut [u8],
 ) -> Looked
     requires { ⌜ Holds (now file) o × (i < o .keycount) × (group (now file) o i ≡ GroupSeen.Good degree) ⌝ }
-    ensures { λ r. ⌜ Whole (lookGroup true (lent (length (now (out .entry))) (length (now (logs .entry))) (length (now (marks .entry)))) (knownOf (now (file .entry)) o) i compared) r (now (out .entry)) (now (out .exit)) (now (logs .entry)) (now (logs .exit)) (now (marks .entry)) (now (marks .exit)) ⌝ }
+    ensures { λ r. ⌜ WholeBy (λ rooms. lookGroup true rooms (knownOf (now (file .entry)) o) i compared) r (now (out .entry)) (now (out .exit)) (now (logs .entry)) (now (logs .exit)) (now (marks .entry)) (now (marks .exit)) ⌝ }
 {
     match edges_of(file, o, i) {
-        Sum::Bad => misplaced(i),
+        Sum::Bad => degrees_refused(i),
         Sum::Total { edges } => {
             if o.edgecount - edges < degree {
-                return misplaced(i);
+                return degrees_refused(i);
             }
             if short_of(out.len(), logs.len(), marks.len(), degree) {
                 return too_short(degree);
@@ -128,7 +128,7 @@ pub fn edges_of_key(
     marks: &mut [u8],
 ) -> Looked
     requires { ⌜ Holds (now file) o ⌝ }
-    ensures { λ r. ⌜ Whole (lookIn true (lent (length (now (out .entry))) (length (now (logs .entry))) (length (now (marks .entry)))) (knownOf (now (file .entry)) o) (numberOf key)) r (now (out .entry)) (now (out .exit)) (now (logs .entry)) (now (logs .exit)) (now (marks .entry)) (now (marks .exit)) ⌝ }
+    ensures { λ r. ⌜ WholeBy (λ rooms. lookIn true rooms (knownOf (now (file .entry)) o) (idNumber key)) r (now (out .entry)) (now (out .exit)) (now (logs .entry)) (now (logs .exit)) (now (marks .entry)) (now (marks .exit)) ⌝ }
 {
     match locate(file, o, key) {
         Found::Absent { compared } => Looked::Absent { compared },

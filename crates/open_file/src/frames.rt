@@ -12,14 +12,14 @@ use super::ends::ends_check;
 use super::ends::flags_of;
 use super::ends::size_check;
 use super::ends::sum_check;
-use open_counts::counts_good;
 use frame::Framed;
 use frame::Framing;
 use frame::ends::body_of;
 use frame::ends::foot_len;
+use open_counts::counts_good;
+use open_table::rows_framing;
 use refusal::Check;
 use refusal::Refusal;
-use open_table::rows_framing;
 
 fn refused(refusal: Refusal) -> Framing
     ensures { λ r. ⌜ r ≡ Framing.Refused refusal ⌝ }

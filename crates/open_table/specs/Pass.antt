@@ -56,8 +56,8 @@ unfoldable pub neededFrom : List kind.Kind → List Bool → ℕ → Bool
 neededFrom [] met i = true
 neededFrom (q ∷ qs) met i = (not (q .needed) || metAt met i) && neededFrom qs met (suc i)
 
-abbrev pub needed : List kind.Kind → List Bool → Bool
-needed qs met = neededFrom qs met 0
+abbrev pub requiredSeen : List kind.Kind → List Bool → Bool
+requiredSeen qs met = neededFrom qs met 0
 
 -- what the frame gives
 unfoldable pub framedSeen : List ℕ → List Bool → List Range → Bool → Framed
@@ -80,4 +80,4 @@ framedSeen b met places streams = record {
 
 -- rules 9 to 11 of a table that was passed to its end
 unfoldable pub passed : List Bool → Seen → Check
-passed met s = refuse Refusal.Table (not (needed kind.kinds met)) ⊳ toldBad Refusal.Codec (s .codec) ⊳ toldBad Refusal.Range (s .range)
+passed met s = refuse Refusal.Table (not (requiredSeen kind.kinds met)) ⊳ toldBad Refusal.Codec (s .codec) ⊳ toldBad Refusal.Range (s .range)

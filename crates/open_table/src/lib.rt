@@ -10,7 +10,8 @@ ghost use Rattle.frame.specs.declared.Framing.{Framing};
 ghost use Rattle.frame.specs.Kind as kind;
 ghost use Rattle.frame.specs.Frame.{rowAt, rowsOf, rangeGood, framedFrom, rowsCheck};
 ghost use Rattle.frame.specs.Open.{framing};
-ghost use Rattle.open_table.specs.Pass.{firstBad, unseen, coded, ranged, needed, framedSeen, passed};
+ghost use Rattle.open_table.specs.Pass.{firstBad, unseen, coded, ranged, requiredSeen, framedSeen, passed};
+use base::either;
 use codes::little::le16;
 use codes::little::le64;
 use frame::Framed;
@@ -86,15 +87,6 @@ fn first_bad(bad: u64, good: bool, k: u64) -> u64
     k
 }
 
-fn either(a: bool, b: bool) -> bool
-    ensures { λ r. ⌜ r ≡ (a || b) ⌝ }
-{
-    if a {
-        return true;
-    }
-    b
-}
-
 // A kind that is read has no name, and stands there once.
 fn fresh(name: u8, met: bool) -> bool
     ensures { λ r. ⌜ r ≡ (eqb name 0 && not met) ⌝ }
@@ -106,7 +98,7 @@ fn fresh(name: u8, met: bool) -> bool
 }
 
 impl Seen {
-    fn nothing() -> Seen
+    fn nothing_seen() -> Seen
         ensures { λ s. ⌜ s ≡ unseen ⌝ }
     {
         Seen {
@@ -159,7 +151,7 @@ fn refused(refusal: Refusal) -> Framing
 
 // Every kind that a file must have was met.
 fn needed_met(met: [bool; Kinds::READ]) -> bool
-    ensures { λ r. ⌜ r ≡ needed kind.kinds met ⌝ }
+    ensures { λ r. ⌜ r ≡ requiredSeen kind.kinds met ⌝ }
 {
     if !met[Keys::SLOT] {
         return false;
@@ -244,7 +236,7 @@ pub fn rows_framing(b: &[u8], limit: u64) -> Framing
     }
     let mut met = [false; Kinds::READ];
     let mut places = [Range { start: 0, len: 0 }; Kinds::READ];
-    let mut seen = Seen::nothing();
+    let mut seen = Seen::nothing_seen();
     let mut i: usize = 2;
     let mut k: u64 = 0;
     while k < count {

@@ -23,14 +23,19 @@ use Rattle.batch.specs.Batch.{edgesOf}
 use Rattle.full_check.specs.Full.{fullCheck}
 use Rattle.readout.specs.declared.ReadOut.{ReadOut}
 use Rattle.readout.specs.ReadOut.{readOutOf, readOutLeaves}
+use Rattle.reader.specs.declared.header.HeaderRead.{HeaderRead}
+use Rattle.reader.specs.Header.{headerOf}
 use Rattle.agreement.specs.SameEdges.{ofKey, Enough}
+use Rattle.agreement.specs.Heading.{headerFor}
 use Rattle.write_file.specs.declared.Written.{Written}
-use Rattle.demand2.specs.Demand2.{fileFor, Lawful, demand-2}
+use Rattle.demand2.specs.Demand2.{fileFor, flagsFor, Lawful, demand-2}
 use Rattle.promises.specs.Calls.{needs, writes, reads, PartnersGiven, EdgesGiven, partners-given, edges-given}
 use Rattle.write_file.proofs.needed as c-needed
 use Rattle.write_file.proofs.needed.Reads as c-needed-reads
 use Rattle.write_file.proofs.write as c-write
 use Rattle.write_file.proofs.write.Reads as c-write-reads
+use Rattle.reader.proofs.header.header as c-header
+use Rattle.reader.proofs.header.header.Reads as c-header-reads
 use Rattle.full_check.proofs.check as c-check
 use Rattle.full_check.proofs.check.Reads as c-check-reads
 use Rattle.readout.proofs.read_out as c-read-out
@@ -62,6 +67,12 @@ module _ (s : List ℕ) (lawful : Lawful s) where
         let done = writes s lawful (now (a .1 .0)) room in
         let told = rw batch at call in
         (told .answer ∙ done .0, told .output ∙ done .1)
+
+  -- ---- `header(file)`
+
+  module _ (κs : Lfts (c-header.signature .lifetimes)) (a : Args c-header.signature κs) (r : Res c-header.signature κs) (w : Lasts c-header.ended κs a) where
+    pub header-written : now (a .0) ≡ fileFor s → c-header-reads.Post κs a r (atExit c-header.ended κs a w) → r ≡ HeaderRead.Good (headerFor 0 (flagsFor s) s)
+    header-written file call = call ∙ ap headerOf file ∙ demand-2 s lawful .says-header
 
   -- ---- `check(file)` and `read_out(file, out)`
 

@@ -10,6 +10,8 @@ use Rattle.xxh3.proofs.xxh3 as c-sum
 use Rattle.xxh3.proofs.xxh3.Reads as c-sum-reads
 use Rattle.reader.proofs.open.open as c-opens
 use Rattle.reader.proofs.open.open.Reads as c-opens-reads
+use Rattle.reader.proofs.header.header as c-header
+use Rattle.reader.proofs.header.header.Reads as c-header-reads
 use Rattle.reader.proofs.rows.section_at as c-section
 use Rattle.reader.proofs.rows.section_at.Reads as c-section-reads
 use Rattle.reader.proofs.look.partners as c-partners
@@ -42,6 +44,8 @@ use Rattle.listing.proofs.row_of.Reads as c-row-of-reads
 use Rattle.listing.proofs.table_of as c-table-of
 use Rattle.edge_sst_c.proofs.edge_sst_open as sst-open
 use Rattle.edge_sst_c.proofs.edge_sst_open.Reads as sst-open-reads
+use Rattle.edge_sst_c.proofs.header.edge_sst_header as sst-header
+use Rattle.edge_sst_c.proofs.header.edge_sst_header.Reads as sst-header-reads
 use Rattle.edge_sst_c.proofs.look.edge_sst_partners as sst-partners
 use Rattle.edge_sst_c.proofs.look.edge_sst_partners.Reads as sst-partners-reads
 use Rattle.edge_sst_c.proofs.look.edge_sst_partners_with as sst-partners-with
@@ -63,14 +67,14 @@ use Rattle.edge_sst_c.proofs.section_list.edge_sst_sections.Reads as sst-sectio
 use Rattle.edge_sst_c.proofs.write.edge_sst_sum as sst-sum
 use Rattle.edge_sst_c.proofs.write.edge_sst_sum.Reads as sst-sum-reads
 use Rattle.xxh3.proofs.One.{xxh3-determined, saffron-xxh3-64-determined}
-use Rattle.reader.proofs.One.{open-determined, section-at-determined, partners-determined, partners-with-determined, lookup-determined, lookup-with-determined}
+use Rattle.reader.proofs.One.{open-determined, header-determined, section-at-determined, partners-determined, partners-with-determined, lookup-determined, lookup-with-determined}
 use Rattle.full_check.proofs.One.{check-determined, checked-determined}
 use Rattle.readout.proofs.One.{read-out-determined}
 use Rattle.write_file.proofs.One.{needed-determined, write-determined}
 use Rattle.batch_faults.proofs.One.{check-batch-determined}
 use Rattle.refusal.proofs.One.{told-of-determined}
 use Rattle.listing.proofs.One.{Listed-post, Table-post, list-sections-determined, plan-for-determined, row-of-determined, table-of-determined}
-use Rattle.edge_sst_c.proofs.One.{edge-sst-open-determined, edge-sst-partners-determined, edge-sst-partners-with-determined, edge-sst-lookup-determined, edge-sst-lookup-with-determined, edge-sst-check-determined, edge-sst-read-out-determined, edge-sst-needed-determined, edge-sst-write-determined, edge-sst-sections-determined, edge-sst-sum-determined}
+use Rattle.edge_sst_c.proofs.One.{edge-sst-open-determined, edge-sst-header-determined, edge-sst-partners-determined, edge-sst-partners-with-determined, edge-sst-lookup-determined, edge-sst-lookup-with-determined, edge-sst-check-determined, edge-sst-read-out-determined, edge-sst-needed-determined, edge-sst-write-determined, edge-sst-sections-determined, edge-sst-sum-determined}
 
 pub record OneResult : Type 2 where
   -- `xxh3`: the sum of any bytes
@@ -79,6 +83,8 @@ pub record OneResult : Type 2 where
   pub saffron-xxh3-64 : Determined c-saffron.ended c-saffron-reads.Pre c-saffron-reads.Post
   -- `open`
   pub opens : Determined c-opens.ended c-opens-reads.Pre c-opens-reads.Post
+  -- `header`
+  pub header : Determined c-header.ended c-header-reads.Pre c-header-reads.Post
   -- `section_at`
   pub section : Determined c-section.ended c-section-reads.Pre c-section-reads.Post
   -- `partners`, also by a record
@@ -96,7 +102,7 @@ pub record OneResult : Type 2 where
   pub needed : Determined c-needed.ended c-needed-reads.Pre c-needed-reads.Post
   -- `write`
   pub write : Determined c-write.ended c-write-reads.Pre c-write-reads.Post
-  -- `check_batch`: the first faulty record of a batch
+  -- `check_batch`: the first faulty record of a batch, or what is counted of its edges
   pub check-batch : Determined c-check-batch.ended c-check-batch-reads.Pre c-check-batch-reads.Post
   -- `list_sections`: proved by hand, with what its contract says written out
   pub sections : Determined c-sections.ended (λ κs a. Unit {0}) Listed-post
@@ -108,6 +114,7 @@ pub record OneResult : Type 2 where
   pub told : Determined c-told.ended c-told-reads.Pre c-told-reads.Post
   -- the calls for C, by their names in the header
   pub edge-sst-open : Determined sst-open.ended sst-open-reads.Pre sst-open-reads.Post
+  pub edge-sst-header : Determined sst-header.ended sst-header-reads.Pre sst-header-reads.Post
   pub edge-sst-partners : Determined sst-partners.ended sst-partners-reads.Pre sst-partners-reads.Post
   pub edge-sst-partners-with : Determined sst-partners-with.ended sst-partners-with-reads.Pre sst-partners-with-reads.Post
   pub edge-sst-lookup : Determined sst-lookup.ended sst-lookup-reads.Pre sst-lookup-reads.Post
@@ -124,6 +131,7 @@ one-result = record {
   sum = xxh3-determined;
   saffron-xxh3-64 = saffron-xxh3-64-determined;
   opens = open-determined;
+  header = header-determined;
   section = section-at-determined;
   partners = partners-determined;
   partners-with = partners-with-determined;
@@ -141,6 +149,7 @@ one-result = record {
   table-of = table-of-determined;
   told = told-of-determined;
   edge-sst-open = edge-sst-open-determined;
+  edge-sst-header = edge-sst-header-determined;
   edge-sst-partners = edge-sst-partners-determined;
   edge-sst-partners-with = edge-sst-partners-with-determined;
   edge-sst-lookup = edge-sst-lookup-determined;
@@ -163,6 +172,7 @@ pub record NothingAsked : Type 2 where
   pub sum : Free c-sum.ended c-sum-reads.Pre
   pub saffron-xxh3-64 : Free c-saffron.ended c-saffron-reads.Pre
   pub opens : Free c-opens.ended c-opens-reads.Pre
+  pub header : Free c-header.ended c-header-reads.Pre
   pub section : Free c-section.ended c-section-reads.Pre
   pub partners : Free c-partners.ended c-partners-reads.Pre
   pub partners-with : Free c-partners-with.ended c-partners-with-reads.Pre
@@ -178,6 +188,7 @@ pub record NothingAsked : Type 2 where
   pub row-of : Free c-row-of.ended c-row-of-reads.Pre
   pub told : Free c-told.ended c-told-reads.Pre
   pub edge-sst-open : Free sst-open.ended sst-open-reads.Pre
+  pub edge-sst-header : Free sst-header.ended sst-header-reads.Pre
   pub edge-sst-partners : Free sst-partners.ended sst-partners-reads.Pre
   pub edge-sst-partners-with : Free sst-partners-with.ended sst-partners-with-reads.Pre
   pub edge-sst-lookup : Free sst-lookup.ended sst-lookup-reads.Pre
@@ -194,6 +205,7 @@ nothing-asked = record {
   sum = λ κs a. tt;
   saffron-xxh3-64 = λ κs a. tt;
   opens = λ κs a. tt;
+  header = λ κs a. tt;
   section = λ κs a. tt;
   partners = λ κs a. tt;
   partners-with = λ κs a. tt;
@@ -209,6 +221,7 @@ nothing-asked = record {
   row-of = λ κs a. tt;
   told = λ κs a. tt;
   edge-sst-open = λ κs a. tt;
+  edge-sst-header = λ κs a. tt;
   edge-sst-partners = λ κs a. tt;
   edge-sst-partners-with = λ κs a. tt;
   edge-sst-lookup = λ κs a. tt;

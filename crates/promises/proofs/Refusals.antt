@@ -18,10 +18,10 @@ use Rattle.lookup.specs.Lookup as look
 use Rattle.lookup.specs.Lookup.{Outcome, found, absent, refused, partnersLeft, logsLeft, marksLeft}
 use Rattle.lookup.specs.Calls.{Alone, Whole}
 use Rattle.listing.specs.declared.Listed.{Listed}
-use Rattle.listing.specs.List.Laws.{refused-leaves}
+use Rattle.listing.specs.List.Laws.{list-refused-leaves}
 use Rattle.readout.specs.declared.ReadOut.{ReadOut}
 use Rattle.readout.specs.ReadOut as out
-use Rattle.readout.specs.ReadOut.{readCheck, neededFor, batchIn, leaves, readOutOf, readOutLeaves}
+use Rattle.readout.specs.ReadOut.{readCheck, neededFor, batchIn, readLeaves, readOutOf, readOutLeaves}
 use Rattle.write_file.specs.declared.Written.{Written}
 use Rattle.write_file.specs.Written as writer
 use Rattle.write_file.specs.Written.{Wrote, fileIn}
@@ -59,14 +59,14 @@ abbrev pub Absent : Looked → Type 0
 Absent r = (n : ℕ) × (r ≡ Looked.Absent n)
 
 -- such an outcome leaves what there was
-left-refused : (x : Outcome) (o l m : List ℕ) → Refused (look.answerOf x) → (partnersLeft x o ≡ o) × (logsLeft x l ≡ l) × (marksLeft x m ≡ m)
-unfolding look.answerOf partnersLeft logsLeft marksLeft
+left-refused : (x : Outcome) (o l m : List ℕ) → Refused (look.lookedOf x) → (partnersLeft x o ≡ o) × (logsLeft x l ≡ l) × (marksLeft x m ≡ m)
+unfolding look.lookedOf partnersLeft logsLeft marksLeft
 left-refused (found i c ps logs marks) o l m (q, e) = let z : _≡_ {A = ℕ} 0 1 = cc in absurd (omega arith)
 left-refused (absent c) o l m (q, e) = let z : _≡_ {A = ℕ} 0 1 = cc in absurd (omega arith)
 left-refused (refused r) o l m (q, e) = (refl, refl, refl)
 
-left-absent : (x : Outcome) (o l m : List ℕ) → Absent (look.answerOf x) → (partnersLeft x o ≡ o) × (logsLeft x l ≡ l) × (marksLeft x m ≡ m)
-unfolding look.answerOf partnersLeft logsLeft marksLeft
+left-absent : (x : Outcome) (o l m : List ℕ) → Absent (look.lookedOf x) → (partnersLeft x o ≡ o) × (logsLeft x l ≡ l) × (marksLeft x m ≡ m)
+unfolding look.lookedOf partnersLeft logsLeft marksLeft
 left-absent (found i c ps logs marks) o l m (n, e) = let z : _≡_ {A = ℕ} 0 1 = cc in absurd (omega arith)
 left-absent (absent c) o l m (n, e) = (refl, refl, refl)
 left-absent (refused r) o l m (n, e) = let z : _≡_ {A = ℕ} 0 1 = cc in absurd (omega arith)
@@ -121,10 +121,10 @@ lookup-with-absent κs a r w such call =
 -- ---- the read-out
 
 batch-stays : (f o : List ℕ) (q : Refusal) → readOutOf f (length o) ≡ ReadOut.Refused q → readOutLeaves f o ≡ o
-unfolding readOutOf readOutLeaves out.answerOf leaves
+unfolding readOutOf readOutLeaves out.readAnswer readLeaves
 batch-stays f o q e = go (readCheck f (length o)) e
   where
-    go : (c : Check) → out.answerOf c (neededFor f) ≡ ReadOut.Refused q → leaves c (batchIn f) o ≡ o
+    go : (c : Check) → out.readAnswer c (neededFor f) ≡ ReadOut.Refused q → readLeaves c (batchIn f) o ≡ o
     go Check.Fine h = let z : _≡_ {A = ℕ} 0 1 = cc in absurd (omega arith)
     go (Check.Bad r) h = refl
 
@@ -135,8 +135,8 @@ read-out-refused κs a r w (q, e) call =
 -- ---- the writer
 
 file-stays : (s o : List ℕ) (r : Written) (o′ : List ℕ) (q : Refusal) → r ≡ Written.Refused q → Wrote s o r o′ → o′ ≡ o
-unfolding writer.leaves
-file-stays s o r o′ q e c = c .output ∙ ap (λ (x : Written). writer.leaves x (fileIn s) o) (sym (c .answer) ∙ e)
+unfolding writer.writeLeaves
+file-stays s o r o′ q e c = c .output ∙ ap (λ (x : Written). writer.writeLeaves x (fileIn s) o) (sym (c .answer) ∙ e)
 
 pub write-refused : LeavesOnly c-write.ended c-write-reads.Post (λ κs r. (q : Refusal) × (r ≡ Written.Refused q)) (λ κs a. (tt {0}, (now (a .1 .0), tt {0})))
 write-refused κs a r w (q, e) call = ap (λ (o : List ℕ). (tt {0}, (o, tt {0}))) (file-stays (now (a .0)) (now (a .1 .0)) r (w .1 .0) q e call)
@@ -145,4 +145,4 @@ write-refused κs a r w (q, e) call = ap (λ (o : List ℕ). (tt {0}, (o, tt {0}
 
 pub list-refused : LeavesOnly c-sections.ended Listed-post (λ κs r. (q : Refusal) × (r ≡ Listed.Refused q)) (λ κs a. (tt {0}, (now (a .1 .0), tt {0})))
 list-refused κs a r w (q, e) call =
-    ap (λ (t : List Row). (tt {0}, (t, tt {0}))) (call .1 ∙ refused-leaves (now (a .0)) (length (now (a .1 .0))) q (now (a .1 .0)) (sym (call .0) ∙ e))
+    ap (λ (t : List Row). (tt {0}, (t, tt {0}))) (call .1 ∙ list-refused-leaves (now (a .0)) (length (now (a .1 .0))) q (now (a .1 .0)) (sym (call .0) ∙ e))

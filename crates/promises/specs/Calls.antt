@@ -11,6 +11,7 @@ use lib.Seq.{take-at}
 use lib.Dec.{ltb}
 use borrow.Author.Tests.{ltb-false}
 use Rattle.base.specs.Over.{over}
+use Rattle.base.specs.Bytes.{Bytes}
 use Rattle.refusal.specs.declared.Refusal.{Refusal}
 use Rattle.refusal.specs.declared.Check.{Check}
 use Rattle.refusal.specs.Check.{refuse}
@@ -27,8 +28,8 @@ use Rattle.lookup.specs.Lookup as look
 use Rattle.lookup.specs.Lookup.{Outcome, partnersLeft, logsLeft, marksLeft}
 use Rattle.lookup.specs.Calls.{Alone, Whole, alone-as, whole-as}
 use Rattle.batch.specs.declared.Edge.{Edge}
-use Rattle.batch.specs.Batch.{headingOf, edgeAt, edgesAt, edgesOf, headingBytes, recordsOf, batchBytes, batchCheck}
-use Rattle.index.specs.Find.{turn, findFrom, findIn, comparedOf}
+use Rattle.batch.specs.Batch.{headingOf, edgeAt, edgesAt, edgesOf, headingBytes, recordsOf, batchBytes, batchCheck, partnersIn, logsIn}
+use Rattle.index.specs.Find.{narrowed, findFrom, findIn, comparedOf}
 use Rattle.batch_groups.specs.Groups.{join, groupsOf}
 use Rattle.write_image.specs.Image.{keysIn}
 use Rattle.write_image.specs.Cases.{mixed}
@@ -39,9 +40,9 @@ use Rattle.readout.specs.declared.ReadOut.{ReadOut}
 use Rattle.readout.specs.Edges.{edgesIn}
 use Rattle.readout.specs.ReadOut.{headingIn, batchIn, readOutOf, readOutLeaves}
 use Rattle.readout.specs.ReadOut.Laws.{checked-records, checked-size, length-heading, reads-all}
-use Rattle.agreement.specs.SameEdges.{ofKey, partnersIn, logsIn, marksIn}
+use Rattle.agreement.specs.SameEdges.{ofKey, markBytesIn}
 use Rattle.write_file.specs.declared.Written.{Written}
-use Rattle.write_file.specs.Written.{neededCheck, neededOf, writtenOf, leaves, fileIn, answerOf}
+use Rattle.write_file.specs.Written.{neededCheck, neededOf, writtenOf, writeLeaves, fileIn, writtenAnswer}
 use Rattle.write_file.specs.Written.Laws.{needed-done, wrote-all}
 use Rattle.demand2.specs.Answers.{indexIn, comparisonsIn, outcomeBy, outcomeFor}
 use Rattle.demand2.specs.Demand2.{fileFor, Lawful, lawful-is, demand-2}
@@ -49,14 +50,14 @@ use Rattle.demand2.specs.Demand2.{fileFor, Lawful, lawful-is, demand-2}
 -- ---- the writer
 
 -- nothing is refused where there is an answer
-answer-fine : (c : Check) (size n : ℕ) → answerOf c size ≡ Written.Done n → (c ≡ Check.Fine) × (size ≡ n)
-unfolding answerOf
+answer-fine : (c : Check) (size n : ℕ) → writtenAnswer c size ≡ Written.Done n → (c ≡ Check.Fine) × (size ≡ n)
+unfolding writtenAnswer
 answer-fine Check.Fine size n e = (refl, cc)
 answer-fine (Check.Bad r) size n e = let z : _≡_ {A = ℕ} 0 1 = cc in absurd (omega arith)
 
 -- lawful is exactly what the writer takes: bytes for which `needed` tells a size are lawful, and it is their file's (the other
 -- way is `needs`)
-pub takes : (s : List ℕ) → ((j : ℕ) → getD s j 0 < 2 ^ 8) → (n : ℕ) → neededOf s ≡ Written.Done n → Lawful s × (length (fileFor s) ≡ n)
+pub takes : (s : List ℕ) → Bytes s → (n : ℕ) → neededOf s ≡ Written.Done n → Lawful s × (length (fileFor s) ≡ n)
 unfolding neededOf neededCheck tooMany
 takes s bytes n e =
     let (fine, size) = answer-fine (neededCheck s) (length (fileIn s)) n e in
@@ -76,7 +77,7 @@ module _ (s : List ℕ) (lawful : Lawful s) where
       sym (needed-done s (lawful .fine) (few (headingOf s) (edgesOf s) (l .keys) (l .edges) (l .bytes)) (length f) refl)
 
   -- `write` writes the file
-  pub writes : (o : List ℕ) → length f ≤ length o → (writtenOf s (length o) ≡ Written.Done (length f)) × (leaves (writtenOf s (length o)) (fileIn s) o ≡ over f o)
+  pub writes : (o : List ℕ) → length f ≤ length o → (writtenOf s (length o) ≡ Written.Done (length f)) × (writeLeaves (writtenOf s (length o)) (fileIn s) o ≡ over f o)
   writes o h =
       let w = wrote-all s o (length f) (sym needs) h (over f o) refl in
       (sym (w .answer), sym (w .output))
@@ -118,7 +119,7 @@ pub record PartnersGiven (key : ℕ) (es : List Edge) (r : Looked) (o out : List
 pub record EdgesGiven (key : ℕ) (es : List Edge) (r : Looked) (o out l logs m marks : List ℕ) : Type 0 where
   pub written : 1 ≤ length (ofKey key es)
       → (r ≡ Looked.Found (length (ofKey key es)) (indexIn key (groupsOf es)) (comparisonsIn key (groupsOf es))) × (out ≡ over (bytesOf (partnersIn (ofKey key es))) o)
-      × (logs ≡ over (logsIn (ofKey key es)) l) × (marks ≡ over (marksIn (ofKey key es)) m)
+      × (logs ≡ over (logsIn (ofKey key es)) l) × (marks ≡ over (markBytesIn (ofKey key es)) m)
   pub unwritten : ofKey key es ≡ [] → (r ≡ Looked.Absent (comparisonsIn key (groupsOf es))) × (out ≡ o) × (logs ≡ l) × (marks ≡ m)
 
 count-partners : (es : List Edge) → length (partnersIn es) ≡ length es
@@ -129,24 +130,24 @@ count-partners (e ∷ es) = ap suc (count-partners es)
 -- of the outcome for the edges es of a key, at index i after c comparisons
 module _ (i c : ℕ) (r : Looked) (o out : List ℕ) where
   alone-some : (es : List Edge) → 1 ≤ length es → Alone (outcomeBy false i c es) r o out → (r ≡ Looked.Found (length es) i c) × (out ≡ over (bytesOf (partnersIn es)) o)
-  unfolding outcomeBy look.answerOf partnersLeft
+  unfolding outcomeBy look.lookedOf partnersLeft
   alone-some [] h call = absurd (omega arith)
   alone-some (e ∷ es) h call = (call .answer ∙ ap (λ (d : ℕ). Looked.Found d i c) (count-partners (e ∷ es)), call .partners)
 
   alone-none : (es : List Edge) → es ≡ [] → Alone (outcomeBy false i c es) r o out → (r ≡ Looked.Absent c) × (out ≡ o)
-  unfolding outcomeBy look.answerOf partnersLeft
+  unfolding outcomeBy look.lookedOf partnersLeft
   alone-none [] h call = (call .answer, call .partners)
   alone-none (e ∷ es) h call = absurd (omega (arith, ap length h))
 
   module _ (l logs m marks : List ℕ) where
     whole-some : (es : List Edge) → 1 ≤ length es → Whole (outcomeBy true i c es) r o out l logs m marks
-        → (r ≡ Looked.Found (length es) i c) × (out ≡ over (bytesOf (partnersIn es)) o) × (logs ≡ over (logsIn es) l) × (marks ≡ over (marksIn es) m)
-    unfolding outcomeBy look.answerOf partnersLeft logsLeft marksLeft
+        → (r ≡ Looked.Found (length es) i c) × (out ≡ over (bytesOf (partnersIn es)) o) × (logs ≡ over (logsIn es) l) × (marks ≡ over (markBytesIn es) m)
+    unfolding outcomeBy look.lookedOf partnersLeft logsLeft marksLeft
     whole-some [] h call = absurd (omega arith)
     whole-some (e ∷ es) h call = (call .answer ∙ ap (λ (d : ℕ). Looked.Found d i c) (count-partners (e ∷ es)), call .partners, call .numbers, call .dead)
 
     whole-none : (es : List Edge) → es ≡ [] → Whole (outcomeBy true i c es) r o out l logs m marks → (r ≡ Looked.Absent c) × (out ≡ o) × (logs ≡ l) × (marks ≡ m)
-    unfolding outcomeBy look.answerOf partnersLeft logsLeft marksLeft
+    unfolding outcomeBy look.lookedOf partnersLeft logsLeft marksLeft
     whole-none [] h call = (call .answer, call .partners, call .numbers, call .dead)
     whole-none (e ∷ es) h call = absurd (omega (arith, ap length h))
 
@@ -173,20 +174,20 @@ edges-given key es x is r o out l logs m marks call =
 
 pub second-key : (r : Looked) (o out l logs m marks : List ℕ) → EdgesGiven (2 ^ 64 + 3) (edgesOf mixed) r o out l logs m marks
     → (r ≡ Looked.Found 1 1 1) × (out ≡ 0 ∷ 2 ∷ 0 ∷ 0 ∷ 0 ∷ 0 ∷ 0 ∷ 0 ∷ 0 ∷ 0 ∷ 0 ∷ 0 ∷ 0 ∷ 0 ∷ 0 ∷ 1 ∷ drop 16 o) × (logs ≡ 8 ∷ drop 1 l) × (marks ≡ 0 ∷ drop 1 m)
-unfolding mixed edgesOf edgesAt edgeAt halvesAt beAt leAt beBytes idAt idBytes bytesOf order turn findFrom findIn comparedOf join groupsOf keysIn ofKey partnersIn logsIn marksIn indexIn
+unfolding mixed edgesOf edgesAt edgeAt halvesAt beAt leAt beBytes idAt idBytes bytesOf order narrowed findFrom findIn comparedOf join groupsOf keysIn ofKey partnersIn logsIn markBytesIn indexIn
 second-key r o out l logs m marks given = given .written (omega arith)
 
 pub second-partners : (r : Looked) (o out : List ℕ) → PartnersGiven (2 ^ 64 + 3) (edgesOf mixed) r o out
     → (r ≡ Looked.Found 1 1 1) × (out ≡ 0 ∷ 2 ∷ 0 ∷ 0 ∷ 0 ∷ 0 ∷ 0 ∷ 0 ∷ 0 ∷ 0 ∷ 0 ∷ 0 ∷ 0 ∷ 0 ∷ 0 ∷ 1 ∷ drop 16 o)
-unfolding mixed edgesOf edgesAt edgeAt halvesAt beAt leAt beBytes idAt idBytes bytesOf order turn findFrom findIn comparedOf join groupsOf keysIn ofKey partnersIn indexIn
+unfolding mixed edgesOf edgesAt edgeAt halvesAt beAt leAt beBytes idAt idBytes bytesOf order narrowed findFrom findIn comparedOf join groupsOf keysIn ofKey partnersIn indexIn
 second-partners r o out given = given .written (omega arith)
 
 -- and of a key that it does not have
-pub other-key : (r : Looked) (o out l logs m marks : List ℕ) → EdgesGiven (2 ^ 64 + 1) (edgesOf mixed) r o out l logs m marks
+pub other-key-given : (r : Looked) (o out l logs m marks : List ℕ) → EdgesGiven (2 ^ 64 + 1) (edgesOf mixed) r o out l logs m marks
     → (r ≡ Looked.Absent 2) × (out ≡ o) × (logs ≡ l) × (marks ≡ m)
-unfolding mixed edgesOf edgesAt edgeAt halvesAt beAt leAt beBytes idAt idBytes bytesOf order turn findFrom findIn comparedOf join groupsOf keysIn ofKey indexIn
-other-key r o out l logs m marks given = given .unwritten refl
+unfolding mixed edgesOf edgesAt edgeAt halvesAt beAt leAt beBytes idAt idBytes bytesOf order narrowed findFrom findIn comparedOf join groupsOf keysIn ofKey indexIn
+other-key-given r o out l logs m marks given = given .unwritten refl
 
 pub other-partners : (r : Looked) (o out : List ℕ) → PartnersGiven (2 ^ 64 + 1) (edgesOf mixed) r o out → (r ≡ Looked.Absent 2) × (out ≡ o)
-unfolding mixed edgesOf edgesAt edgeAt halvesAt beAt leAt beBytes idAt idBytes bytesOf order turn findFrom findIn comparedOf join groupsOf keysIn ofKey indexIn
+unfolding mixed edgesOf edgesAt edgeAt halvesAt beAt leAt beBytes idAt idBytes bytesOf order narrowed findFrom findIn comparedOf join groupsOf keysIn ofKey indexIn
 other-partners r o out given = given .unwritten refl

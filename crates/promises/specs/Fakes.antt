@@ -9,20 +9,20 @@ use Rattle.base.specs.Pick.{pick}
 use Rattle.base.specs.Over.{over}
 use Rattle.codes.specs.declared.ids.Id.{Id}
 use Rattle.codes.specs.Little.{leAt}
-use Rattle.codes.specs.Ids.{beAt, halvesAt, numberOf}
+use Rattle.codes.specs.Ids.{beAt, halvesAt, idNumber}
 use Rattle.refusal.specs.declared.Refusal.{Refusal}
 use Rattle.refusal.specs.declared.Check.{Check}
 use Rattle.frame.specs.Frame.{recordOf}
 use Rattle.frame.specs.Cases.{headingOnly}
 use Rattle.lookup.specs.Lookup.{Outcome, found, absent, refused, Rooms, lookOf, lookWith}
 use Rattle.batch.specs.declared.Edge.{Edge}
-use Rattle.batch.specs.Batch.{edgeAt, edgesAt, edgesOf}
+use Rattle.batch.specs.Batch.{edgeAt, edgesAt, edgesOf, partnersIn}
 use Rattle.write_image.specs.Cases.{mixed, mixed-edges}
-use Rattle.agreement.specs.SameEdges.{ofKey, partnersIn, Says, shownBy, Enough}
+use Rattle.agreement.specs.SameEdges.{ofKey, Says, shownBy, Enough}
 use Rattle.agreement.specs.OutBytes.{byted, bytes-are}
 use Rattle.full_check.specs.Full.{fullCheck}
 use Rattle.write_file.specs.declared.Written.{Written}
-use Rattle.write_file.specs.Written.{writtenOf, fileIn, leaves}
+use Rattle.write_file.specs.Written.{writtenOf, fileIn, writeLeaves}
 use Rattle.demand2.specs.Demand2.{fileFor, Lawful, demand-2}
 use Rattle.demand2.specs.Cases.{mixed-lawful}
 use Rattle.promises.specs.Calls.{takes, writes}
@@ -148,7 +148,7 @@ pub record Writer : Type 0 where
 abbrev pub Writes : Writer → Type 0
 Writes w = (s : List ℕ) → Lawful s → (o : List ℕ) → length (fileFor s) ≤ length o → (w .says s o ≡ Written.Done (length (fileFor s))) × (w .leaves s o ≡ over (fileFor s) o)
 
-pub our-writer : Writes (record { says = λ s o. writtenOf s (length o); leaves = λ s o. leaves (writtenOf s (length o)) (fileIn s) o })
+pub our-writer : Writes (record { says = λ s o. writtenOf s (length o); leaves = λ s o. writeLeaves (writtenOf s (length o)) (fileIn s) o })
 our-writer = writes
 
 zeros : ℕ → List ℕ

@@ -13,6 +13,8 @@ use Rattle.frame.specs.declared.Opening.{Opening}
 use Rattle.frame.specs.Open.{fileCheck, openOf}
 use Rattle.frame.specs.Open.Laws.{opens-refused}
 use Rattle.lookup.specs.Lookup.{Rooms, refused, lookOf}
+use Rattle.reader.specs.declared.header.HeaderRead.{HeaderRead}
+use Rattle.reader.specs.Header.{headerOf, header-opening}
 use Rattle.reader.specs.Given.{look-opening}
 use Rattle.full_check.specs.Full.{fullCheck, checkedOf}
 use Rattle.full_check.specs.Checked.{checked-bad, checked-refused}
@@ -21,7 +23,7 @@ use Rattle.readout.specs.declared.ReadOut.{ReadOut}
 use Rattle.readout.specs.ReadOut.{readOutOf}
 use Rattle.readout.specs.ReadOut.Laws.{read-full}
 use Rattle.listing.specs.declared.Listed.{Listed}
-use Rattle.listing.specs.List.{answerOf}
+use Rattle.listing.specs.List.{listedOf}
 use Rattle.listing.specs.List.Laws.{list-opening}
 
 -- the answer a is a refusal, number n at place p, with s beside it
@@ -43,15 +45,16 @@ gives-one c n m p q s t a b =
     let one : a .refusal ≡ b .refusal = cc in
     (sym (a .number) ∙ ap numberOf one ∙ b .number, sym (a .place) ∙ ap placeOf one ∙ b .place, sym (a .beside) ∙ ap besideOf one ∙ b .beside)
 
--- every call on the file f gives n at p, with s beside it, exactly if A: opening; lookups, partners alone or in full, of every key and in any room;
--- the full check, and what it answers with the record; the read-out and the section list, in any room
+-- every call on the file f gives n at p, with s beside it, exactly if A: opening; the header; lookups, partners alone or in full, of every key and in any
+-- room; the full check, and what it answers with the record; the read-out and the section list, in any room
 pub record Every (f : List ℕ) (n p s : ℕ) (A : Type 0) : Type 0 where
   pub opening : Gives Opening.Refused (openOf f) n p s ↔ A
+  pub header : Gives HeaderRead.Refused (headerOf f) n p s ↔ A
   pub lookup : (full : Bool) (rooms : Rooms) (key : ℕ) → Gives refused (lookOf full rooms key f) n p s ↔ A
   pub check : Gives Check.Bad (fullCheck f) n p s ↔ A
   pub checked : Gives Opening.Refused (checkedOf f) n p s ↔ A
   pub read-out : (room : ℕ) → Gives ReadOut.Refused (readOutOf f room) n p s ↔ A
-  pub sections : (room : ℕ) → Gives Listed.Refused (answerOf f room) n p s ↔ A
+  pub sections : (room : ℕ) → Gives Listed.Refused (listedOf f room) n p s ↔ A
 
 -- the full check's answers are one
 pub checked-is : (f : List ℕ) (r : Refusal) → (checkedOf f ≡ Opening.Refused r) ↔ (fullCheck f ≡ Check.Bad r)
@@ -62,9 +65,10 @@ pub every : (f : List ℕ) (r : Refusal) → numberOf r ≤ 13 → {A : Type 0} 
 every f r h is =
     let full = Iff·trans (full-opening f r (omega arith)) is in record {
       opening = Iff·trans (gives-is Opening.Refused (openOf f) r) (Iff·trans (opens-refused f r) is);
+      header = Iff·trans (gives-is HeaderRead.Refused (headerOf f) r) (Iff·trans (header-opening f r) is);
       lookup = λ full rooms key. Iff·trans (gives-is refused (lookOf full rooms key f) r) (Iff·trans (look-opening full rooms key f r h) is);
       check = Iff·trans (gives-is Check.Bad (fullCheck f) r) full;
       checked = Iff·trans (gives-is Opening.Refused (checkedOf f) r) (Iff·trans (checked-is f r) full);
       read-out = λ room. Iff·trans (gives-is ReadOut.Refused (readOutOf f room) r) (Iff·trans (read-full f room r (λ e. omega arith)) full);
-      sections = λ room. Iff·trans (gives-is Listed.Refused (answerOf f room) r) (Iff·trans (list-opening f room r (λ e. omega arith)) is);
+      sections = λ room. Iff·trans (gives-is Listed.Refused (listedOf f room) r) (Iff·trans (list-opening f room r (λ e. omega arith)) is);
     }

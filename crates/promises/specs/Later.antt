@@ -7,6 +7,7 @@ use native.Mathlib.Omega.{arith}
 use mathlib.Core.List.{List}
 use mathlib.Core.Bool.{Bool, true}
 use lib.ListN.{length, getD}
+use Rattle.base.specs.Bytes.{Bytes}
 use Rattle.refusal.specs.declared.Refusal.{Refusal}
 use Rattle.refusal.specs.declared.Check.{Check}
 use Rattle.refusal.specs.Check.Laws.{above}
@@ -19,12 +20,14 @@ use Rattle.frame.specs.Header.{OtherMajor, UnassignedFlag, major-exactly, flags
 use Rattle.index.specs.declared.keys.Found.{Found}
 use Rattle.index.specs.Find.{findIn}
 use Rattle.index.specs.Find.Laws.{find-sound}
-use Rattle.index.specs.Order.{Offsets}
+use Rattle.index.specs.Order.{OffsetsRise}
 use Rattle.degrees.specs.Degrees.{groupAt}
 use Rattle.group.specs.Group.{isGood, groupOf}
 use Rattle.group.specs.Tag.{UnknownTag}
 use Rattle.lookup.specs.Lookup.{Rooms, refused, lookOf, lookWith}
 use Rattle.lookup.specs.Given.{TagIn}
+use Rattle.reader.specs.declared.header.HeaderRead.{HeaderRead}
+use Rattle.reader.specs.Header.{headerOf, header-opening}
 use Rattle.reader.specs.Opened.{opened-offsets}
 use Rattle.reader.specs.Given.{look-of-tag, look-with-tag}
 use Rattle.full_check.specs.Full.{sumsFrom, fullCheck, checkedOf}
@@ -33,7 +36,7 @@ use Rattle.readout.specs.declared.ReadOut.{ReadOut}
 use Rattle.readout.specs.ReadOut.{readOutOf}
 use Rattle.readout.specs.ReadOut.Laws.{read-full}
 use Rattle.listing.specs.declared.Listed.{Listed}
-use Rattle.listing.specs.List.{answerOf}
+use Rattle.listing.specs.List.{listedOf}
 use Rattle.listing.specs.List.Laws.{list-opening}
 use Rattle.promises.specs.Given.{Gives, gives-is, Every, every, checked-is}
 
@@ -44,7 +47,7 @@ other-major f = every f Refusal.Major (omega arith) (major-exactly f)
 
 -- ---- 5 at 0: size, magic, major version and header size are right, and a flag bit 4 to 31 is set
 
-pub unassigned-flag : (f : List ℕ) → ((j : ℕ) → getD f j 0 < 2 ^ 8) → Every f 5 0 0 (UnassignedFlag f)
+pub unassigned-flag : (f : List ℕ) → Bytes f → Every f 5 0 0 (UnassignedFlag f)
 unassigned-flag f by = every f Refusal.Flags (omega arith) (flags-exactly f by)
 
 -- ---- 16 at i: an unknown tag
@@ -72,9 +75,10 @@ pub record Tags (f : List ℕ) (i : ℕ) : Type 0 where
   pub check : Gives Check.Bad (fullCheck f) 16 i 0 ↔ TagChecked f i
   pub checked : Gives Opening.Refused (checkedOf f) 16 i 0 ↔ TagChecked f i
   pub read-out : (room : ℕ) → Gives ReadOut.Refused (readOutOf f room) 16 i 0 ↔ TagChecked f i
-  -- opening and the section list look at no group
+  -- opening, the header and the section list look at no group
   pub opening : Gives Opening.Refused (openOf f) 16 i 0 → ⊥
-  pub sections : (room : ℕ) → Gives Listed.Refused (answerOf f room) 16 i 0 → ⊥
+  pub header : Gives HeaderRead.Refused (headerOf f) 16 i 0 → ⊥
+  pub sections : (room : ℕ) → Gives Listed.Refused (listedOf f room) 16 i 0 → ⊥
 
 module _ (f : List ℕ) (i : ℕ) where
   -- a group of a file that opens lies within the partners
@@ -121,5 +125,6 @@ module _ (f : List ℕ) (i : ℕ) where
         checked = Iff·trans (gives-is Opening.Refused (checkedOf f) r) (Iff·trans (checked-is f r) full);
         read-out = λ room. Iff·trans (gives-is ReadOut.Refused (readOutOf f room) r) (Iff·trans (read-full f room r (λ e. omega arith)) full);
         opening = λ g. unopened (opens-refused f r .0 (gives-is Opening.Refused (openOf f) r .0 g));
-        sections = λ room g. unopened (list-opening f room r (λ e. omega arith) .0 (gives-is Listed.Refused (answerOf f room) r .0 g));
+        header = λ g. unopened (header-opening f r .0 (gives-is HeaderRead.Refused (headerOf f) r .0 g));
+        sections = λ room g. unopened (list-opening f room r (λ e. omega arith) .0 (gives-is Listed.Refused (listedOf f room) r .0 g));
       }

@@ -5,6 +5,8 @@ use Prim.Native.Nat.{ℕ}
 use Rattle.base.proofs.Determined.{Determined}
 use Rattle.reader.proofs.open.open as opened
 use Rattle.reader.proofs.open.open.Reads as opened-reads
+use Rattle.reader.proofs.header.header as header
+use Rattle.reader.proofs.header.header.Reads as header-reads
 use Rattle.reader.proofs.rows.section_at as section-at
 use Rattle.reader.proofs.rows.section_at.Reads as section-at-reads
 use Rattle.reader.proofs.look.partners as partners
@@ -18,6 +20,9 @@ use Rattle.reader.proofs.look.lookup_with.Reads as lookup-with-reads
 
 pub open-determined : Determined opened.ended opened-reads.Pre opened-reads.Post
 open-determined κs a pre r₁ r₂ w₁ w₂ p q = (p ∙ sym q, refl)
+
+pub header-determined : Determined header.ended header-reads.Pre header-reads.Post
+header-determined κs a pre r₁ r₂ w₁ w₂ p q = (p ∙ sym q, refl)
 
 pub section-at-determined : Determined section-at.ended section-at-reads.Pre section-at-reads.Post
 section-at-determined κs a pre r₁ r₂ w₁ w₂ p q = (p ∙ sym q, refl)

@@ -1,7 +1,9 @@
 pub mod Fit
 pub mod Rows
+pub mod Header
 pub mod Opened
 pub mod Inside
 pub mod Look
 pub mod Given
 pub mod Compared
+pub mod Cases

@@ -4,7 +4,7 @@ use Prim.Native.Nat.{ℕ}
 use mathlib.Core.List.{List}
 use mathlib.Core.Bool.{Bool, true, false, not}
 use Rattle.codes.specs.declared.ids.Id.{Id}
-use Rattle.codes.specs.Ids.{idAt, numberOf, halvesAt}
+use Rattle.codes.specs.Ids.{idAt, idNumber, halvesAt}
 use Rattle.codes.specs.Ids.Laws.{number-halves}
 use Rattle.refusal.specs.declared.Refusal.{Refusal}
 use Rattle.refusal.specs.Check.{refuse}
@@ -52,5 +52,5 @@ pub opened-holds : (f : List ℕ) (o : Opened) → openOf f ≡ Opening.Good o �
 opened-holds f o e = holds f o (opened-good f o e)
 
 -- the key asked for, as its number
-pub key-number : (key : List ℕ) (d : Id) → d ≡ halvesAt key 0 → numberOf d ≡ idAt key 0
-key-number key d e = ap numberOf e ∙ number-halves key 0
+pub key-number : (key : List ℕ) (d : Id) → d ≡ halvesAt key 0 → idNumber d ≡ idAt key 0
+key-number key d e = ap idNumber e ∙ number-halves key 0

@@ -11,7 +11,7 @@ use Rattle.frame.specs.Kind as kind
 use Rattle.frame.specs.Frame.{sectionOf, rowsOf, bodyOf}
 use Rattle.frame.specs.Open.{recordFrom, recordOf, bytesAt, recordGood, openOf}
 use Rattle.frame.specs.Open.Laws.{Opens, Frames, opens-parts, opens-record, size-parts, frames-sized, frames-width, frames-within, recorded-made}
-use Rattle.index.specs.Order.{Rising, keys-rise, Offsets, offsets-rise}
+use Rattle.index.specs.Order.{KeysRise, keys-rise, OffsetsRise, offsets-rise}
 
 module _ (f : List ℕ) (o : Opened) (op : openOf f ≡ Opening.Good o) where
   opens : Opens f
@@ -38,9 +38,9 @@ module _ (f : List ℕ) (o : Opened) (op : openOf f ≡ Opening.Good o) where
   opened-good = rw (← opens-record f o op) good
 
   -- the keys strictly increase
-  pub opened-keys : Rising (bytesAt f (o .keys)) (o .keycount)
+  pub opened-keys : KeysRise (bytesAt f (o .keys)) (o .keycount)
   opened-keys = rw (← opens-record f o op) (keys-rise _ _ (opens .keys))
 
   -- the offsets rise from 0 to the partner section's length
-  pub opened-offsets : Offsets (bytesAt f (o .offsets)) (o .bits / 8) (o .keycount) (length (bytesAt f (o .partners)))
+  pub opened-offsets : OffsetsRise (bytesAt f (o .offsets)) (o .bits / 8) (o .keycount) (length (bytesAt f (o .partners)))
   opened-offsets = rw (← opens-record f o op) (offsets-rise _ _ _ _ (opens .offsets))

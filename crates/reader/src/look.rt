@@ -9,12 +9,10 @@ ghost use Rattle.codes.specs.Ids.{idAt};
 ghost use Rattle.frame.specs.Open.{recordWithin};
 ghost use Rattle.lookup.specs.declared.Looked.{Looked};
 ghost use Rattle.lookup.specs.Lookup.{lookOf, lookWith};
-ghost use Rattle.lookup.specs.Calls.{alone, lent, Alone, Whole};
+ghost use Rattle.lookup.specs.Calls.{alone, Alone, WholeBy};
 use super::open::open;
 use codes::ids::Id;
 use codes::ids::id_at;
-use open_counts::sizes_good;
-use open_counts::width_good;
 use frame::Opened;
 use frame::Opening;
 use frame::Range;
@@ -22,6 +20,8 @@ use frame::bounds::Bounds;
 use lookup::Looked;
 use lookup::partners::partners_of;
 use lookup::whole::edges_of_key;
+use open_counts::sizes_good;
+use open_counts::width_good;
 use refusal::Refusal;
 
 // Does a range lie within so many bytes? Its start and length may be any numbers.
@@ -111,7 +111,7 @@ pub fn lookup_with(
     logs: &mut [u64],
     marks: &mut [u8],
 ) -> Looked
-    ensures { λ r. ⌜ Whole (lookWith true (lent (length (now (out .entry))) (length (now (logs .entry))) (length (now (marks .entry)))) (idAt (now (key .entry)) 0) (now (file .entry)) o) r (now (out .entry)) (now (out .exit)) (now (logs .entry)) (now (logs .exit)) (now (marks .entry)) (now (marks .exit)) ⌝ }
+    ensures { λ r. ⌜ WholeBy (λ rooms. lookWith true rooms (idAt (now (key .entry)) 0) (now (file .entry)) o) r (now (out .entry)) (now (out .exit)) (now (logs .entry)) (now (logs .exit)) (now (marks .entry)) (now (marks .exit)) ⌝ }
 {
     if !record_good(file.len() as u64, o) {
         return refused(Refusal::Record);
@@ -127,7 +127,7 @@ pub fn lookup(
     logs: &mut [u64],
     marks: &mut [u8],
 ) -> Looked
-    ensures { λ r. ⌜ Whole (lookOf true (lent (length (now (out .entry))) (length (now (logs .entry))) (length (now (marks .entry)))) (idAt (now (key .entry)) 0) (now (file .entry))) r (now (out .entry)) (now (out .exit)) (now (logs .entry)) (now (logs .exit)) (now (marks .entry)) (now (marks .exit)) ⌝ }
+    ensures { λ r. ⌜ WholeBy (λ rooms. lookOf true rooms (idAt (now (key .entry)) 0) (now (file .entry))) r (now (out .entry)) (now (out .exit)) (now (logs .entry)) (now (logs .exit)) (now (marks .entry)) (now (marks .exit)) ⌝ }
 {
     match open(file) {
         Opening::Refused { refusal } => refused(refusal),

@@ -9,8 +9,8 @@ use Rattle.readout.proofs.edges.put_edges_of as put-edges-of
 use Rattle.readout.proofs.edges.put_edges_of.Reads as put-edges-of-reads
 use Rattle.readout.proofs.edges.put_heading as put-heading
 use Rattle.readout.proofs.edges.put_heading.Reads as put-heading-reads
-use Rattle.readout.proofs.group_edges.put_group as put-group
-use Rattle.readout.proofs.group_edges.put_group.Reads as put-group-reads
+use Rattle.readout.proofs.group_edges.put_group_edges as put-group
+use Rattle.readout.proofs.group_edges.put_group_edges.Reads as put-group-reads
 
 pub read-out-determined : Determined read-out.ended read-out-reads.Pre read-out-reads.Post
 read-out-determined κs a pre r₁ r₂ w₁ w₂ p q = (p .0 ∙ sym (q .0), ap (λ (l : List ℕ). (tt {0}, (l, tt {0}))) (p .1 ∙ sym (q .1)))

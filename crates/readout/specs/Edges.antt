@@ -1,6 +1,8 @@
 -- The edges of a file, "in file order".
-use Prim.Native.Nat.{ℕ, zero, suc, _+_, _*_, _/_}
+use mathlib.Core.Path.{_≡_}
+use Prim.Native.Nat.{ℕ, zero, suc, _+_, _*_, _/_, _≤_}
 use mathlib.Core.List.{List, [], _∷_, _++_}
+use mathlib.Core.Bool.{true}
 use lib.ListN.{length}
 use lib.Dec.{eqb}
 use Rattle.codes.specs.declared.ids.Id.{Id}
@@ -8,9 +10,10 @@ use Rattle.codes.specs.Little.{leAt}
 use Rattle.codes.specs.Ids.{halvesAt}
 use Rattle.frame.specs.Kind as kind
 use Rattle.frame.specs.Open.{Known}
-use Rattle.group.specs.Group.{partnersOf}
+use Rattle.group.specs.Group.{Decoded, isGood, partnersOf}
 use Rattle.lookup.specs.Lookup.{markAt}
 use Rattle.batch.specs.declared.Edge.{Edge}
+use Rattle.batch.specs.Batch.{place, recordsOf}
 use Rattle.full_check.specs.Full.{groupIn}
 pub mod Laws
 
@@ -40,3 +43,10 @@ module _ (keys p o : List ℕ) (w : ℕ) (logs dead : List ℕ) where
 -- all of them
 unfoldable pub edgesIn : Known → List Edge
 edgesIn k = readFrom (k .keys) (k .partners) (k .offsets) (k .bits / 8) (k .logs) (k .dead) (k .keycount) 0 0
+
+-- ---- what writing a key's d edges asks, the first of them edge `first` of the file: w is its group, read
+pub record Writable (w : Decoded) (d : ℕ) (key : Id) (logs dead : List ℕ) (first : ℕ) (out : List ℕ) : Type 0 where
+  pub good : isGood w ≡ true
+  pub bound : first + d ≤ kind.mostEdges
+  pub numbers : kind.logSize * (first + d) ≤ length logs
+  pub room : place first + length (recordsOf (edgesFrom logs dead key first (partnersOf w))) ≤ length out

@@ -1,5 +1,5 @@
 -- The read-out: "the full check", then 20 with the bytes needed, then the batch: heading and edges of the file.
-use Prim.Native.Nat.{ℕ, _+_, _*_, _/_, _%_}
+use Prim.Native.Nat.{ℕ, _+_, _*_}
 use mathlib.Core.List.{List}
 use lib.ListN.{length}
 use lib.Dec.{ltb}
@@ -7,7 +7,7 @@ use Rattle.base.specs.Over.{part, over}
 use Rattle.refusal.specs.declared.Refusal.{Refusal}
 use Rattle.refusal.specs.declared.Check.{Check}
 use Rattle.refusal.specs.Check.{_⊳_, refuse}
-use Rattle.frame.specs.Frame.{flagsOf, recordOf}
+use Rattle.frame.specs.Frame.{flagsOf, directionOf, recordOf}
 use Rattle.frame.specs.Open.{knownOf}
 use Rattle.batch.specs.Batch.{Heading, batchBytes, place}
 use Rattle.full_check.specs.Full.{fullCheck}
@@ -17,7 +17,7 @@ pub mod Laws
 
 -- the direction is flag bit 3, "inverse file"; the three ids stand in the header as in the heading
 unfoldable pub headingIn : List ℕ → Heading
-headingIn f = record { direction = flagsOf f / 8 % 2; ids = part f 16 64 }
+headingIn f = record { direction = directionOf (flagsOf f); ids = part f 16 64 }
 
 unfoldable pub batchIn : List ℕ → List ℕ
 batchIn f = batchBytes (headingIn f) (edgesIn (knownOf f (recordOf f)))
@@ -31,16 +31,16 @@ readCheck f room = fullCheck f ⊳ refuse (Refusal.Room (neededFor f)) (ltb room
 
 -- ---- what the call answers, and what it leaves in the output
 
-unfoldable pub answerOf : Check → ℕ → ReadOut
-answerOf Check.Fine bytes = ReadOut.Done bytes
-answerOf (Check.Bad r) bytes = ReadOut.Refused r
+unfoldable pub readAnswer : Check → ℕ → ReadOut
+readAnswer Check.Fine bytes = ReadOut.Done bytes
+readAnswer (Check.Bad r) bytes = ReadOut.Refused r
 
-unfoldable pub leaves : Check → List ℕ → List ℕ → List ℕ
-leaves Check.Fine batch out = over batch out
-leaves (Check.Bad r) batch out = out
+unfoldable pub readLeaves : Check → List ℕ → List ℕ → List ℕ
+readLeaves Check.Fine batch out = over batch out
+readLeaves (Check.Bad r) batch out = out
 
 unfoldable pub readOutOf : List ℕ → ℕ → ReadOut
-readOutOf f room = answerOf (readCheck f room) (neededFor f)
+readOutOf f room = readAnswer (readCheck f room) (neededFor f)
 
 unfoldable pub readOutLeaves : List ℕ → List ℕ → List ℕ
-readOutLeaves f out = leaves (readCheck f (length out)) (batchIn f) out
+readOutLeaves f out = readLeaves (readCheck f (length out)) (batchIn f) out

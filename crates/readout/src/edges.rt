@@ -3,21 +3,22 @@ ghost use mathlib.Core.Path.{_≡_};
 ghost use Prim.Native.Nat.{_+_, _/_, _≤_};
 ghost use lib.ListN.{length};
 ghost use lib.Seq.{sets};
+ghost use Rattle.frame.specs.Kind.{headerSize};
 ghost use Rattle.frame.specs.declared.Opening.{Opening};
 ghost use Rattle.frame.specs.Open.{knownOf};
-ghost use Rattle.batch.specs.Batch.{headingBytes, recordsOf};
+ghost use Rattle.batch.specs.Batch.{headingSize, headingBytes, recordsOf};
 ghost use Rattle.full_check.specs.Full.{checkedOf};
 ghost use Rattle.readout.specs.Edges.{readFrom, edgesIn};
 ghost use Rattle.readout.specs.Edges.Laws.{Readable};
 ghost use Rattle.readout.specs.ReadOut.{headingIn};
-use super::group_edges::put_group;
+use super::group_edges::put_group_edges;
 use batch::Edge;
 use codes::little::le32;
 use frame::Opened;
 use frame::bytes_of;
 use index::keys::key_at;
 use index::offsets::offset_at;
-use lookup::whole::dead_of;
+use lookup::whole::tombstones_of;
 
 // Writes the edges of n keys, whose groups are good.
 fn put_all(
@@ -30,8 +31,8 @@ fn put_all(
     dead: &[u8],
     out: &mut [u8],
 )
-    requires { ⌜ Readable (now keys) (now partners) (now offs) w (now logs) n × (50 + length (recordsOf (readFrom (now keys) (now partners) (now offs) w (now logs) (now dead) n 0 0)) ≤ length (now out)) ⌝ }
-    ensures { λ _. ⌜ now (out .exit) ≡ sets (now (out .entry)) 50 (recordsOf (readFrom (now (keys .entry)) (now (partners .entry)) (now (offs .entry)) w (now (logs .entry)) (now (dead .entry)) n 0 0)) ⌝ }
+    requires { ⌜ Readable (now keys) (now partners) (now offs) w (now logs) n × (headingSize + length (recordsOf (readFrom (now keys) (now partners) (now offs) w (now logs) (now dead) n 0 0)) ≤ length (now out)) ⌝ }
+    ensures { λ _. ⌜ now (out .exit) ≡ sets (now (out .entry)) headingSize (recordsOf (readFrom (now (keys .entry)) (now (partners .entry)) (now (offs .entry)) w (now (logs .entry)) (now (dead .entry)) n 0 0)) ⌝ }
 {
     let mut a: usize = 0;
     let mut first: usize = 0;
@@ -39,7 +40,7 @@ fn put_all(
     while i < n {
         let e = offset_at(offs, w, i + 1) as usize;
         let key = key_at(keys, i);
-        first = put_group(&partners[a..e], key, logs, dead, first, out);
+        first = put_group_edges(&partners[a..e], key, logs, dead, first, out);
         a = e;
         i = i + 1;
     }
@@ -47,8 +48,8 @@ fn put_all(
 
 // Writes the edges of a file that the full check passed.
 pub fn put_edges_of(file: &[u8], o: Opened, out: &mut [u8])
-    requires { ⌜ (checkedOf (now file) ≡ Opening.Good o) × (50 + length (recordsOf (edgesIn (knownOf (now file) o))) ≤ length (now out)) ⌝ }
-    ensures { λ _. ⌜ now (out .exit) ≡ sets (now (out .entry)) 50 (recordsOf (edgesIn (knownOf (now (file .entry)) o))) ⌝ }
+    requires { ⌜ (checkedOf (now file) ≡ Opening.Good o) × (headingSize + length (recordsOf (edgesIn (knownOf (now file) o))) ≤ length (now out)) ⌝ }
+    ensures { λ _. ⌜ now (out .exit) ≡ sets (now (out .entry)) headingSize (recordsOf (edgesIn (knownOf (now (file .entry)) o))) ⌝ }
 {
     let keys = o.keys;
     let partners = o.partners;
@@ -61,7 +62,7 @@ pub fn put_edges_of(file: &[u8], o: Opened, out: &mut [u8])
         (o.bits / 8) as usize,
         o.keycount as usize,
         bytes_of(file, logs),
-        dead_of(file, o),
+        tombstones_of(file, o),
         out,
     );
 }
@@ -80,7 +81,7 @@ fn put_bytes(s: &[u8], out: &mut [u8], at: usize)
 
 // Writes the heading that a file's header gives.
 pub fn put_heading(file: &[u8], out: &mut [u8])
-    requires { ⌜ (64 ≤ length (now file)) × (50 ≤ length (now out)) ⌝ }
+    requires { ⌜ (headerSize ≤ length (now file)) × (headingSize ≤ length (now out)) ⌝ }
     ensures { λ _. ⌜ now (out .exit) ≡ sets (now (out .entry)) 0 (headingBytes (headingIn (now (file .entry)))) ⌝ }
 {
     let flags = le32(file, 12);

@@ -1,12 +1,12 @@
 // The edges of one key, written as records of a batch. Edge e of the file has its record at 50 + 41 * e.
 ghost use mathlib.Core.Path.{_≡_};
-ghost use mathlib.Core.Bool.{true, false};
 ghost use Prim.Native.Nat.{_+_, _*_, _≤_};
 ghost use lib.ListN.{length};
 ghost use lib.Seq.{sets};
 ghost use Rattle.batch.specs.Batch.{place, recordsOf};
-ghost use Rattle.group.specs.Group.{stepAt, denseStep, walkFrom, groupOf, isGood, partnersOf};
-ghost use Rattle.readout.specs.Edges.{edgeOf, edgesFrom};
+ghost use Rattle.frame.specs.Kind.{mostEdges};
+ghost use Rattle.group.specs.Group.{stepAt, denseStep, walkFrom, groupOf, partnersOf};
+ghost use Rattle.readout.specs.Edges.{edgeOf, edgesFrom, Writable};
 use batch::Edge;
 use batch::put_edge;
 use codes::ids::Id;
@@ -19,16 +19,16 @@ use group::split::Step;
 use group::split::split_step;
 use lookup::known::mark_at;
 
-// The partner at i of a dense group.
+// The partner at i of a dense group. The last place for one stands the same for all of them: a loop over them asks one thing.
 fn dense_step(g: &[u8], i: usize) -> Step
     ensures { λ r. ⌜ r ≡ denseStep (now (g .entry)) i ⌝ }
 {
-    if g.len() < i {
+    if g.len() < 16 {
         return Step::Bad {
             fault: Fault::Shape,
         };
     }
-    if g.len() - i < 16 {
+    if g.len() - 16 < i {
         return Step::Bad {
             fault: Fault::Shape,
         };
@@ -50,8 +50,8 @@ fn step_at(dense: bool, g: &[u8], i: usize, hi: u64) -> Step
 }
 
 // Edge e of a file: a key and a partner, with its log number and dead mark.
-fn edge_of(logs: &[u8], dead: &[u8], key: Id, partner: Id, e: usize) -> Edge
-    requires { ⌜ (e ≤ 67108864) × (8 * e + 8 ≤ length (now logs)) ⌝ }
+fn edge_with(logs: &[u8], dead: &[u8], key: Id, partner: Id, e: usize) -> Edge
+    requires { ⌜ (e ≤ mostEdges) × (8 * e + 8 ≤ length (now logs)) ⌝ }
     ensures { λ r. ⌜ r ≡ edgeOf (now (logs .entry)) (now (dead .entry)) key partner e ⌝ }
 {
     let log = le64(logs, 8 * e);
@@ -76,7 +76,7 @@ fn put_edges(
     first: usize,
     out: &mut [u8],
 )
-    requires { ⌜ (isGood (walkFrom dense d (now g) at 0 0) ≡ true) × (first + d ≤ 67108864) × (8 * (first + d) ≤ length (now logs)) × (place first + length (recordsOf (edgesFrom (now logs) (now dead) key first (partnersOf (walkFrom dense d (now g) at 0 0)))) ≤ length (now out)) ⌝ }
+    requires { ⌜ Writable (walkFrom dense d (now g) at 0 0) d key (now logs) (now dead) first (now out) ⌝ }
     ensures { λ _. ⌜ now (out .exit) ≡ sets (now (out .entry)) (place first) (recordsOf (edgesFrom (now (logs .entry)) (now (dead .entry)) key first (partnersOf (walkFrom dense d (now (g .entry)) at 0 0)))) ⌝ }
 {
     let mut i = at;
@@ -85,7 +85,7 @@ fn put_edges(
     while k < d {
         match step_at(dense, g, i, hi) {
             Step::Partner { id, next } => {
-                let e = edge_of(logs, dead, key, id, first + k);
+                let e = edge_with(logs, dead, key, id, first + k);
                 put_edge(out, Edge::HEAD + Edge::RECORD * (first + k), e);
                 hi = id.hi;
                 i = next;
@@ -99,8 +99,15 @@ fn put_edges(
 }
 
 // Writes the edges of a key whose group g is good, and answers the number of the edge after them.
-pub fn put_group(g: &[u8], key: Id, logs: &[u8], dead: &[u8], first: usize, out: &mut [u8]) -> usize
-    requires { ⌜ (isGood (groupOf (now g)) ≡ true) × (first + length (partnersOf (groupOf (now g))) ≤ 67108864) × (8 * (first + length (partnersOf (groupOf (now g)))) ≤ length (now logs)) × (place first + length (recordsOf (edgesFrom (now logs) (now dead) key first (partnersOf (groupOf (now g))))) ≤ length (now out)) ⌝ }
+pub fn put_group_edges(
+    g: &[u8],
+    key: Id,
+    logs: &[u8],
+    dead: &[u8],
+    first: usize,
+    out: &mut [u8],
+) -> usize
+    requires { ⌜ Writable (groupOf (now g)) (length (partnersOf (groupOf (now g)))) key (now logs) (now dead) first (now out) ⌝ }
     ensures { λ r. ⌜ (r ≡ first + length (partnersOf (groupOf (now (g .entry))))) × (now (out .exit) ≡ sets (now (out .entry)) (place first) (recordsOf (edgesFrom (now (logs .entry)) (now (dead .entry)) key first (partnersOf (groupOf (now (g .entry))))))) ⌝ }
 {
     match head_of(g) {

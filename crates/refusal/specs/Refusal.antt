@@ -63,9 +63,9 @@ numberOf Refusal.Bounds = 26
 -- numbers: to here
 
 -- the last of them
-abbrev pub last : ℕ
+abbrev pub lastNumber : ℕ
 -- last: from refusals.txt
-last = 26
+lastNumber = 26
 
 -- last: to here
 

@@ -1,10 +1,14 @@
 // Prints what opening says of each file of a corpus, for the programs over small files and large ones.
+use codes::ids::Id;
 use frame::Opened;
 use frame::Opening;
 use frame::Range;
 use frame::Row;
+use frame::ends::Header;
+use reader::header::HeaderRead;
+use reader::header::header;
 use reader::open::open;
-use reader::rows::Section;
+use reader::rows::SectionAt;
 use reader::rows::section_at;
 use test_corpus::MOST;
 use test_corpus::hex;
@@ -51,6 +55,38 @@ fn record(o: Opened) {
     number(o.bits as u64);
 }
 
+fn id(d: Id) {
+    word(b" ");
+    hex(d.hi);
+    hex(d.lo);
+}
+
+fn fields(h: Header) {
+    let edgetype = h.edgetype;
+    let source = h.source;
+    let destination = h.destination;
+    word(b"minor");
+    number(h.minor as u64);
+    word(b" direction");
+    number(h.direction as u64);
+    word(b" flags");
+    number(h.flags as u64);
+    word(b" ids");
+    id(edgetype);
+    id(source);
+    id(destination);
+}
+
+// The line of the header, or of its refusal.
+fn header_line(file: &[u8]) {
+    word(b"  header ");
+    match header(file) {
+        HeaderRead::Refused { refusal } => refused(refusal),
+        HeaderRead::Good { header: h } => fields(h),
+    }
+    word(b"\n");
+}
+
 // The line of a section.
 pub fn row(r: Row) {
     word(b"  section");
@@ -68,8 +104,8 @@ pub fn row(r: Row) {
 // The line of entry i, or none.
 fn row_line(file: &[u8], i: usize) {
     match section_at(file, i) {
-        Section::Entry { row: r } => row(r),
-        Section::Missing => {}
+        SectionAt::Entry { row: r } => row(r),
+        SectionAt::Missing => {}
     }
 }
 
@@ -81,17 +117,19 @@ fn rows(file: &[u8]) {
     }
 }
 
-// The verdict on a file: its refusal, or its record and sections.
+// The verdict on a file: its refusal or its record, what its header is said to be, and its sections.
 fn verdict(name: &[u8], file: &[u8]) {
     line(name, b": ");
     match open(file) {
         Opening::Refused { refusal } => {
             refused(refusal);
             word(b"\n");
+            header_line(file);
         }
         Opening::Good { opened } => {
             record(opened);
             word(b"\n");
+            header_line(file);
             rows(file);
         }
     }

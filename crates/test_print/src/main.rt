@@ -1,6 +1,7 @@
 // Prints every file of a corpus as the program `edge_sst` does. Corpus and expected lines are made by second/.
 ghost use Prim.Native.Nat.{_≤_};
 ghost use lib.ListN.{length};
+ghost use Rattle.printing.specs.Printed.{lineRoom};
 use printing::print_file;
 use test_corpus::MOST;
 use test_corpus::line;
@@ -9,7 +10,7 @@ use test_corpus::word;
 
 // The next entry; false where there is none.
 fn entry(name: &mut [u8], space: &mut [u8], room: &mut [u8], out: &mut [u8]) -> bool
-    requires { ⌜ 128 ≤ length (now out) ⌝ }
+    requires { ⌜ lineRoom ≤ length (now out) ⌝ }
 {
     let e = next_entry(name, space);
     let n = e.name;
@@ -24,7 +25,7 @@ fn entry(name: &mut [u8], space: &mut [u8], room: &mut [u8], out: &mut [u8]) -> 
 }
 
 fn corpus(name: &mut [u8], space: &mut [u8], room: &mut [u8], out: &mut [u8])
-    requires { ⌜ 128 ≤ length (now out) ⌝ }
+    requires { ⌜ lineRoom ≤ length (now out) ⌝ }
 {
     let mut left = MOST;
     while 0 < left {

@@ -50,9 +50,9 @@ body-standing es n keys w partners dense dead f q r l =
 
 -- ---- entries, one after the other
 
-pub length-entry : (s : List ℕ) (k start len : ℕ) → length (entryIn s k start len) ≡ 28
+pub length-entryIn : (s : List ℕ) (k start len : ℕ) → length (entryIn s k start len) ≡ 28
 unfolding entry leBytes
-length-entry s k start len = refl
+length-entryIn s k start len = refl
 
 -- an entry of a section below `at` is written
 pub entry-put : {out : List ℕ} {to : ℕ} {xs : List ℕ} {o : List ℕ} {at : ℕ} {ys : List ℕ} {out′ : List ℕ} {r : ℕ} (k start len : ℕ)

@@ -7,7 +7,7 @@ use lib.ListN.{length, take, drop, length-append}
 use lib.Seq.{length-take-le}
 use Rattle.base.specs.Put.{Left}
 use Rattle.codes.specs.declared.ids.Id.{Id}
-use Rattle.codes.specs.Ids.{numberOf}
+use Rattle.codes.specs.Ids.{idNumber}
 use Rattle.group.specs.Group.{bytesOf}
 use Rattle.group.specs.Written.{Halves}
 use Rattle.batch_groups.specs.Groups.{Group, groupsOf, Grouped}
@@ -19,7 +19,7 @@ use Rattle.write_frame.specs.Standing.{stands}
 keys-fit : (floor : ℕ) (gs : List Group) → Grouped floor gs → Halves (keysIn gs)
 unfolding Grouped Halves keysIn
 keys-fit floor [] g = tt
-keys-fit floor (x ∷ gs) g = (g .1 .0, g .1 .1, keys-fit (suc (numberOf (x .key))) gs (g .4))
+keys-fit floor (x ∷ gs) g = (g .1 .0, g .1 .1, keys-fit (suc (idNumber (x .key))) gs (g .4))
 
 -- the keys stand at `at` once they are written and more, ms, after them
 pub keys-stand : {out : List ℕ} {to : ℕ} {o : List ℕ} {at : ℕ} {whole : List ℕ} (gs : List Group) (ms xs : List ℕ) → Grouped 0 gs → whole ≡ (keyBytes gs ++ ms) ++ xs

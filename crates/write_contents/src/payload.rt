@@ -1,21 +1,25 @@
 // The sections, one after the other.
 ghost use mathlib.Core.Path.{_≡_};
 ghost use Prim.Native.Nat.{_+_, _*_, _≤_};
-ghost use mathlib.Core.List.{[]};
+ghost use mathlib.Core.List.{[], _++_};
 ghost use lib.ListN.{length};
 ghost use Rattle.base.specs.Pick.{pick};
 ghost use Rattle.base.specs.Put.{Put};
+ghost use Rattle.frame.specs.Kind.{mostEdges};
 ghost use Rattle.frame.specs.Layout.{payload};
-ghost use Rattle.batch_groups.specs.Groups.{groupsOf, Grouped};
-ghost use Rattle.write_image.specs.Image.{tombBytes, fencesOf, fenced, sectionsBy};
+ghost use Rattle.batch_groups.specs.Groups.{groupsOf};
+ghost use Rattle.write_image.specs.Image.{logBytes, tombBytes, fencesOf, fenced, sectionsBy};
 ghost use Rattle.write_sections.specs.Ids.{idsAt};
-ghost use Rattle.write_source.specs.Source.{edgesIn};
+ghost use Rattle.write_sections.specs.Asked.{Placed};
+ghost use Rattle.write_source.specs.Source.{sourceEdges};
+use frame::bounds::Bounds;
 use write_sections::by_edge::put_logs;
-use write_sections::by_edge::put_tombs;
+use write_sections::by_edge::put_logs_tombs;
 use write_sections::by_key::put_groups;
 use write_sections::fences::put_fences;
 
-fn put_tombs_if(
+// The log numbers, and the tombstones behind them if an edge is dead.
+fn put_by_edge(
     dead: bool,
     kind: u8,
     a: &[u8],
@@ -24,20 +28,20 @@ fn put_tombs_if(
     out: &mut [u8],
     at: usize,
 ) -> usize
-    requires { ⌜ (n ≡ length (edgesIn kind (now a) (now b))) × (n ≤ 67108864) × (at + length (pick dead (tombBytes (edgesIn kind (now a) (now b))) []) ≤ length (now out)) ⌝ }
-    ensures { λ r. ⌜ Put (now (out .entry)) (now (out .exit)) at r (pick dead (tombBytes (edgesIn kind (now (a .entry)) (now (b .entry)))) []) ⌝ }
+    requires { ⌜ (n ≡ length (sourceEdges kind (now a) (now b))) × (n ≤ mostEdges) × (at + length (logBytes (sourceEdges kind (now a) (now b)) ++ pick dead (tombBytes (sourceEdges kind (now a) (now b))) []) ≤ length (now out)) ⌝ }
+    ensures { λ r. ⌜ Put (now (out .entry)) (now (out .exit)) at r (logBytes (sourceEdges kind (now (a .entry)) (now (b .entry))) ++ pick dead (tombBytes (sourceEdges kind (now (a .entry)) (now (b .entry)))) []) ⌝ }
 {
     if dead {
-        return put_tombs(kind, a, b, n, out, at);
+        return put_logs_tombs(kind, a, b, n, out, at);
     }
-    at
+    put_logs(kind, a, b, 0, n, out, at)
 }
 
 fn put_fences_if(out: &mut [u8], first: usize, keys: usize, at: usize) -> usize
-    requires { ⌜ (keys ≤ 67108864) × (first + 16 * keys ≤ at) × (at + length (pick (fenced keys) (fencesOf (idsAt keys (now out) first)) []) ≤ length (now out)) ⌝ }
+    requires { ⌜ (keys ≤ mostEdges) × (first + 16 * keys ≤ at) × (at + length (pick (fenced keys) (fencesOf (idsAt keys (now out) first)) []) ≤ length (now out)) ⌝ }
     ensures { λ r. ⌜ Put (now (out .entry)) (now (out .exit)) at r (pick (fenced keys) (fencesOf (idsAt keys (now (out .entry)) first)) []) ⌝ }
 {
-    if 65536 < keys {
+    if (Bounds::UNFENCED as usize) < keys {
         return put_fences(out, first, keys, at);
     }
     at
@@ -55,11 +59,10 @@ pub fn put_payload(
     out: &mut [u8],
     at: usize,
 ) -> usize
-    requires { ⌜ (n ≡ length (edgesIn kind (now a) (now b))) × (n ≤ 67108864) × (keys ≡ length (groupsOf (edgesIn kind (now a) (now b)))) × (keys ≤ 67108864) × Grouped 0 (groupsOf (edgesIn kind (now a) (now b))) × (at + length (payload (sectionsBy keys w dead (edgesIn kind (now a) (now b)) (groupsOf (edgesIn kind (now a) (now b))))) ≤ length (now out)) ⌝ }
-    ensures { λ r. ⌜ Put (now (out .entry)) (now (out .exit)) at r (payload (sectionsBy keys w dead (edgesIn kind (now (a .entry)) (now (b .entry))) (groupsOf (edgesIn kind (now (a .entry)) (now (b .entry)))))) ⌝ }
+    requires { ⌜ Placed (sourceEdges kind (now a) (now b)) n keys w at (length (payload (sectionsBy keys w dead (sourceEdges kind (now a) (now b)) (groupsOf (sourceEdges kind (now a) (now b)))))) (now out) ⌝ }
+    ensures { λ r. ⌜ Put (now (out .entry)) (now (out .exit)) at r (payload (sectionsBy keys w dead (sourceEdges kind (now (a .entry)) (now (b .entry))) (groupsOf (sourceEdges kind (now (a .entry)) (now (b .entry)))))) ⌝ }
 {
     let p = put_groups(kind, a, b, n, keys, w, out, at);
-    let q = put_logs(kind, a, b, n, out, p);
-    let r = put_tombs_if(dead, kind, a, b, n, out, q);
-    put_fences_if(out, at, keys, r)
+    let q = put_by_edge(dead, kind, a, b, n, out, p);
+    put_fences_if(out, at, keys, q)
 }

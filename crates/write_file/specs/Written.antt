@@ -20,9 +20,9 @@ abbrev pub fileIn : List ℕ → List ℕ
 fileIn s = fileOf (headingOf s) (edgesOf s)
 
 -- its size where nothing is refused
-unfoldable pub answerOf : Check → ℕ → Written
-answerOf Check.Fine size = Written.Done size
-answerOf (Check.Bad r) size = Written.Refused r
+unfoldable pub writtenAnswer : Check → ℕ → Written
+writtenAnswer Check.Fine size = Written.Done size
+writtenAnswer (Check.Bad r) size = Written.Refused r
 
 -- "first faulty record, then 26", "more keys, edges or file bytes than the bounds"
 unfoldable pub neededCheck : List ℕ → Check
@@ -30,7 +30,7 @@ neededCheck s = batchCheck s ⊳ refuse Refusal.Bounds (tooMany (headingOf s) (e
 
 -- how many bytes a file of this batch takes
 unfoldable pub neededOf : List ℕ → Written
-neededOf s = answerOf (neededCheck s) (length (fileIn s))
+neededOf s = writtenAnswer (neededCheck s) (length (fileIn s))
 
 -- "then 20", "output too short": the place is the bytes needed
 abbrev pub fitted : Written → ℕ → Written
@@ -41,10 +41,10 @@ unfoldable pub writtenOf : List ℕ → ℕ → Written
 writtenOf s room = fitted (neededOf s) room
 
 -- the file over the output, or the output as it was
-unfoldable pub leaves : Written → List ℕ → List ℕ → List ℕ
-leaves (Written.Done size) file o = over file o
-leaves (Written.Refused r) file o = o
+unfoldable pub writeLeaves : Written → List ℕ → List ℕ → List ℕ
+writeLeaves (Written.Done size) file o = over file o
+writeLeaves (Written.Refused r) file o = o
 
 pub record Wrote (s o : List ℕ) (r : Written) (o′ : List ℕ) : Type 0 where
   pub answer : r ≡ writtenOf s (length o)
-  pub output : o′ ≡ leaves (writtenOf s (length o)) (fileIn s) o
+  pub output : o′ ≡ writeLeaves (writtenOf s (length o)) (fileIn s) o

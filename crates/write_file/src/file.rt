@@ -5,12 +5,12 @@ ghost use lib.ListN.{length};
 ghost use Rattle.base.specs.Over.{over};
 ghost use Rattle.batch_groups.specs.Groups.{groupsOf, Grouped};
 ghost use Rattle.write_image.specs.Image.{bit, flagsBy, fileOf};
-ghost use Rattle.write_source.specs.Source.{edgesIn};
-ghost use Rattle.write_plan.specs.Bounds.{Fits};
-use write_frame::put_header;
-use write_frame::put_trailer;
+ghost use Rattle.write_source.specs.Source.{sourceEdges};
+ghost use Rattle.write_plan.specs.Bounds.{PlanFits};
 use write_contents::footer::put_body;
 use write_contents::payload::put_payload;
+use write_frame::put_header;
+use write_frame::put_trailer;
 use write_plan::Plan;
 
 fn bit_of(b: bool) -> u64
@@ -23,7 +23,7 @@ fn bit_of(b: bool) -> u64
 }
 
 // Bit 3: an inverse file; bit 2: a dense group; bit 1: a dead edge.
-fn flags_of(direction: u8, dense: bool, dead: bool) -> u64
+fn flags_for(direction: u8, dense: bool, dead: bool) -> u64
     ensures { λ r. ⌜ r ≡ flagsBy direction dense dead ⌝ }
 {
     let two = bit_of(dense);
@@ -33,15 +33,15 @@ fn flags_of(direction: u8, dense: bool, dead: bool) -> u64
 
 // Writes the file of the edges over the start of out.
 pub fn put_file(kind: u8, a: &[u8], b: &[u8], direction: u8, ids: &[u8], plan: Plan, out: &mut [u8])
-    requires { ⌜ Fits (edgesIn kind (now a) (now b)) plan × Grouped 0 (groupsOf (edgesIn kind (now a) (now b))) × (length (now ids) ≡ 48) × (plan .bytes ≤ length (now out)) ⌝ }
-    ensures { λ _. ⌜ now (out .exit) ≡ over (fileOf (record { direction = direction; ids = now (ids .entry) }) (edgesIn kind (now (a .entry)) (now (b .entry)))) (now (out .entry)) ⌝ }
+    requires { ⌜ PlanFits (sourceEdges kind (now a) (now b)) plan × Grouped 0 (groupsOf (sourceEdges kind (now a) (now b))) × (length (now ids) ≡ 48) × (plan .bytes ≤ length (now out)) ⌝ }
+    ensures { λ _. ⌜ now (out .exit) ≡ over (fileOf (record { direction = direction; ids = now (ids .entry) }) (sourceEdges kind (now (a .entry)) (now (b .entry)))) (now (out .entry)) ⌝ }
 {
     let n = plan.edges;
     let keys = plan.keys;
     let w = plan.width;
     let partners = plan.partners;
     let dead = plan.dead;
-    let flags = flags_of(direction, plan.dense, dead);
+    let flags = flags_for(direction, plan.dense, dead);
     put_header(out, flags, ids);
     let p = put_payload(kind, a, b, n, keys, w, dead, out, 64);
     let q = put_body(out, p, keys, w, partners, n, dead);

@@ -7,17 +7,11 @@ use native.Mathlib.Decide.{decLt}
 use mathlib.Core.List.{List, [], _∷_, _++_, append-assoc}
 use lib.ListN.{length, take, drop, set, length-append, take-append-drop}
 use lib.Seq.{sets, sets-eq, take-at, drop-append-seam, take-append-seam, length-take-le, drop-set-add, take-set-le}
-use Rattle.base.specs.Over.{part}
+use Rattle.base.specs.Over.{part, part-mid}
 use Rattle.base.specs.Put.{Left}
 use Rattle.frame.specs.Layout.{Section, rawSection, payload, entry, entries}
 
 -- ---- parts
-
--- what lies between xs and zs
-pub part-mid : (xs ys zs : List ℕ) (a e : ℕ) → a ≡ length xs → e ≡ length xs + length ys → part (xs ++ (ys ++ zs)) a e ≡ ys
-part-mid xs ys zs a e p q =
-    let n : e - a ≡ length ys = omega arith in
-    ap₂ (λ (u v : ℕ). take u (drop v (xs ++ (ys ++ zs)))) n p ∙ ap (take (length ys)) (drop-append-seam xs (ys ++ zs)) ∙ take-append-seam ys zs
 
 -- a store from i on leaves the part below
 part-set : (l : List ℕ) (i x a e : ℕ) → e ≤ i → part (set l i x) a e ≡ part l a e
@@ -120,13 +114,13 @@ length-extents [] = refl
 length-extents (s ∷ ss) = ap suc (length-extents ss)
 
 -- sections that are raw, with their sums
-unfoldable pub Raw : List Section → Type 0
-Raw [] = Unit {0}
-Raw (s ∷ ss) = (s ≡ rawSection (s .kind) (s .bytes)) × Raw ss
+unfoldable pub PlainSections : List Section → Type 0
+PlainSections [] = Unit {0}
+PlainSections (s ∷ ss) = (s ≡ rawSection (s .kind) (s .bytes)) × PlainSections ss
 
 -- the entries of the sections that stand after q are their entries
-pub entries-standing : (ss : List Section) (q r : List ℕ) (at : ℕ) → at ≡ length q → Raw ss → entriesIn (q ++ (payload ss ++ r)) at (extents ss) ≡ entries at ss
-unfolding entriesIn extents payload entries Raw
+pub entries-standing : (ss : List Section) (q r : List ℕ) (at : ℕ) → at ≡ length q → PlainSections ss → entriesIn (q ++ (payload ss ++ r)) at (extents ss) ≡ entries at ss
+unfolding entriesIn extents payload entries PlainSections
 entries-standing [] q r at e raw = refl
 entries-standing (s ∷ ss) q r at e raw =
     let bytes : List ℕ = s .bytes in

@@ -1,48 +1,53 @@
 // The two ends of a file, written: header, and footer with trailer.
 ghost use mathlib.Core.Path.{_≡_};
-ghost use Prim.Native.Nat.{_+_, _*_, _<_, _≤_, _^_};
+ghost use Prim.Native.Nat.{_+_, _*_, _%_, _<_, _≤_, _^_};
 ghost use mathlib.Core.List.{[]};
 ghost use lib.ListN.{length};
 ghost use lib.Seq.{sets};
 ghost use Rattle.base.specs.Pick.{pick};
 ghost use Rattle.base.specs.Over.{part};
 ghost use Rattle.base.specs.Put.{Put};
+ghost use Rattle.frame.specs.Kind.{entrySize, countsSize, trailerSize};
 ghost use Rattle.frame.specs.Layout.{headBytes, trailer};
 ghost use Rattle.write_frame.specs.Standing.{entryIn};
 ghost use Rattle.write_frame.specs.Runs.{rowBytes, countBytes};
+use codes::little::le64;
 use codes::little::put_le;
 use frame::Row;
+use frame::ends::Footer;
 use frame::ends::Header;
+use frame::ends::Trailer;
 use xxh3::xxh3;
 
-// Copies s to `at`.
-fn put_bytes(out: &mut [u8], at: usize, s: &[u8])
-    requires { ⌜ at + length (now s) ≤ length (now out) ⌝ }
+// Copies s to `at`, by words of 8 bytes.
+fn put_words(out: &mut [u8], at: usize, s: &[u8])
+    requires { ⌜ (at + length (now s) ≤ length (now out)) × (length (now s) % 8 ≡ 0) ⌝ }
     ensures { λ _. ⌜ now (out .exit) ≡ sets (now (out .entry)) at (now (s .entry)) ⌝ }
 {
     let mut k: usize = 0;
     while k < s.len() {
-        out[at + k] = s[k];
-        k = k + 1;
+        let word = le64(s, k);
+        put_le(out, at + k, 8, word);
+        k = k + 8;
     }
 }
 
 // Writes the header: magic, major 1, minor 0, header size, flags, the three ids.
 pub fn put_header(out: &mut [u8], flags: u64, ids: &[u8])
-    requires { ⌜ 16 + length (now ids) ≤ length (now out) ⌝ }
+    requires { ⌜ (16 + length (now ids) ≤ length (now out)) × (length (now ids) ≡ 48) ⌝ }
     ensures { λ _. ⌜ now (out .exit) ≡ sets (now (out .entry)) 0 (headBytes 0 flags (now (ids .entry))) ⌝ }
 {
     put_le(out, 0, 8, Header::MAGIC);
     put_le(out, 8, 1, 1);
     put_le(out, 9, 1, 0);
-    put_le(out, 10, 2, 64);
+    put_le(out, 10, 2, Header::SIZE as u64);
     put_le(out, 12, 4, flags);
-    put_bytes(out, 16, ids);
+    put_words(out, 16, ids);
 }
 
 // Writes a table entry without a name.
 fn put_row(out: &mut [u8], at: usize, r: Row) -> usize
-    requires { ⌜ (at + 28 ≤ length (now out)) × (at ≤ 4294967296) ⌝ }
+    requires { ⌜ (at + entrySize ≤ length (now out)) × (at ≤ 4294967296) ⌝ }
     ensures { λ p. ⌜ Put (now (out .entry)) (now (out .exit)) at p (rowBytes r) ⌝ }
 {
     put_le(out, at, 2, r.kind as u64);
@@ -56,7 +61,7 @@ fn put_row(out: &mut [u8], at: usize, r: Row) -> usize
 
 // Writes the entry of the section that stands in out from `start` on.
 pub fn put_entry(out: &mut [u8], at: usize, kind: u16, start: usize, len: usize) -> usize
-    requires { ⌜ (start + len ≤ length (now out)) × (at + 28 ≤ length (now out)) × (at ≤ 4294967296) ⌝ }
+    requires { ⌜ (start + len ≤ length (now out)) × (at + entrySize ≤ length (now out)) × (at ≤ 4294967296) ⌝ }
     ensures { λ p. ⌜ Put (now (out .entry)) (now (out .exit)) at p (entryIn (now (out .entry)) kind start len) ⌝ }
 {
     let sum = xxh3(&out[start..start + len]);
@@ -83,24 +88,24 @@ pub fn put_entry_if(
 
 // Writes what ends the body: key count, edge count, offset bits.
 pub fn put_counts(out: &mut [u8], at: usize, keys: u64, edges: u64, bits: u8) -> usize
-    requires { ⌜ at + 17 ≤ length (now out) ⌝ }
+    requires { ⌜ at + countsSize ≤ length (now out) ⌝ }
     ensures { λ p. ⌜ Put (now (out .entry)) (now (out .exit)) at p (countBytes keys edges bits) ⌝ }
 {
     put_le(out, at, 8, keys);
     put_le(out, at + 8, 8, edges);
     put_le(out, at + 16, 1, bits as u64);
-    at + 17
+    at + Footer::COUNTS
 }
 
 // Writes the trailer of the body that stands in out from `body` up to `at`.
 pub fn put_trailer(out: &mut [u8], body: usize, at: usize) -> usize
-    requires { ⌜ (body ≤ at) × (at + 20 ≤ length (now out)) ⌝ }
+    requires { ⌜ (body ≤ at) × (at + trailerSize ≤ length (now out)) ⌝ }
     ensures { λ p. ⌜ Put (now (out .entry)) (now (out .exit)) at p (trailer (part (now (out .entry)) body at)) ⌝ }
 {
     let sum = xxh3(&out[body..at]);
-    let len = at - body + 20;
+    let len = at - body + Trailer::SIZE;
     put_le(out, at, 8, sum);
     put_le(out, at + 8, 4, len as u64);
     put_le(out, at + 12, 8, Header::MAGIC);
-    at + 20
+    at + Trailer::SIZE
 }

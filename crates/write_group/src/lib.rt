@@ -1,46 +1,69 @@
-// One group of a file, from the edges i up to j of a source: its split cost, whether it is dense, its size, its bytes.
+// One group of a file, from the edges i up to j of a source: its end and split cost, whether it is dense, its size, its bytes.
 ghost use mathlib.Core.Path.{_≡_};
-ghost use Prim.Native.Nat.{_+_, _*_, _-_, _≤_};
+ghost use Prim.Native.Nat.{_+_, _*_, _≤_, _<_};
 ghost use mathlib.Core.List.{[], _∷_, _++_};
-ghost use lib.ListN.{length};
+ghost use lib.ListN.{length, drop};
+ghost use Rattle.batch.specs.Batch.{partnersIn};
 ghost use Rattle.base.specs.Over.{part};
 ghost use Rattle.base.specs.Put.{Put};
 ghost use Rattle.codes.specs.Little.{leBytes};
 ghost use Rattle.codes.specs.Varint.{varBytes};
+ghost use Rattle.frame.specs.Kind.{mostEdges};
 ghost use Rattle.group.specs.Group.{bytesOf};
 ghost use Rattle.group.specs.Written.{splitFrom, writtenAs};
-ghost use Rattle.write_image.specs.Image.{partnersIn, splitCost, denseBy, isDense, groupBytes};
+ghost use Rattle.batch_groups.specs.Groups.{groupsOf, Grouped};
+ghost use Rattle.write_image.specs.Image.{denseBy};
 ghost use Rattle.write_image.specs.Image.Laws.{Rise};
-ghost use Rattle.write_source.specs.Source.{edgesIn};
+ghost use Rattle.write_source.specs.Source.{sourceEdges};
+ghost use Rattle.write_group.specs.Span.{Spans, groupSize};
 use codes::ids::put_id;
+use codes::ids::same_id;
 use codes::little::put_le;
 use codes::varint::put_varint;
 use codes::varint::varint_len;
 use write_source::edge_of;
 
-// "Each upper varint's length plus 8, summed".
-fn split_cost(kind: u8, a: &[u8], b: &[u8], i: usize, j: usize) -> usize
-    requires { ⌜ (i ≤ j) × (j ≤ length (edgesIn kind (now a) (now b))) × (j ≤ 67108864) × Rise 0 (partnersIn (part (edgesIn kind (now a) (now b)) i j)) ⌝ }
-    ensures { λ r. ⌜ r ≡ splitCost 0 (partnersIn (part (edgesIn kind (now (a .entry)) (now (b .entry))) i j)) ⌝ }
+// A group: the edge after its last, and its split cost.
+pub struct Span {
+    pub end: usize,
+    pub cost: usize,
+}
+
+// The bytes of a partner that is written split, its upper half as the difference to the one before.
+fn partner_cost(up: u64) -> usize
+    ensures { λ r. ⌜ (r ≡ length (varBytes up) + 8) × (r ≤ 18) ⌝ }
 {
-    let mut k = i;
-    let mut hi: u64 = 0;
-    let mut cost: usize = 0;
-    while k < j {
-        let e = edge_of(kind, a, b, k);
-        let p = e.partner;
-        let upper = p.hi;
-        let n = varint_len(upper - hi);
-        cost = cost + n + 8;
+    varint_len(up) + 8
+}
+
+// The group that begins at edge i, of n edges.
+pub fn span_at(kind: u8, a: &[u8], b: &[u8], n: usize, i: usize) -> Span
+    requires { ⌜ (n ≡ length (sourceEdges kind (now a) (now b))) × (n ≤ mostEdges) × (i < n) × Grouped 0 (groupsOf (drop i (sourceEdges kind (now a) (now b)))) ⌝ }
+    ensures { λ r. ⌜ Spans (sourceEdges kind (now (a .entry)) (now (b .entry))) i r ⌝ }
+{
+    let first = edge_of(kind, a, b, i);
+    let key = first.key;
+    let p = first.partner;
+    let mut hi = p.hi;
+    let mut cost = partner_cost(hi);
+    let mut j = i + 1;
+    while j < n {
+        let other = edge_of(kind, a, b, j);
+        if !same_id(other.key, key) {
+            return Span { end: j, cost };
+        }
+        let q = other.partner;
+        let upper = q.hi;
+        cost = cost + partner_cost(upper - hi);
         hi = upper;
-        k = k + 1;
+        j = j + 1;
     }
-    cost
+    Span { end: j, cost }
 }
 
 // The rule that makes a group dense.
-fn dense_by(keys: usize, degree: usize, cost: usize) -> bool
-    requires { ⌜ (keys ≤ 67108864) × (degree ≤ 67108864) ⌝ }
+pub fn dense_by(keys: usize, degree: usize, cost: usize) -> bool
+    requires { ⌜ (keys ≤ mostEdges) × (degree ≤ mostEdges) ⌝ }
     ensures { λ r. ⌜ r ≡ denseBy keys degree cost ⌝ }
 {
     if 16 * degree <= cost {
@@ -58,13 +81,11 @@ pub struct Size {
     pub dense: bool,
 }
 
-// In a file of that many keys.
-pub fn block_size(kind: u8, a: &[u8], b: &[u8], i: usize, j: usize, keys: usize) -> Size
-    requires { ⌜ (i ≤ j) × (j ≤ length (edgesIn kind (now a) (now b))) × (j ≤ 67108864) × Rise 0 (partnersIn (part (edgesIn kind (now a) (now b)) i j)) × (keys ≤ 67108864) ⌝ }
-    ensures { λ r. ⌜ (r .dense ≡ isDense keys (partnersIn (part (edgesIn kind (now (a .entry)) (now (b .entry))) i j))) × (r .bytes ≡ length (groupBytes keys (partnersIn (part (edgesIn kind (now (a .entry)) (now (b .entry))) i j)))) × (r .bytes ≤ 11 + 18 * (j - i)) ⌝ }
+// A group of that degree and split cost, in a file of that many keys.
+pub fn block_size(degree: usize, cost: usize, keys: usize) -> Size
+    requires { ⌜ (degree ≤ mostEdges) × (cost ≤ 18 * degree) × (keys ≤ mostEdges) ⌝ }
+    ensures { λ r. ⌜ (r .dense ≡ denseBy keys degree cost) × (r .bytes ≡ groupSize keys degree cost) × (r .bytes ≤ 11 + 18 * degree) ⌝ }
 {
-    let degree = j - i;
-    let cost = split_cost(kind, a, b, i, j);
     let head = varint_len(degree as u64) + 1;
     if dense_by(keys, degree, cost) {
         return Size {
@@ -90,8 +111,8 @@ fn put_partner(out: &mut [u8], at: usize, up: u64, lo: u64) -> usize
 
 // Writes the partners, split.
 fn put_split(kind: u8, a: &[u8], b: &[u8], i: usize, j: usize, out: &mut [u8], at: usize) -> usize
-    requires { ⌜ (i ≤ j) × (j ≤ length (edgesIn kind (now a) (now b))) × Rise 0 (partnersIn (part (edgesIn kind (now a) (now b)) i j)) × (at + length (splitFrom 0 (partnersIn (part (edgesIn kind (now a) (now b)) i j))) ≤ length (now out)) ⌝ }
-    ensures { λ r. ⌜ Put (now (out .entry)) (now (out .exit)) at r (splitFrom 0 (partnersIn (part (edgesIn kind (now (a .entry)) (now (b .entry))) i j))) ⌝ }
+    requires { ⌜ (i ≤ j) × (j ≤ length (sourceEdges kind (now a) (now b))) × Rise 0 (partnersIn (part (sourceEdges kind (now a) (now b)) i j)) × (at + length (splitFrom 0 (partnersIn (part (sourceEdges kind (now a) (now b)) i j))) ≤ length (now out)) ⌝ }
+    ensures { λ r. ⌜ Put (now (out .entry)) (now (out .exit)) at r (splitFrom 0 (partnersIn (part (sourceEdges kind (now (a .entry)) (now (b .entry))) i j))) ⌝ }
 {
     let mut k = i;
     let mut to = at;
@@ -109,8 +130,8 @@ fn put_split(kind: u8, a: &[u8], b: &[u8], i: usize, j: usize, out: &mut [u8], a
 
 // Writes the partners, dense.
 fn put_dense(kind: u8, a: &[u8], b: &[u8], i: usize, j: usize, out: &mut [u8], at: usize) -> usize
-    requires { ⌜ (i ≤ j) × (j ≤ length (edgesIn kind (now a) (now b))) × (at + length (bytesOf (partnersIn (part (edgesIn kind (now a) (now b)) i j))) ≤ length (now out)) ⌝ }
-    ensures { λ r. ⌜ Put (now (out .entry)) (now (out .exit)) at r (bytesOf (partnersIn (part (edgesIn kind (now (a .entry)) (now (b .entry))) i j))) ⌝ }
+    requires { ⌜ (i ≤ j) × (j ≤ length (sourceEdges kind (now a) (now b))) × (at + length (bytesOf (partnersIn (part (sourceEdges kind (now a) (now b)) i j))) ≤ length (now out)) ⌝ }
+    ensures { λ r. ⌜ Put (now (out .entry)) (now (out .exit)) at r (bytesOf (partnersIn (part (sourceEdges kind (now (a .entry)) (now (b .entry))) i j))) ⌝ }
 {
     let mut k = i;
     let mut to = at;
@@ -145,8 +166,8 @@ pub fn put_block(
     out: &mut [u8],
     at: usize,
 ) -> usize
-    requires { ⌜ (i ≤ j) × (j ≤ length (edgesIn kind (now a) (now b))) × Rise 0 (partnersIn (part (edgesIn kind (now a) (now b)) i j)) × (at + length (writtenAs dense (partnersIn (part (edgesIn kind (now a) (now b)) i j))) ≤ length (now out)) ⌝ }
-    ensures { λ r. ⌜ Put (now (out .entry)) (now (out .exit)) at r (writtenAs dense (partnersIn (part (edgesIn kind (now (a .entry)) (now (b .entry))) i j))) ⌝ }
+    requires { ⌜ (i ≤ j) × (j ≤ length (sourceEdges kind (now a) (now b))) × Rise 0 (partnersIn (part (sourceEdges kind (now a) (now b)) i j)) × (at + length (writtenAs dense (partnersIn (part (sourceEdges kind (now a) (now b)) i j))) ≤ length (now out)) ⌝ }
+    ensures { λ r. ⌜ Put (now (out .entry)) (now (out .exit)) at r (writtenAs dense (partnersIn (part (sourceEdges kind (now (a .entry)) (now (b .entry))) i j))) ⌝ }
 {
     if dense {
         let mid = put_head(out, at, (j - i) as u64, 16);

@@ -9,16 +9,16 @@ use Rattle.codes.specs.declared.ids.Id.{Id}
 use Rattle.codes.specs.Little.{leAt, leBytes}
 use Rattle.codes.specs.Ids.{beAt, beBytes, halvesAt, idBytes}
 use Rattle.codes.specs.Varint.{bytesFrom, varBytes}
-use Rattle.xxh3_spec.specs.Xxh3.{mul, fold, xorshift, rotl, swap, rrmxmx, secret, of1to3, of4to8, of9to16, small, pair, mixStep, inward, of17to128, onward, of129to240, lane, accumulate, stir, scramble, turn, run, start, twice, merge, large, xxh3}
+use Rattle.xxh3_spec.specs.Xxh3.{mul, fold, xorshift, rotl, swap, rrmxmx, secret, of1to3, of4to8, of9to16, small, pair, mixStep, inward, of17to128, onward, of129to240, lane, accumulate, stir, scramble, turn, run, startLanes, twice, merge, large, xxh3}
 use Rattle.frame.specs.Kind as kind
 use Rattle.frame.specs.Layout.{Section, rawSection, headBytes, payload, entry, entries, bodyBytes, trailer, layOut}
 use Rattle.frame.specs.Cases.{ids}
 use Rattle.group.specs.Group.{bytesOf}
 use Rattle.group.specs.Written.{splitFrom, splitBytes, denseBytes}
 use Rattle.batch.specs.declared.Edge.{Edge}
-use Rattle.batch.specs.Batch.{headingOf, edgeAt, edgesAt, edgesOf}
-use Rattle.batch_groups.specs.Groups.{Group, join, groupsOf}
-use Rattle.write_image.specs.Image.{partnersIn, logsIn, marksIn, keysIn, anyDead, splitCost, denseBy, isDense, groupBytes, anyDense, numbers, partnerBytes, startsFrom, widthOf, octet, octets, fenced, fenceCount, fenceBytes, fencesFrom, fencesOf, keyBytes, offsetBytes, logBytes, tombBytes, lastSections, sectionsBy, layoutBy, layoutOf, fileOf}
+use Rattle.batch.specs.Batch.{headingOf, edgeAt, edgesAt, edgesOf, partnersIn, logsIn, marksIn}
+use Rattle.batch_groups.specs.Groups.{anyDead, Group, join, groupsOf}
+use Rattle.write_image.specs.Image.{keysIn, splitCost, denseBy, isDense, groupBytes, anyDense, numbers, partnerBytes, startsFrom, widthOf, octet, octets, fenced, fenceCount, fenceBytes, fenceKeysFrom, fencesOf, keyBytes, offsetBytes, logBytes, tombBytes, lastSections, sectionsBy, layoutBy, layoutOf, fileOf}
 use Rattle.write_image.specs.Image.Laws.{length-fences}
 
 -- ---- a group: dense or split
@@ -94,8 +94,8 @@ pub fence-head : (ks : List Id) → length ks ≡ 65537
 unfolding fencesOf leBytes leAt
 fence-head ks n =
     let count : fenceCount (length ks) ≡ 257 = ap fenceCount n in
-    let head : (k : ℕ) → leAt (fencesOf ks) k 4 ≡ leAt (leBytes 4 256 ++ (leBytes 4 257 ++ fencesFrom (fenceCount (length ks)) ks 0)) k 4 =
-    λ k. ap (λ (m : ℕ). leAt (leBytes 4 256 ++ (leBytes 4 m ++ fencesFrom (fenceCount (length ks)) ks 0)) k 4) count in
+    let head : (k : ℕ) → leAt (fencesOf ks) k 4 ≡ leAt (leBytes 4 256 ++ (leBytes 4 257 ++ fenceKeysFrom (fenceCount (length ks)) ks 0)) k 4 =
+    λ k. ap (λ (m : ℕ). leAt (leBytes 4 256 ++ (leBytes 4 m ++ fenceKeysFrom (fenceCount (length ks)) ks 0)) k 4) count in
     (head 0, head 4, length-fences ks ∙ ap (λ (m : ℕ). 8 + 24 * m) count)
 
 -- ---- a batch of an inverse heading and three edges: a dead one and a live one of the same key, and one whose group is dense
@@ -144,5 +144,5 @@ unfolding mixed edgeAt edgesAt edgesOf halvesAt beAt leAt
 mixed-edges = refl
 
 pub mixed-written : fileOf (headingOf mixed) (edgesOf mixed) ≡ mixedFile
-unfolding mixed mixedFile headingOf edgeAt edgesAt edgesOf leAt leBytes beAt beBytes halvesAt idBytes bytesFrom varBytes mul fold xorshift rotl swap rrmxmx secret of1to3 of4to8 of9to16 small pair mixStep inward of17to128 onward of129to240 lane accumulate stir scramble turn run start twice merge large xxh3 headBytes payload entry entries bodyBytes trailer layOut bytesOf splitFrom splitBytes denseBytes join groupsOf partnersIn logsIn marksIn keysIn anyDead splitCost denseBy isDense groupBytes anyDense numbers partnerBytes startsFrom widthOf octet octets fenceBytes fencesFrom fencesOf lastSections sectionsBy layoutBy layoutOf fileOf
+unfolding mixed mixedFile headingOf edgeAt edgesAt edgesOf leAt leBytes beAt beBytes halvesAt idBytes bytesFrom varBytes mul fold xorshift rotl swap rrmxmx secret of1to3 of4to8 of9to16 small pair mixStep inward of17to128 onward of129to240 lane accumulate stir scramble turn run startLanes twice merge large xxh3 headBytes payload entry entries bodyBytes trailer layOut bytesOf splitFrom splitBytes denseBytes join groupsOf partnersIn logsIn marksIn keysIn anyDead splitCost denseBy isDense groupBytes anyDense numbers partnerBytes startsFrom widthOf octet octets fenceBytes fenceKeysFrom fencesOf lastSections sectionsBy layoutBy layoutOf fileOf
 mixed-written = refl

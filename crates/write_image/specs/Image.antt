@@ -15,31 +15,15 @@ use Rattle.frame.specs.Layout.{Section, Layout, rawSection, headBytes, layOut}
 use Rattle.group.specs.Group.{bytesOf}
 use Rattle.group.specs.Written.{writtenAs}
 use Rattle.batch.specs.declared.Edge.{Edge}
-use Rattle.batch.specs.Batch.{Heading}
-use Rattle.batch_groups.specs.Groups.{none, Group, groupsOf}
+use Rattle.batch.specs.Batch.{Heading, partnersIn, logsIn, marksIn}
+use Rattle.batch_groups.specs.Groups.{none, anyDead, Group, groupsOf}
 pub mod Laws
 
--- ---- what edges and groups hold
-
-unfoldable pub partnersIn : List Edge → List Id
-partnersIn [] = []
-partnersIn (e ∷ es) = e .partner ∷ partnersIn es
-
-unfoldable pub logsIn : List Edge → List ℕ
-logsIn [] = []
-logsIn (e ∷ es) = e .log ∷ logsIn es
-
-unfoldable pub marksIn : List Edge → List Bool
-marksIn [] = []
-marksIn (e ∷ es) = e .dead ∷ marksIn es
+-- ---- what groups hold
 
 unfoldable pub keysIn : List Group → List Id
 keysIn [] = []
 keysIn (g ∷ gs) = g .key ∷ keysIn gs
-
-unfoldable pub anyDead : List Edge → Bool
-anyDead [] = false
-anyDead (e ∷ es) = e .dead || anyDead es
 
 -- ---- a group
 
@@ -125,15 +109,15 @@ unfoldable pub fenceBytes : Id → ℕ → List ℕ
 fenceBytes k i = idBytes k ++ leBytes 8 (kind.keySize * (i * stride))
 
 -- m entries from entry i on
-unfoldable pub fencesFrom : ℕ → List Id → ℕ → List ℕ
-fencesFrom zero ks i = []
-fencesFrom (suc m) ks i = fenceBytes (getD ks (i * stride) (none .key)) i ++ fencesFrom m ks (i + 1)
+unfoldable pub fenceKeysFrom : ℕ → List Id → ℕ → List ℕ
+fenceKeysFrom zero ks i = []
+fenceKeysFrom (suc m) ks i = fenceBytes (getD ks (i * stride) (none .key)) i ++ fenceKeysFrom m ks (i + 1)
 
 abbrev pub fenceCount : ℕ → ℕ
 fenceCount keys = (keys + (stride - 1)) / stride
 
 unfoldable pub fencesOf : List Id → List ℕ
-fencesOf ks = leBytes 4 stride ++ (leBytes 4 (fenceCount (length ks)) ++ fencesFrom (fenceCount (length ks)) ks 0)
+fencesOf ks = leBytes 4 stride ++ (leBytes 4 (fenceCount (length ks)) ++ fenceKeysFrom (fenceCount (length ks)) ks 0)
 
 abbrev pub fenced : ℕ → Bool
 fenced keys = ltb kind.mostUnfenced keys

@@ -13,7 +13,7 @@ use Rattle.write_plan.specs.declared.Plan.{Plan}
 use Rattle.write_plan.specs.declared.Counted.{Counted}
 use Rattle.write_plan.specs.Size.{fileSize}
 use Rattle.write_plan.specs.Parts.{length-file}
-use Rattle.write_plan.specs.Bounds.{tooMany, few, Fits, Measured, fits-measured, many-measured}
+use Rattle.write_plan.specs.Bounds.{tooMany, few, PlanFits, Measured, fits-measured, many-measured}
 use Rattle.base.proofs.Determined.{Determined}
 use Rattle.write_plan.proofs.measure as measure
 use Rattle.write_plan.proofs.measure.Reads as measure-reads
@@ -34,7 +34,7 @@ pub section-count-determined : Determined section-count.ended section-count-read
 section-count-determined κs a pre r₁ r₂ w₁ w₂ p q = (p .0 ∙ sym (q .0), refl)
 
 -- counts that fit are those of the edges
-fits-one : (es : List Edge) (p q : Plan) → Fits es p → Fits es q → p ≡ q
+fits-one : (es : List Edge) (p q : Plan) → PlanFits es p → PlanFits es q → p ≡ q
 fits-one es p q f g =
     let a = f .fitting in
     let b = g .fitting in
@@ -48,7 +48,7 @@ fits-one es p q f g =
     (λ i. record { edges = edges i; keys = keys i; width = width i; partners = partners i; dense = dense i; dead = dead i; bytes = bytes i })
 
 -- and edges that fit are not too many
-not-both : (es : List Edge) (p : Plan) → Fits es p → Measured es Counted.TooMany → ⊥
+not-both : (es : List Edge) (p : Plan) → PlanFits es p → Measured es Counted.TooMany → ⊥
 not-both es p f m =
     let h : Heading = record { direction = 0; ids = replicate 48 0 } in
     let i : length (h .ids) ≡ 48 = length-replicate {0} {A = ℕ} 48 0 in

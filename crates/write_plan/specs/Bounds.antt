@@ -46,7 +46,7 @@ module _ (h : Heading) (es : List Edge) where
       (le-ltb kind.mostKeys (length (groupsOf es)) a, le-ltb kind.mostEdges (length es) b, le-ltb kind.mostBytes (length (fileOf h es)) c)
 
 -- the counts are those of the edges and within the bounds
-pub record Fits (es : List Edge) (p : Plan) : Type 0 where
+pub record PlanFits (es : List Edge) (p : Plan) : Type 0 where
   pub fitting : Fitting es (p .edges) (p .keys) (p .width) (p .partners) (p .dense) (p .dead)
   pub size : p .bytes ≡ fileSize (p .keys) (p .width) (p .partners) (p .edges) (p .dead)
   pub keys-few : p .keys ≤ kind.mostKeys
@@ -55,14 +55,14 @@ pub record Fits (es : List Edge) (p : Plan) : Type 0 where
 
 -- or the edges are too many, whatever the heading
 unfoldable pub Measured : List Edge → Counted → Type 0
-Measured es (Counted.Fits p) = Fits es p
+Measured es (Counted.Fits p) = PlanFits es p
 Measured es Counted.TooMany = (h : Heading) → length (h .ids) ≡ 48 → tooMany h es ≡ true
 
 pub measured-many : (es : List Edge) → ((h : Heading) → length (h .ids) ≡ 48 → tooMany h es ≡ true) → Measured es Counted.TooMany
 unfolding Measured
 measured-many es t = t
 
-pub measured-fits : (es : List Edge) (p : Plan) → Fits es p → Measured es (Counted.Fits p)
+pub measured-fits : (es : List Edge) (p : Plan) → PlanFits es p → Measured es (Counted.Fits p)
 unfolding Measured
 measured-fits es p f = f
 
@@ -70,6 +70,6 @@ pub many-measured : (es : List Edge) → Measured es Counted.TooMany → (h : He
 unfolding Measured
 many-measured es t = t
 
-pub fits-measured : (es : List Edge) (p : Plan) → Measured es (Counted.Fits p) → Fits es p
+pub fits-measured : (es : List Edge) (p : Plan) → Measured es (Counted.Fits p) → PlanFits es p
 unfolding Measured
 fits-measured es p f = f

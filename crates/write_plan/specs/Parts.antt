@@ -13,9 +13,9 @@ use Rattle.frame.specs.Layout.{Section, Layout, rawSection, headBytes, payload,
 use Rattle.batch.specs.declared.Edge.{Edge}
 use Rattle.batch.specs.Batch.{Heading}
 use Rattle.batch_groups.specs.Groups.{Group, groupsOf}
-use Rattle.write_image.specs.Image.{keysIn, anyDead, anyDense, keyBytes, offsetBytes, partnerBytes, widthOf, logBytes, bit, tombBytes, fencesOf, fenceCount, fenced, flagsBy, lastSections, sectionsBy, layoutBy, layoutOf, fileOf}
-use Rattle.write_image.specs.Image.Laws.{length-keys, length-keysIn, length-offsets, length-logs, length-tombs, length-fences}
-use Rattle.write_frame.specs.Standing.{Extent, entriesIn, total, extents, Raw}
+use Rattle.write_image.specs.Image.{keysIn, anyDense, keyBytes, offsetBytes, partnerBytes, widthOf, logBytes, bit, tombBytes, fencesOf, fenceCount, fenced, flagsBy, lastSections, sectionsBy, layoutBy, layoutOf, fileOf}
+use Rattle.write_image.specs.Image.Laws.{length-keys, length-keysIn, length-offsets, length-logBytes, length-tombs, length-fences}
+use Rattle.write_frame.specs.Standing.{Extent, entriesIn, total, extents, PlainSections}
 use Rattle.write_frame.specs.Runs.{length-head, rowBytes, length-row, entry-row, length-trailer, countBytes, length-counts}
 use Rattle.write_plan.specs.Size.{tombSize, fencesSize, sectionsSize, sectionCount, fileSize, Fitting}
 
@@ -41,15 +41,15 @@ payload-parts keys w dead es gs =
     (append-assoc (keyBytes gs) (offsetBytes w keys 0 gs ++ partnerBytes keys gs) rest
     ∙ ap (λ (t : List ℕ). keyBytes gs ++ t) (append-assoc (offsetBytes w keys 0 gs) (partnerBytes keys gs) rest))
 
-last-raw : (d f : Bool) (es : List Edge) (gs : List Group) → Raw (lastSections d f es gs)
-unfolding Raw lastSections
+last-raw : (d f : Bool) (es : List Edge) (gs : List Group) → PlainSections (lastSections d f es gs)
+unfolding PlainSections lastSections
 last-raw true true es gs = (refl, (refl, tt))
 last-raw true false es gs = (refl, tt)
 last-raw false true es gs = (refl, tt)
 last-raw false false es gs = tt
 
-pub sections-raw : (keys w : ℕ) (dead : Bool) (es : List Edge) (gs : List Group) → Raw (sectionsBy keys w dead es gs)
-unfolding Raw sectionsBy
+pub sections-raw : (keys w : ℕ) (dead : Bool) (es : List Edge) (gs : List Group) → PlainSections (sectionsBy keys w dead es gs)
+unfolding PlainSections sectionsBy
 sections-raw keys w dead es gs = (refl, (refl, (refl, (refl, last-raw dead (fenced keys) es gs))))
 
 -- ---- the extents of the sections, from the counts
@@ -117,7 +117,7 @@ module _ (es : List Edge) (n keys w bytes : ℕ) (dense dead : Bool) (f : Fittin
   offsets-long = length-offsets w keys 0 gs ∙ ap (λ (t : ℕ). (t + 1) * w) (sym (f .keys-is))
 
   logs-long : length (logBytes es) ≡ 8 * n
-  logs-long = let e = f .edges-is in length-logs es ∙ omega arith
+  logs-long = let e = f .edges-is in length-logBytes es ∙ omega arith
 
   tombs-long : length (tombBytes es) ≡ (n + 7) / 8
   tombs-long = length-tombs es ∙ ap (λ (t : ℕ). (t + 7) / 8) (sym (f .edges-is))
@@ -173,8 +173,8 @@ length-entry : (at k : ℕ) (bytes : List ℕ) → length (entry at (rawSection 
 unfolding entry leBytes
 length-entry at k bytes = refl
 
-length-entries : (at : ℕ) (ss : List Section) → Raw ss → length (entries at ss) ≡ 28 * length ss
-unfolding entries Raw
+length-entries : (at : ℕ) (ss : List Section) → PlainSections ss → length (entries at ss) ≡ 28 * length ss
+unfolding entries PlainSections
 length-entries at [] r = refl
 length-entries at (s ∷ ss) r =
     let one : length (entry at s) ≡ 28 = ap (λ (t : Section). length (entry at t)) (r .0) ∙ length-entry at (s .kind) (s .bytes) in
@@ -195,7 +195,7 @@ pub body-parts : (ss : List Section) (n e bits : ℕ) → bodyBytes ss n e bits 
 unfolding bodyBytes countBytes
 body-parts ss n e bits = refl
 
-pub length-body : (ss : List Section) (n e bits : ℕ) → Raw ss → length (bodyBytes ss n e bits) ≡ 19 + 28 * length ss
+pub length-body : (ss : List Section) (n e bits : ℕ) → PlainSections ss → length (bodyBytes ss n e bits) ≡ 19 + 28 * length ss
 length-body ss n e bits r =
     let a = length-append (leBytes 2 (length ss)) (entries 64 ss ++ countBytes n e bits) in
     let b = length-append (entries 64 ss) (countBytes n e bits) in

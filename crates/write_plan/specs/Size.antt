@@ -8,8 +8,8 @@ use lib.ListN.{length}
 use Rattle.base.specs.Pick.{pick}
 use Rattle.frame.specs.Kind as kind
 use Rattle.batch.specs.declared.Edge.{Edge}
-use Rattle.batch_groups.specs.Groups.{groupsOf}
-use Rattle.write_image.specs.Image.{anyDead, anyDense, partnerBytes, widthOf, bit, fenceCount, fenced}
+use Rattle.batch_groups.specs.Groups.{anyDead, groupsOf}
+use Rattle.write_image.specs.Image.{anyDense, partnerBytes, widthOf, bit, fenceCount, fenced}
 
 -- tombstones and fences; a section that is not there takes nothing
 abbrev pub tombSize : ℕ → Bool → ℕ
@@ -28,6 +28,12 @@ sectionCount keys dead = 4 + (bit dead + bit (fenced keys))
 -- header, sections, footer body, trailer
 unfoldable pub fileSize : ℕ → ℕ → ℕ → ℕ → Bool → ℕ
 fileSize keys w bytes n dead = 64 + (sectionsSize keys w bytes n dead + (19 + 28 * sectionCount keys dead + 20))
+
+-- what the check of a batch counts of the edges
+pub record Tallied (es : List Edge) (n keys : ℕ) (dead : Bool) : Type 0 where
+  pub edges-is : n ≡ length es
+  pub keys-is : keys ≡ length (groupsOf es)
+  pub dead-is : dead ≡ anyDead es
 
 -- the numbers are those of the edges
 pub record Fitting (es : List Edge) (n keys w bytes : ℕ) (dense dead : Bool) : Type 0 where

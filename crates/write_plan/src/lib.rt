@@ -4,14 +4,22 @@ ghost use mathlib.Core.Path.{_≡_};
 ghost use Prim.Native.Nat.{_≤_};
 ghost use lib.ListN.{length};
 ghost use Rattle.base.specs.Pick.{pick};
+ghost use Rattle.frame.specs.Kind.{mostEdges};
 ghost use Rattle.batch_groups.specs.Groups.{groupsOf, Grouped};
 ghost use Rattle.write_image.specs.Image.{widthOf};
-ghost use Rattle.write_source.specs.Source.{edgesIn};
-ghost use Rattle.write_plan.specs.Size.{tombSize, fencesSize, sectionCount, fileSize};
+ghost use Rattle.write_source.specs.Source.{sourceEdges};
+ghost use Rattle.write_plan.specs.Size.{tombSize, fencesSize, sectionCount, fileSize, Tallied};
 ghost use Rattle.write_plan.specs.Bounds.{Measured};
+use frame::Row;
+use frame::bounds::Bounds;
+use frame::ends::Footer;
+use frame::ends::Header;
+use frame::ends::Trailer;
+use frame::kind::Fences;
+use frame::kind::Keys;
+use frame::kind::Logs;
+use frame::kind::Offsets;
 use write_sections::by_key::partners_size;
-use write_source::any_dead;
-use write_source::count_keys;
 
 // The counts: edges, keys, bytes of an offset, bytes of the partner section, whether a group is dense, whether an edge is
 // dead, bytes of the file.
@@ -34,13 +42,14 @@ pub enum Counted {
 fn width_of(bytes: usize) -> usize
     ensures { λ r. ⌜ (r ≡ widthOf bytes) × (r ≤ 4) ⌝ }
 {
-    if bytes < 16777216 {
-        return 3;
+    if bytes < Offsets::NARROW {
+        return Offsets::SHORT;
     }
-    4
+    Offsets::LONG
 }
 
-fn number(b: bool, x: usize) -> usize
+// x where it is asked for, otherwise 0.
+fn counted_if(b: bool, x: usize) -> usize
     ensures { λ r. ⌜ (r ≡ pick b x 0) × (r ≤ x) ⌝ }
 {
     if b {
@@ -49,59 +58,64 @@ fn number(b: bool, x: usize) -> usize
     0
 }
 
-// The bytes of the tombstones, of the fences, and how many sections there are.
+// The bytes of the tombstones.
 pub fn tomb_size(n: usize, dead: bool) -> usize
-    requires { ⌜ n ≤ 67108864 ⌝ }
-    ensures { λ r. ⌜ (r ≡ tombSize n dead) × (r ≤ 67108864) ⌝ }
+    requires { ⌜ n ≤ mostEdges ⌝ }
+    ensures { λ r. ⌜ (r ≡ tombSize n dead) × (r ≤ mostEdges) ⌝ }
 {
-    number(dead, (n + 7) / 8)
+    counted_if(dead, (n + 7) / 8)
 }
 
+// The bytes of the fences.
 pub fn fences_size(keys: usize) -> usize
-    requires { ⌜ keys ≤ 67108864 ⌝ }
-    ensures { λ r. ⌜ (r ≡ fencesSize keys) × (r ≤ 67108864) ⌝ }
+    requires { ⌜ keys ≤ mostEdges ⌝ }
+    ensures { λ r. ⌜ (r ≡ fencesSize keys) × (r ≤ mostEdges) ⌝ }
 {
-    number(65536 < keys, 8 + 24 * ((keys + 255) / 256))
+    counted_if(
+        (Bounds::UNFENCED as usize) < keys,
+        (Fences::HEAD as usize)
+            + (Fences::ROW as usize) * ((keys + Fences::ROUND) / Fences::STRIDE),
+    )
 }
 
+// How many sections there are.
 pub fn section_count(keys: usize, dead: bool) -> usize
     ensures { λ r. ⌜ (r ≡ sectionCount keys dead) × (r ≤ 6) ⌝ }
 {
-    let tombs = number(dead, 1);
-    let fences = number(65536 < keys, 1);
+    let tombs = counted_if(dead, 1);
+    let fences = counted_if((Bounds::UNFENCED as usize) < keys, 1);
     4 + (tombs + fences)
 }
 
 fn file_size(keys: usize, w: usize, bytes: usize, n: usize, dead: bool) -> usize
-    requires { ⌜ (keys ≤ 67108864) × (w ≤ 4) × (bytes ≤ 4294967296) × (n ≤ 67108864) ⌝ }
+    requires { ⌜ (keys ≤ mostEdges) × (w ≤ 4) × (bytes ≤ 4294967296) × (n ≤ mostEdges) ⌝ }
     ensures { λ r. ⌜ r ≡ fileSize keys w bytes n dead ⌝ }
 {
     let t = tomb_size(n, dead);
     let f = fences_size(keys);
     let count = section_count(keys, dead);
-    let sections = 16 * keys + ((keys + 1) * w + (bytes + (8 * n + (t + f))));
-    64 + (sections + (19 + 28 * count + 20))
+    let sections = (Keys::ROW as usize) * keys
+        + ((keys + 1) * w + (bytes + ((Logs::ROW as usize) * n + (t + f))));
+    Header::SIZE + (sections + (Footer::EMPTY + Row::ENTRY * count + Trailer::SIZE))
 }
 
-// Counts the n edges.
-pub fn measure(kind: u8, a: &[u8], b: &[u8], n: usize) -> Counted
-    requires { ⌜ (n ≡ length (edgesIn kind (now a) (now b))) × Grouped 0 (groupsOf (edgesIn kind (now a) (now b))) ⌝ }
-    ensures { λ r. ⌜ Measured (edgesIn kind (now (a .entry)) (now (b .entry))) r ⌝ }
+// Counts the n edges, of which the keys and whether one is dead are known already.
+pub fn measure(kind: u8, a: &[u8], b: &[u8], n: usize, keys: usize, dead: bool) -> Counted
+    requires { ⌜ Tallied (sourceEdges kind (now a) (now b)) n keys dead × Grouped 0 (groupsOf (sourceEdges kind (now a) (now b))) ⌝ }
+    ensures { λ r. ⌜ Measured (sourceEdges kind (now (a .entry)) (now (b .entry))) r ⌝ }
 {
-    if 67108864 < n {
+    if (Bounds::EDGES as usize) < n {
         return Counted::TooMany;
     }
-    let keys = count_keys(kind, a, b, n);
-    if 16777216 < keys {
+    if (Bounds::KEYS as usize) < keys {
         return Counted::TooMany;
     }
     let total = partners_size(kind, a, b, n, keys);
     let partners = total.bytes;
     let dense = total.dense;
     let width = width_of(partners);
-    let dead = any_dead(kind, a, b, n);
     let bytes = file_size(keys, width, partners, n, dead);
-    if 1073741824 < bytes {
+    if (Bounds::BYTES as usize) < bytes {
         return Counted::TooMany;
     }
     let plan = Plan {

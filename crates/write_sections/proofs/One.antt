@@ -7,8 +7,8 @@ use Rattle.write_sections.proofs.by_key.partners_size as partners-size
 use Rattle.write_sections.proofs.by_key.partners_size.Reads as partners-size-reads
 use Rattle.write_sections.proofs.by_edge.put_logs as put-logs
 use Rattle.write_sections.proofs.by_edge.put_logs.Reads as put-logs-reads
-use Rattle.write_sections.proofs.by_edge.put_tombs as put-tombs
-use Rattle.write_sections.proofs.by_edge.put_tombs.Reads as put-tombs-reads
+use Rattle.write_sections.proofs.by_edge.put_logs_tombs as put-logs-tombs
+use Rattle.write_sections.proofs.by_edge.put_logs_tombs.Reads as put-logs-tombs-reads
 use Rattle.write_sections.proofs.by_key.put_groups as put-groups
 use Rattle.write_sections.proofs.by_key.put_groups.Reads as put-groups-reads
 use Rattle.write_sections.proofs.fences.put_fences as put-fences
@@ -16,10 +16,10 @@ use Rattle.write_sections.proofs.fences.put_fences.Reads as put-fences-
 
 pub put-logs-determined : Determined put-logs.ended put-logs-reads.Pre put-logs-reads.Post
 put-logs-determined κs a pre r₁ r₂ w₁ w₂ p q =
-    (p .place ∙ sym (q .place), ap (λ (l : List ℕ). (tt {0}, (tt {0}, (tt {0}, (tt {0}, (l, (tt {0}, tt {0}))))))) (p .bytes ∙ sym (q .bytes)))
+    (p .place ∙ sym (q .place), ap (λ (l : List ℕ). (tt {0}, (tt {0}, (tt {0}, (tt {0}, (tt {0}, (l, (tt {0}, tt {0})))))))) (p .bytes ∙ sym (q .bytes)))
 
-pub put-tombs-determined : Determined put-tombs.ended put-tombs-reads.Pre put-tombs-reads.Post
-put-tombs-determined κs a pre r₁ r₂ w₁ w₂ p q =
+pub put-logs-tombs-determined : Determined put-logs-tombs.ended put-logs-tombs-reads.Pre put-logs-tombs-reads.Post
+put-logs-tombs-determined κs a pre r₁ r₂ w₁ w₂ p q =
     (p .place ∙ sym (q .place), ap (λ (l : List ℕ). (tt {0}, (tt {0}, (tt {0}, (tt {0}, (l, (tt {0}, tt {0}))))))) (p .bytes ∙ sym (q .bytes)))
 
 pub put-groups-determined : Determined put-groups.ended put-groups-reads.Pre put-groups-reads.Post

@@ -8,8 +8,8 @@ use lib.ListN.{length, getD, length-append}
 use Rattle.base.specs.Over.{getD-sets-below}
 use Rattle.base.specs.Put.{Left}
 use Rattle.codes.specs.declared.ids.Id.{Id}
-use Rattle.codes.specs.Ids.{beAt, halvesAt, idBytes}
-use Rattle.codes.specs.Ids.Laws.{beAt-zero, beAt-suc, halves-is, halves-back, length-idBytes}
+use Rattle.codes.specs.Ids.{halvesAt, idBytes}
+use Rattle.codes.specs.Ids.Laws.{halves-same, halves-back, length-idBytes}
 use Rattle.group.specs.Group.{bytesOf}
 use Rattle.group.specs.Written.{Halves}
 
@@ -45,20 +45,8 @@ ids-back (k ∷ ks) q r h =
 
 -- ---- an id below what is written
 
-beAt-same : (s t : List ℕ) (i n : ℕ) → ((k : ℕ) → k < n → getD s (i + k) 0 ≡ getD t (i + k) 0) → beAt s i n ≡ beAt t i n
-beAt-same s t i zero h = beAt-zero s i ∙ sym (beAt-zero t i)
-beAt-same s t i (suc n) h =
-    beAt-suc s i n
-    ∙ ap₂ (λ (x b : ℕ). x * 256 + b) (beAt-same s t i n (λ k l. h k (omega arith))) (h n (omega arith))
-    ∙ sym (beAt-suc t i n)
-
 pub id-below : {out : List ℕ} {to : ℕ} {xs : List ℕ} {o : List ℕ} {at : ℕ} {ys : List ℕ} → Left out to xs o at ys → (i : ℕ) → i + 16 ≤ at → at ≤ to → halvesAt out i ≡ halvesAt o i
-id-below {out} {to} {xs} {o} {at} {ys} l i h g =
-    halves-is out i
-    ∙ ap₂ (λ (u v : ℕ). record { hi = u; lo = v })
-    (beAt-same out o i 8 (λ k lt. byte (i + k) (omega arith)))
-    (beAt-same out o (i + 8) 8 (λ k lt. byte (i + 8 + k) (omega arith)))
-    ∙ sym (halves-is o i)
+id-below {out} {to} {xs} {o} {at} {ys} l i h g = halves-same out o i i (λ k lt. byte (i + k) (omega arith))
   where
     byte : (j : ℕ) → j < at → getD out j 0 ≡ getD o j 0
     byte j lt =

@@ -1,2 +1,3 @@
 pub mod Three
 pub mod Ids
+pub mod Asked

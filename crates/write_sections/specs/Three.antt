@@ -101,6 +101,6 @@ rooms x y z as′ bs cs t h =
     (omega arith, omega arith, omega arith)
 
 -- one number is left, in the middle
-pub last : {out : List ℕ} {a b : ℕ} {y : List ℕ} {c : ℕ} {start : List ℕ} {at : ℕ} {zs : List ℕ} {out′ : List ℕ}
+pub last-of-three : {out : List ℕ} {a b : ℕ} {y : List ℕ} {c : ℕ} {start : List ℕ} {at : ℕ} {zs : List ℕ} {out′ : List ℕ}
     → Three out a [] b y c [] start at zs → out′ ≡ sets out b y → Put start out′ at c zs
-last {c = c} t e = let third = t .third in record { place = omega arith; bytes = e ∙ t .whole }
+last-of-three {c = c} t e = let third = t .third in record { place = omega arith; bytes = e ∙ t .whole }

@@ -3,33 +3,41 @@ ghost use mathlib.Core.Path.{_≡_};
 ghost use Prim.Native.Nat.{_+_, _*_, _≤_};
 ghost use lib.ListN.{length};
 ghost use Rattle.base.specs.Put.{Put};
-ghost use Rattle.write_image.specs.Image.{fenceBytes, fencesFrom, fenceCount, fencesOf};
+ghost use Rattle.frame.specs.Kind.{mostEdges};
+ghost use Rattle.write_image.specs.Image.{fenceBytes, fenceKeysFrom, fenceCount, fencesOf};
 ghost use Rattle.write_sections.specs.Ids.{idsAt};
 use codes::ids::Id;
 use codes::ids::id_at;
 use codes::ids::put_id;
 use codes::little::put_le;
+use frame::kind::Fences;
+use frame::kind::Keys;
 
 // Writes fence i.
 fn put_fence(out: &mut [u8], at: usize, key: Id, i: usize) -> usize
-    requires { ⌜ (i ≤ 67108864) × (at + 24 ≤ length (now out)) ⌝ }
+    requires { ⌜ (i ≤ mostEdges) × (at + 24 ≤ length (now out)) ⌝ }
     ensures { λ r. ⌜ Put (now (out .entry)) (now (out .exit)) at r (fenceBytes key i) ⌝ }
 {
     put_id(out, at, key);
-    put_le(out, at + 16, 8, (16 * (i * 256)) as u64);
-    at + 24
+    put_le(
+        out,
+        at + (Keys::ROW as usize),
+        8,
+        ((Keys::ROW as usize) * (i * Fences::STRIDE)) as u64,
+    );
+    at + (Fences::ROW as usize)
 }
 
 // Writes the fences of the keys that stand in out from `first` on, below `at`.
 fn put_rows(out: &mut [u8], first: usize, keys: usize, at: usize) -> usize
-    requires { ⌜ (keys ≤ 67108864) × (first + 16 * keys ≤ at) × (at + length (fencesFrom (fenceCount keys) (idsAt keys (now out) first) 0) ≤ length (now out)) ⌝ }
-    ensures { λ r. ⌜ Put (now (out .entry)) (now (out .exit)) at r (fencesFrom (fenceCount keys) (idsAt keys (now (out .entry)) first) 0) ⌝ }
+    requires { ⌜ (keys ≤ mostEdges) × (first + 16 * keys ≤ at) × (at + length (fenceKeysFrom (fenceCount keys) (idsAt keys (now out) first) 0) ≤ length (now out)) ⌝ }
+    ensures { λ r. ⌜ Put (now (out .entry)) (now (out .exit)) at r (fenceKeysFrom (fenceCount keys) (idsAt keys (now (out .entry)) first) 0) ⌝ }
 {
-    let m = (keys + 255) / 256;
+    let m = (keys + Fences::ROUND) / Fences::STRIDE;
     let mut i: usize = 0;
     let mut to = at;
     while i < m {
-        let key = id_at(out, first + 16 * (i * 256));
+        let key = id_at(out, first + (Keys::ROW as usize) * (i * Fences::STRIDE));
         to = put_fence(out, to, key, i);
         i = i + 1;
     }
@@ -38,10 +46,15 @@ fn put_rows(out: &mut [u8], first: usize, keys: usize, at: usize) -> usize
 
 // Stride, count and fences.
 pub fn put_fences(out: &mut [u8], first: usize, keys: usize, at: usize) -> usize
-    requires { ⌜ (keys ≤ 67108864) × (first + 16 * keys ≤ at) × (at + length (fencesOf (idsAt keys (now out) first)) ≤ length (now out)) ⌝ }
+    requires { ⌜ (keys ≤ mostEdges) × (first + 16 * keys ≤ at) × (at + length (fencesOf (idsAt keys (now out) first)) ≤ length (now out)) ⌝ }
     ensures { λ r. ⌜ Put (now (out .entry)) (now (out .exit)) at r (fencesOf (idsAt keys (now (out .entry)) first)) ⌝ }
 {
-    put_le(out, at, 4, 256);
-    put_le(out, at + 4, 4, ((keys + 255) / 256) as u64);
-    put_rows(out, first, keys, at + 8)
+    put_le(out, at, 4, Fences::STRIDE as u64);
+    put_le(
+        out,
+        at + 4,
+        4,
+        ((keys + Fences::ROUND) / Fences::STRIDE) as u64,
+    );
+    put_rows(out, first, keys, at + (Fences::HEAD as usize))
 }

@@ -9,5 +9,5 @@ use Rattle.batch.specs.Batch.{edgesOf}
 pub mod Laws
 
 -- kind 0 is the batch a; every other kind reads as the batch b
-unfoldable pub edgesIn : ℕ → List ℕ → List ℕ → List Edge
-edgesIn kind a b = pick (eqb kind 0) (edgesOf a) (edgesOf b)
+unfoldable pub sourceEdges : ℕ → List ℕ → List ℕ → List Edge
+sourceEdges kind a b = pick (eqb kind 0) (edgesOf a) (edgesOf b)

@@ -5,7 +5,7 @@ use Prim.Native.Nat.{ℕ, zero, suc, _+_, _-_, _*_, _/_, _%_, _≤_, _<_}
 use borrow.Author.Tests.{lt-ltb, le-ltb}
 use native.Mathlib.Numerals.{add-one}
 use lib.ListN.{length, getD}
-use Rattle.xxh3_spec.specs.Xxh3.{add, mul, avalanche, accumulate, scramble, turn, run, twice, merge, start, large}
+use Rattle.xxh3_spec.specs.Xxh3.{add, mul, avalanche, accumulate, scramble, turn, run, twice, merge, startLanes, large}
 
 pub same8 : {a b c d e f g h a′ b′ c′ d′ e′ f′ g′ h′ : ℕ} → a ≡ a′ → b ≡ b′ → c ≡ c′ → d ≡ d′ → e ≡ e′ → f ≡ f′ → g ≡ g′ → h ≡ h′
     → a ∷ b ∷ c ∷ d ∷ e ∷ f ∷ g ∷ h ∷ [] ≡ a′ ∷ b′ ∷ c′ ∷ d′ ∷ e′ ∷ f′ ∷ g′ ∷ h′ ∷ []
@@ -24,7 +24,7 @@ pub run-step : (q a s : List ℕ) (n : ℕ) → run q a s (n + 1) ≡ turn q (ru
 unfolding run
 run-step q a s n = rw (add-one n)
 
-pub ended : (q s : List ℕ) {x y : List ℕ} {r : ℕ} → x ≡ run q start s ((length s - 1) / 64)
+pub ended : (q s : List ℕ) {x y : List ℕ} {r : ℕ} → x ≡ run q startLanes s ((length s - 1) / 64)
     → y ≡ accumulate q x s (length s - 64) 121 → r ≡ merge q y (length s) → r ≡ large q s
 unfolding large
 ended q s e₀ e₁ e₂ = cc

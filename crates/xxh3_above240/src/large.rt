@@ -2,7 +2,7 @@
 ghost use mathlib.Core.Path.{_≡_};
 ghost use Prim.Native.Nat.{_+_, _*_, _<_, _≤_};
 ghost use lib.ListN.{length};
-ghost use Rattle.xxh3_spec.specs.Xxh3.{lane, accumulate, stir, scramble, turn, run, start, twice, merge, large, secret};
+ghost use Rattle.xxh3_spec.specs.Xxh3.{lane, accumulate, stir, scramble, turn, run, startLanes, twice, merge, large, secret};
 use codes::little::le64;
 use std::num::wrapping_add_u64;
 use xxh3_mix::mix::avalanche;
@@ -111,7 +111,7 @@ fn large(q: &[u8], s: &[u8]) -> u64
     ensures { λ r. ⌜ r ≡ large (now (q .entry)) (now (s .entry)) ⌝ }
 {
     let n = s.len();
-    let start: [u64; 8] = [
+    let startLanes: [u64; 8] = [
         0xc2b2_ae3d,
         0x9e37_79b1_85eb_ca87,
         0xc2b2_ae3d_27d4_eb4f,
@@ -123,7 +123,7 @@ fn large(q: &[u8], s: &[u8]) -> u64
     ];
     merge(
         q,
-        accumulate(q, run(q, start, s, (n - 1) / 64), s, n - 64, 121),
+        accumulate(q, run(q, startLanes, s, (n - 1) / 64), s, n - 64, 121),
         n as u64,
     )
 }

@@ -194,8 +194,8 @@ unfoldable pub run : List ℕ → List ℕ → List ℕ → ℕ → List ℕ
 run q a s zero = a
 run q a s (suc n) = turn q (run q a s n) s n
 
-unfoldable pub start : List ℕ
-start =
+unfoldable pub startLanes : List ℕ
+startLanes =
     prime32-3 ∷ prime64-1 ∷ prime64-2 ∷ prime64-3 ∷
     prime64-4 ∷ prime32-2 ∷ prime64-5 ∷ prime32-1 ∷ []
 
@@ -214,7 +214,7 @@ merge q a n =
 
 -- all stripes before the last byte, and then the last 64 bytes
 unfoldable pub large : List ℕ → List ℕ → ℕ
-large q s = merge q (accumulate q (run q start s ((length s - 1) / 64)) s (length s - 64) 121) (length s)
+large q s = merge q (accumulate q (run q startLanes s ((length s - 1) / 64)) s (length s - 64) 121) (length s)
 
 -- ---- the checksum
 

@@ -123,6 +123,7 @@ fn four(s: &[u8], h: u64) -> u64
     three(s, round(s, 3, K96, K104, K112, K120, h))
 }
 
+// The sum of 17 to 128 bytes: pairs of 16, from both ends inwards.
 pub fn of17to128(s: &[u8]) -> u64
     requires { ⌜ (16 < length (now s)) × (length (now s) ≤ 128) ⌝ }
     ensures { λ r. ⌜ r ≡ of17to128 secret (now (s .entry)) ⌝ }
@@ -197,6 +198,7 @@ fn tail(s: &[u8], m: usize, g: u64) -> u64
     step(s, 128, 3, 6, K99, K107, g, h6)
 }
 
+// The sum of 129 to 240 bytes: blocks of 16, and the last 16.
 pub fn of129to240(s: &[u8]) -> u64
     requires { ⌜ (128 < length (now s)) × (length (now s) ≤ 240) ⌝ }
     ensures { λ r. ⌜ r ≡ of129to240 secret (now (s .entry)) ⌝ }

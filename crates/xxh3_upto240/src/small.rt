@@ -13,6 +13,7 @@ use xxh3_mix::mix::rrmxmx;
 use xxh3_mix::mix::swap;
 use xxh3_mix::product::fold;
 
+// The sum of at most 16 bytes, by how many there are.
 pub fn small(s: &[u8]) -> u64
     requires { ⌜ length (now s) ≤ 16 ⌝ }
     ensures { λ r. ⌜ r ≡ small (now (s .entry)) ⌝ }

@@ -381,59 +381,91 @@ fn check_told(tally: &mut Tally, told: &BTreeMap<String, Told>) {
 /// The bounds of 2^30 bytes, 2^24 keys and 2^26 edges, by records of files of
 /// zeros. Hardly any of their bytes is ever touched.
 fn check_bounds(tally: &mut Tally) {
-    let range = |offset, length| Range { offset, length };
-    let record = |keys: u64, edges: u64| OpenedRecord {
-        keys: range(0, 16 * keys),
-        offsets: range(0, 3 * (keys + 1)),
-        partners: range(0, 0),
-        logs: range(0, 8 * edges),
-        tombstones: Some(range(0, edges.div_ceil(8))),
+    let mut file = vec![0; bound::FILE as usize];
+    check_largest_counts(tally, &file);
+    check_longest_search(tally, &mut file);
+    file.push(0);
+    let what = "2^30 + 1 bytes";
+    check_no_room(tally, what, &file, record_at_0(1, 1), ABOVE, refused(21, 0));
+}
+
+/// A key above all that such a file holds.
+const ABOVE: Id = [0xFF; 16];
+
+fn refused(number: u8, place: u64) -> Result<Answer, Refusal> {
+    Err(Refusal { number, place })
+}
+
+fn absent(compared: u32) -> Result<Answer, Refusal> {
+    Ok(Answer::Absent { compared })
+}
+
+/// A record of these counts whose ranges all begin with the file, and without
+/// partners.
+fn record_at_0(keys: u64, edges: u64) -> OpenedRecord {
+    let range = |length| Range { offset: 0, length };
+    OpenedRecord {
+        keys: range(16 * keys),
+        offsets: range(3 * (keys + 1)),
+        partners: range(0),
+        logs: range(8 * edges),
+        tombstones: Some(range(edges.div_ceil(8))),
         key_count: keys,
         edge_count: edges,
         offset_bits: 24,
-    };
-    let refused = |number, place| Err(Refusal { number, place });
-    let mut ask = |what: &str, file: &[u8], record: OpenedRecord, key: Id, answer| {
-        let outputs = Outputs {
-            partners: &mut [],
-            logs: &mut [],
-            marks: &mut [],
-        };
-        let found = lookup_from_record(file, &record, &key, outputs);
-        tally.same(what, found, answer);
-        let found = partners_from_record(file, &record, &key, &mut []);
-        tally.same(what, found, answer);
-    };
+    }
+}
 
-    let mut file = vec![0; bound::FILE as usize];
-    let above = [0xFF; 16];
-    let absent = |compared| Ok(Answer::Absent { compared });
-    ask("2^30 bytes", &file, record(1, 1), above, absent(1));
+/// Both lookups by a record, with no room in any output.
+fn check_no_room(
+    tally: &mut Tally,
+    what: &str,
+    file: &[u8],
+    record: OpenedRecord,
+    key: Id,
+    answer: Result<Answer, Refusal>,
+) {
+    let outputs = Outputs {
+        partners: &mut [],
+        logs: &mut [],
+        marks: &mut [],
+    };
+    let found = lookup_from_record(file, &record, &key, outputs);
+    tally.same(what, found, answer);
+    let found = partners_from_record(file, &record, &key, &mut []);
+    tally.same(what, found, answer);
+}
+
+/// A file of 2^30 zeros, with as many keys or edges as there may be, and with
+/// one more.
+fn check_largest_counts(tally: &mut Tally, file: &[u8]) {
     let (keys, edges) = (bound::KEYS, bound::EDGES);
-    ask("2^24 keys", &file, record(keys, 0), above, absent(24));
-    ask("2^26 edges", &file, record(1, edges), above, absent(1));
-    let more_keys = record(keys + 1, 0);
-    ask("2^24 + 1 keys", &file, more_keys, above, refused(21, 0));
-    let more_edges = record(1, edges + 1);
-    ask("2^26 + 1 edges", &file, more_edges, above, refused(21, 0));
+    for (what, record, answer) in [
+        ("2^30 bytes", record_at_0(1, 1), absent(1)),
+        ("2^24 keys", record_at_0(keys, 0), absent(24)),
+        ("2^26 edges", record_at_0(1, edges), absent(1)),
+        ("2^24 + 1 keys", record_at_0(keys + 1, 0), refused(21, 0)),
+        ("2^26 + 1 edges", record_at_0(1, edges + 1), refused(21, 0)),
+    ] {
+        check_no_room(tally, what, file, record, ABOVE, answer);
+    }
+}
 
-    // The longest way is to the left: 2^23, 2^22 and so on to 1 and 0.
+/// The longest way through 2^24 keys is to the left: 2^23, 2^22 and so on to 1
+/// and 0.
+fn check_longest_search(tally: &mut Tally, file: &mut [u8]) {
+    let keys = bound::KEYS;
     for index in (0..24).map(|power| 1 << power).chain([0]) {
         file[16 * index + 15] = 2;
     }
     let key = id_of(0, 1);
-    ask("25 compared", &file, record(keys, 0), key, absent(25));
-    // The first group is empty, and its offsets are the first key's bytes.
-    let key = id_of(0, 2);
-    let first = OpenedRecord {
-        offsets: range(bound::FILE / 2, 3 * (keys + 1)),
-        ..record(keys, 0)
-    };
-    let middle = keys / 2;
-    ask("middle of 2^24", &file, first, key, refused(17, middle));
-
-    file.push(0);
-    ask("2^30 + 1 bytes", &file, record(1, 1), above, refused(21, 0));
+    let record = record_at_0(keys, 0);
+    check_no_room(tally, "25 compared", file, record, key, absent(25));
+    // The offsets lie among zeros, and the group that is met first is empty.
+    let mut record = record_at_0(keys, 0);
+    record.offsets.offset = bound::FILE / 2;
+    let (key, empty) = (id_of(0, 2), refused(17, keys / 2));
+    check_no_room(tally, "middle of 2^24", file, record, key, empty);
 }
 
 /// Lookups have an answer for any bytes, and one of the right form: each byte

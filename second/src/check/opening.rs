@@ -4,8 +4,9 @@ use super::{check_framed, check_names, Named, Tally};
 use crate::corpus::open_files::{self, OpenFile, Verdict};
 use crate::format::{bound, kind, HEADER, MAGIC, TRAILER};
 use crate::groups::{self, Edge, Form, Group};
+use crate::header::{header, HeaderFields};
 use crate::layout::{mend, Header, Layout, Section};
-use crate::numbers::{id_of, read_le};
+use crate::numbers::id_of;
 use crate::open::{open, Opened, Refusal};
 use std::collections::{BTreeMap, BTreeSet};
 
@@ -13,6 +14,7 @@ pub fn check(tally: &mut Tally) {
     let small = open_files::small();
     let large = open_files::large();
     check_marked_cases(tally, &small);
+    check_headers(tally, &small);
     let named = |file: &OpenFile| (file.name.clone(), file.bytes.clone());
     let items: Vec<Named> = small.iter().chain(&large).map(named).collect();
     check_names(tally, &items);
@@ -51,6 +53,34 @@ fn check_marked_cases(tally: &mut Tally, files: &[OpenFile]) {
     );
 }
 
+/// The headers of some files, as their authors wrote them.
+fn check_headers(tally: &mut Tally, files: &[OpenFile]) {
+    let ids = [0x10, 0x20, 0x30].map(|first| std::array::from_fn(|i| first + i as u8));
+    let ones = [[0xFF; 16]; 3];
+    for (name, minor, inverse, flags, ids) in [
+        ("one-edge", 0, false, 0, ids),
+        ("minor-200", 200, false, 0, ids),
+        ("inverse-one-edge", 0, true, 8, ids),
+        ("flags-0111", 0, false, 7, ids),
+        ("flags-1011", 0, true, 11, ids),
+        ("ids-all-ones", 0, false, 0, ones),
+    ] {
+        let found = files.iter().find(|file| file.name == name);
+        let fields = HeaderFields {
+            minor,
+            inverse,
+            flags,
+            ids,
+        };
+        let what = format!("header of {name}");
+        tally.same(
+            &what,
+            found.map(|file| header(&file.bytes)),
+            Some(Ok(fields)),
+        );
+    }
+}
+
 fn check_sizes(tally: &mut Tally, small: &[OpenFile], large: &[OpenFile]) {
     let size = open_files::stdin(small).len();
     tally.same("small corpus at most 600000", size <= 600_000, true);
@@ -81,7 +111,7 @@ fn check_relaid(tally: &mut Tally, file: &OpenFile) {
     }
 }
 
-/// The description of an opened file, by its rows and its record.
+/// The description of an opened file, by its header, its rows and its record.
 fn found_layout(file: &[u8], opened: &Opened) -> Layout {
     let part = |offset: u64, length: u64| &file[offset as usize..(offset + length) as usize];
     let mut end = HEADER as u64;
@@ -99,13 +129,14 @@ fn found_layout(file: &[u8], opened: &Opened) -> Layout {
     // Where the footer begins: the first name comes after the section count
     // and the first row.
     let footer_place = opened.rows[0].name_place - 30;
-    let id = |at: usize| file[at..at + 16].try_into().expect("16 bytes");
+    let fields = header(file).expect("an opened file");
+    let [edge_type, source, destination] = fields.ids;
     let header = Header {
-        minor: file[9],
-        edge_type: id(16),
-        source: id(32),
-        destination: id(48),
-        ..Header::new(read_le(&file[12..16]) as u32)
+        minor: fields.minor,
+        edge_type,
+        source,
+        destination,
+        ..Header::new(fields.flags)
     };
     let record = &opened.record;
     Layout {

@@ -8,6 +8,7 @@ use crate::corpus::write_batches::{self, Outcome, WriteBatch, LARGE_ROOM, ROOM};
 use crate::format::{bound, flag, kind, HEADER};
 use crate::full_check::{full_check, Contents};
 use crate::groups::{self, Edge, Form, Group};
+use crate::header::header;
 use crate::lookup::{lookup, Answer, Outputs};
 use crate::numbers::{id_of, Id};
 use crate::open::{open, Refusal};
@@ -21,7 +22,7 @@ pub fn check(tally: &mut Tally) {
     check_bounds(tally);
     let small = write_batches::small();
     let large = write_batches::large();
-    test_check(tally, &small, &large);
+    check_corpus(tally, &small, &large);
     for batch in &small {
         check_batch(tally, batch, ROOM, 1);
     }
@@ -130,7 +131,7 @@ fn check_bounds(tally: &mut Tally) {
     }
 }
 
-fn test_check(tally: &mut Tally, small: &[WriteBatch], large: &[WriteBatch]) {
+fn check_corpus(tally: &mut Tally, small: &[WriteBatch], large: &[WriteBatch]) {
     let named = |batch: &WriteBatch| (batch.name.clone(), batch.bytes.clone());
     let items: Vec<Named> = small.iter().chain(large).map(named).collect();
     check_names(tally, &items);
@@ -227,8 +228,9 @@ fn check_choices(tally: &mut Tally, name: &str, file: &[u8], contents: &Contents
     let flags = u32::from(any_dead) * flag::TOMBSTONES
         + u32::from(any_dense) * flag::DENSE
         + u32::from(contents.inverse) * flag::INVERSE;
-    tally.same(name, &file[12..16], &flags.to_le_bytes()[..]);
-    tally.same(name, (file[9], opened.record.offset_bits), (0, 24));
+    let header = header(file).expect("a sound file");
+    tally.same(name, (header.minor, header.flags), (0, flags));
+    tally.same(name, opened.record.offset_bits, 24);
     for group in groups {
         tally.same(name, group.form, shorter_form(group, groups.len()));
     }

@@ -43,36 +43,40 @@ fn read_varints(random: &mut Random) -> Vec<Record> {
     ]
     .map(<[u8]>::to_vec)
     .into();
-
-    for number in varint_numbers() {
-        let whole = varint::write(number);
-        strings.push(whole.clone());
-        for after in [&[0x00][..], &[0x01], &[0x80], &[0xFF, 0xFF], &[0x80, 0x00]] {
-            strings.push([&whole[..], after].concat());
-        }
-        for cut in 1..whole.len() {
-            strings.push(whole[..cut].to_vec());
-        }
-    }
+    strings.extend(varint_numbers().into_iter().flat_map(whole_and_cut));
     strings.extend(not_shortest());
     strings.extend(too_large());
     strings.extend([0x00, 0x01, 0x7F, 0x80, 0xFF].map(|byte| vec![byte; 255]));
-
-    for _ in 0..200 {
-        let length = random.below(13);
-        strings.push((0..length).map(|_| random.byte()).collect());
-    }
-    // Plain bytes seldom go on past the third; here seven of eight go on, so
-    // that long varints come up as well.
-    for _ in 0..400 {
-        let length = random.below(13);
-        let byte = |random: &mut Random| match random.below(8) {
-            0 => random.byte() % 4,
-            _ => random.byte() | 0x80,
-        };
-        strings.push((0..length).map(|_| byte(random)).collect());
-    }
+    strings.extend((0..200).map(|_| any_bytes(random)));
+    strings.extend((0..400).map(|_| bytes_that_go_on(random)));
     strings.into_iter().map(Record::ReadVarint).collect()
+}
+
+/// A number's varint alone, with other bytes after it, and cut at each place.
+fn whole_and_cut(number: u64) -> Vec<Vec<u8>> {
+    let whole = varint::write(number);
+    let mut strings = vec![whole.clone()];
+    let others = [&[0x00][..], &[0x01], &[0x80], &[0xFF, 0xFF], &[0x80, 0x00]];
+    strings.extend(others.map(|after| [&whole[..], after].concat()));
+    strings.extend((1..whole.len()).map(|cut| whole[..cut].to_vec()));
+    strings
+}
+
+/// At most twelve bytes.
+fn any_bytes(random: &mut Random) -> Vec<u8> {
+    let length = random.below(13);
+    (0..length).map(|_| random.byte()).collect()
+}
+
+/// Plain bytes seldom go on past the third; here seven of eight go on, so that
+/// long varints come up as well.
+fn bytes_that_go_on(random: &mut Random) -> Vec<u8> {
+    let length = random.below(13);
+    let mut byte = || match random.below(8) {
+        0 => random.byte() % 4,
+        _ => random.byte() | 0x80,
+    };
+    (0..length).map(|_| byte()).collect()
 }
 
 /// Forms that end in a 0 after other bytes, of every length from 2 to 10.
@@ -122,54 +126,73 @@ fn write_varints(random: &mut Random) -> Vec<Record> {
     numbers.into_iter().map(Record::WriteVarint).collect()
 }
 
+/// Pairs of ids, each of them both ways round.
 fn compare_ids(random: &mut Random) -> Vec<Record> {
-    let zero: Id = [0; 16];
-    let ones: Id = [0xFF; 16];
-    let counting: Id = std::array::from_fn(|i| 0x10 + i as u8);
-    let with = |id: Id, changes: &[(usize, u8)]| {
-        let mut changed = id;
-        for &(at, byte) in changes {
-            changed[at] = byte;
-        }
-        changed
-    };
-
-    let mut pairs: Vec<(Id, Id)> = Vec::new();
-    let mut both_ways = |a: Id, b: Id| pairs.extend([(a, b), (b, a)]);
-    both_ways(zero, ones);
-    for id in [zero, ones, counting] {
-        both_ways(id, id);
-    }
-    for at in 0..16 {
-        both_ways(zero, with(zero, &[(at, 1)]));
-        both_ways(ones, with(ones, &[(at, 0xFE)]));
-        both_ways(counting, with(counting, &[(at, counting[at] + 1)]));
-        // Bytes that a signed comparison would turn round.
-        both_ways(with(counting, &[(at, 0x7F)]), with(counting, &[(at, 0x80)]));
-    }
-    // Two bytes that disagree: the earlier one decides, where a little-endian
-    // comparison would let the later one decide.
-    for first in 0..16 {
-        for second in first + 1..16 {
-            let up = counting[first] + 1;
-            let down = counting[second] - 1;
-            both_ways(counting, with(counting, &[(first, up), (second, down)]));
-        }
-    }
-    both_ways(id_of(1, u64::MAX), id_of(2, 0));
-    both_ways(id_of(0, u64::MAX), id_of(u64::MAX, 0));
-    both_ways(id_of(5, 1 << 63), id_of(5, (1 << 63) - 1));
-    both_ways(id_of(1 << 63, 5), id_of((1 << 63) - 1, 6));
-    both_ways(id_of(7, 0), id_of(7, u64::MAX));
-    for _ in 0..40 {
-        let (upper, lower) = (random.number(), random.number());
-        both_ways(id_of(upper, lower), random.bytes());
-        both_ways(id_of(upper, lower), id_of(upper, random.number()));
-    }
+    let mut pairs = vec![
+        (ZEROS, ONES),
+        (ZEROS, ZEROS),
+        (ONES, ONES),
+        (COUNTING, COUNTING),
+    ];
+    pairs.extend((0..16).flat_map(one_byte_apart));
+    pairs.extend(two_bytes_that_disagree());
+    pairs.extend(unlike_halves());
+    pairs.extend((0..40).flat_map(|_| random_ids(random)));
     pairs
         .into_iter()
-        .map(|(a, b)| Record::CompareIds(a, b))
+        .flat_map(|(a, b)| [Record::CompareIds(a, b), Record::CompareIds(b, a)])
         .collect()
+}
+
+const ZEROS: Id = [0x00; 16];
+const ONES: Id = [0xFF; 16];
+const COUNTING: Id = *b"\x10\x11\x12\x13\x14\x15\x16\x17\x18\x19\x1A\x1B\x1C\x1D\x1E\x1F";
+
+/// The id with another byte at a place.
+fn with(mut id: Id, at: usize, byte: u8) -> Id {
+    id[at] = byte;
+    id
+}
+
+/// Ids that differ at one place alone.
+fn one_byte_apart(at: usize) -> [(Id, Id); 4] {
+    [
+        (ZEROS, with(ZEROS, at, 1)),
+        (ONES, with(ONES, at, 0xFE)),
+        (COUNTING, with(COUNTING, at, COUNTING[at] + 1)),
+        // Bytes that a signed comparison would turn round.
+        (with(COUNTING, at, 0x7F), with(COUNTING, at, 0x80)),
+    ]
+}
+
+/// Two bytes that disagree: the earlier one decides, where a little-endian
+/// comparison would let the later one decide.
+fn two_bytes_that_disagree() -> Vec<(Id, Id)> {
+    let places = (0..16).flat_map(|first| (first + 1..16).map(move |second| (first, second)));
+    places
+        .map(|(first, second)| {
+            let up = with(COUNTING, first, COUNTING[first] + 1);
+            (COUNTING, with(up, second, COUNTING[second] - 1))
+        })
+        .collect()
+}
+
+/// Halves that disagree or are alike, at the ends of their range.
+fn unlike_halves() -> [(Id, Id); 5] {
+    [
+        (id_of(1, u64::MAX), id_of(2, 0)),
+        (id_of(0, u64::MAX), id_of(u64::MAX, 0)),
+        (id_of(5, 1 << 63), id_of(5, (1 << 63) - 1)),
+        (id_of(1 << 63, 5), id_of((1 << 63) - 1, 6)),
+        (id_of(7, 0), id_of(7, u64::MAX)),
+    ]
+}
+
+/// An id beside any other, and beside one with the same upper half.
+fn random_ids(random: &mut Random) -> [(Id, Id); 2] {
+    let (upper, lower) = (random.number(), random.number());
+    let id = id_of(upper, lower);
+    [(id, random.bytes()), (id, id_of(upper, random.number()))]
 }
 
 fn read_numbers(random: &mut Random) -> Vec<Record> {

@@ -123,6 +123,10 @@ impl Files {
 }
 
 impl LookupFile {
+    fn size(&self) -> u64 {
+        self.bytes.len() as u64
+    }
+
     /// Kind 1, then the calls.
     fn input(&self) -> Vec<u8> {
         let mut input = vec![1];

@@ -17,8 +17,10 @@ mod table;
 mod unread;
 
 use super::framed;
+use crate::header::{header, HeaderFields};
 use crate::layout::Layout;
-use crate::open::{open, Opened, Range, Refusal, SectionRow};
+use crate::numbers::hex;
+use crate::open::{open, OpenedRecord, Range, Refusal, SectionRow};
 
 /// One file of the corpus.
 pub struct OpenFile {
@@ -36,7 +38,7 @@ pub enum Verdict {
     Refused(Refusal),
 }
 
-fn expect(number: u8, place: u64) -> Verdict {
+const fn expect(number: u8, place: u64) -> Verdict {
     Verdict::Refused(Refusal { number, place })
 }
 
@@ -94,14 +96,23 @@ impl OpenFile {
         }
     }
 
-    /// One line for a refused file; for an opened one the line of its record
-    /// and a line for each section.
+    /// A line of the refusal or of the record, and one of the header; for an
+    /// opened file also a line for each section.
     fn lines(&self) -> String {
         let name = &self.name;
-        match open(&self.bytes) {
-            Err(refusal) => format!("{name}: {refusal}\n"),
-            Ok(opened) => format!("{name}: opens {}\n", opened_text(&opened)),
+        let (verdict, rows) = match open(&self.bytes) {
+            Err(refusal) => (refusal.to_string(), Vec::new()),
+            Ok(opened) => (record_text(&opened.record), opened.rows),
+        };
+        let header = match header(&self.bytes) {
+            Err(refusal) => refusal.to_string(),
+            Ok(fields) => fields_text(&fields),
+        };
+        let mut text = format!("{name}: {verdict}\n  header {header}\n");
+        for row in &rows {
+            text += &format!("{}\n", row_text(row));
         }
+        text
     }
 }
 
@@ -109,11 +120,10 @@ fn range_text(range: Range) -> String {
     format!("{} {}", range.offset, range.length)
 }
 
-fn opened_text(opened: &Opened) -> String {
-    let record = &opened.record;
+fn record_text(record: &OpenedRecord) -> String {
     let dead = record.tombstones.map_or("none".to_string(), range_text);
-    let mut text = format!(
-        "keys {} offsets {} partners {} logs {} dead {dead} n {} e {} bits {}",
+    format!(
+        "opens keys {} offsets {} partners {} logs {} dead {dead} n {} e {} bits {}",
         range_text(record.keys),
         range_text(record.offsets),
         range_text(record.partners),
@@ -121,12 +131,21 @@ fn opened_text(opened: &Opened) -> String {
         record.key_count,
         record.edge_count,
         record.offset_bits,
-    );
-    for row in &opened.rows {
-        text += "\n";
-        text += &row_text(row);
-    }
-    text
+    )
+}
+
+fn fields_text(fields: &HeaderFields) -> String {
+    let HeaderFields {
+        minor,
+        inverse,
+        flags,
+        ids,
+    } = fields;
+    let [edge_type, source, destination] = ids.map(|id| hex(&id));
+    format!(
+        "minor {minor} direction {} flags {flags} ids {edge_type} {source} {destination}",
+        u8::from(*inverse)
+    )
 }
 
 /// The line of a section, without its end.

@@ -1,6 +1,5 @@
 use native.Mathlib.Omega.{arith}
 use borrow.Author.Tests.{eq-eqb, ne-eqb}
-use Rattle.batch.specs.Batch.{before}
 use Rattle.batch_faults.proofs.is_edge.Statement.{statement}
 use Rattle.batch_faults.proofs.is_edge.Tie as tie
 

@@ -16,7 +16,7 @@ use lib.Dec.{lit<, ltb}
 use borrow.Author.Tests.{lt-ltb, le-ltb}
 use Rattle.codes.specs.declared.ids.Order.{Order}
 use Rattle.codes.specs.declared.ids.Id.{Id}
-use Rattle.codes.specs.Ids.{beAt, idAt, order, halvesAt, numberOf, beBytes, idBytes, turned}
+use Rattle.codes.specs.Ids.{beAt, idAt, order, halvesAt, idNumber, beBytes, idBytes, turned}
 use Rattle.codes.specs.Little.{leAt, leBytes}
 use Rattle.codes.specs.Little.Laws.{leAt-low, leBytes-zero}
 
@@ -73,24 +73,36 @@ pub halves-is : (s : List ℕ) (i : ℕ) → halvesAt s i ≡ record { hi = beAt
 unfolding halvesAt
 halves-is s i = refl
 
-pub number-halves : (s : List ℕ) (i : ℕ) → numberOf (halvesAt s i) ≡ idAt s i
+pub number-halves : (s : List ℕ) (i : ℕ) → idNumber (halvesAt s i) ≡ idAt s i
 unfolding halvesAt
 number-halves s i = sym (id-halves s i)
+
+-- the bytes decide: the same bytes elsewhere make the same number and the same id
+pub beAt-same : (s t : List ℕ) (i j n : ℕ) → ((k : ℕ) → k < n → getD s (i + k) 0 ≡ getD t (j + k) 0) → beAt s i n ≡ beAt t j n
+unfolding beAt
+beAt-same s t i j zero h = refl
+beAt-same s t i j (suc n) h = ap₂ (λ (x b : ℕ). x * 256 + b) (beAt-same s t i j n (λ k l. h k (omega arith))) (h n (omega arith))
+
+pub halves-same : (s t : List ℕ) (i j : ℕ) → ((k : ℕ) → k < 16 → getD s (i + k) 0 ≡ getD t (j + k) 0) → halvesAt s i ≡ halvesAt t j
+unfolding halvesAt
+halves-same s t i j h =
+    let low : (k : ℕ) → k < 8 → getD s (i + 8 + k) 0 ≡ getD t (j + 8 + k) 0 = (λ k l. rw (add-assoc i 8 k, add-assoc j 8 k) (h (8 + k) (omega arith))) in
+    ap₂ (λ (u v : ℕ). record { hi = u; lo = v }) (beAt-same s t i j 8 (λ k l. h k (omega arith))) (beAt-same s t (i + 8) (j + 8) 8 low)
 
 -- ---- the order of two ids, by their halves
 
 module _ (a b : Id) where
-  pub above-upper : a .hi < b .hi → a .lo < 2 ^ 64 → ltb (numberOf a) (numberOf b) ≡ true
-  above-upper h l = lt-ltb (numberOf a) (numberOf b) (upper (a .lo) (b .lo) h l)
+  pub above-upper : a .hi < b .hi → a .lo < 2 ^ 64 → ltb (idNumber a) (idNumber b) ≡ true
+  above-upper h l = lt-ltb (idNumber a) (idNumber b) (upper (a .lo) (b .lo) h l)
 
-  pub above-under : b .hi < a .hi → b .lo < 2 ^ 64 → ltb (numberOf a) (numberOf b) ≡ false
-  above-under h l = let lt = upper (b .lo) (a .lo) h l in le-ltb (numberOf a) (numberOf b) (omega arith)
+  pub above-under : b .hi < a .hi → b .lo < 2 ^ 64 → ltb (idNumber a) (idNumber b) ≡ false
+  above-under h l = let lt = upper (b .lo) (a .lo) h l in le-ltb (idNumber a) (idNumber b) (omega arith)
 
-  pub above-lower : a .hi ≡ b .hi → ltb (numberOf a) (numberOf b) ≡ ltb (a .lo) (b .lo)
+  pub above-lower : a .hi ≡ b .hi → ltb (idNumber a) (idNumber b) ≡ ltb (a .lo) (b .lo)
   above-lower e =
       elim (decLt (a .lo) (b .lo)) [
-        | yes l ↦ let n : numberOf a < numberOf b = rw e (omega arith) in lt-ltb (numberOf a) (numberOf b) n ∙ sym (lt-ltb (a .lo) (b .lo) l)
-        | no l ↦ let n : numberOf b ≤ numberOf a = rw e (omega arith) in le-ltb (numberOf a) (numberOf b) n ∙ sym (le-ltb (a .lo) (b .lo) (omega arith))
+        | yes l ↦ let n : idNumber a < idNumber b = rw e (omega arith) in lt-ltb (idNumber a) (idNumber b) n ∙ sym (lt-ltb (a .lo) (b .lo) l)
+        | no l ↦ let n : idNumber b ≤ idNumber a = rw e (omega arith) in le-ltb (idNumber a) (idNumber b) n ∙ sym (le-ltb (a .lo) (b .lo) (omega arith))
       ]
 
 -- as they stand at i and at j
@@ -98,7 +110,7 @@ module _ (s : List ℕ) (byte : (k : ℕ) → getD s k 0 < 256) (i j : ℕ) wher
   abbrev before : Bool
   before = ltb (idAt s i) (idAt s j)
 
-  by-halves : before ≡ ltb (numberOf (halvesAt s i)) (numberOf (halvesAt s j))
+  by-halves : before ≡ ltb (idNumber (halvesAt s i)) (idNumber (halvesAt s j))
   by-halves = ap₂ ltb (sym (number-halves s i)) (sym (number-halves s j))
 
   pub before-upper : beAt s i 8 < beAt s j 8 → before ≡ true

@@ -12,6 +12,7 @@ use lib.Dec.{lit<}
 use lib.Pow.{pow-add, pow-mono, shl-exact}
 use lib.Seq.{sets, getD-set-same, append-snoc, getD-append-seam, getD-append-add, getD-take, getD-drop}
 use Rattle.base.specs.Over.{getD-sets-below}
+use Rattle.base.specs.Bytes.{Bytes}
 use Rattle.codes.specs.Little.{leAt, leBytes}
 
 pub leAt-zero : (s : List ℕ) (i : ℕ) → leAt s i 0 ≡ 0
@@ -37,14 +38,14 @@ leAt-low s i (suc n) =
     rw (leAt-low s i n, weight, e) (omega arith)
 
 -- bytes make a number below 2 ^ (8 * n)
-pub leAt-lt : (s : List ℕ) → ((j : ℕ) → getD s j 0 < 2 ^ 8) → (i n : ℕ) → leAt s i n < 2 ^ (8 * n)
+pub leAt-lt : (s : List ℕ) → Bytes s → (i n : ℕ) → leAt s i n < 2 ^ (8 * n)
 unfolding leAt
 leAt-lt s b i zero = lit< tt
 leAt-lt s b i (suc n) =
     rw (mul-suc, add-comm (8 * n) 8, pow-add, add-comm (leAt s i n)) (digits-lt (b (i + n)) (leAt-lt s b i n))
 
 -- one byte more, as the code puts it on top: by a shift and an or
-pub leAt-more : (s : List ℕ) (i n x b : ℕ) → ((j : ℕ) → getD s j 0 < 2 ^ 8) → n < 8 → x ≡ leAt s i n → b ≡ getD s (i + n) 0
+pub leAt-more : (s : List ℕ) (i n x b : ℕ) → Bytes s → n < 8 → x ≡ leAt s i n → b ≡ getD s (i + n) 0
     → bitOr x (b * 2 ^ (8 * n) % 2 ^ 64) ≡ leAt s i (n + 1)
 unfolding leAt
 leAt-more s i n x b h l p q =

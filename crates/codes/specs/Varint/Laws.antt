@@ -15,6 +15,7 @@ use Rattle.codes.specs.declared.varint.Varint.{Varint}
 use Rattle.codes.specs.declared.varint.Varint.the-variants.{Value, Bad}
 use Rattle.codes.specs.declared.varint.Unread.the-variants.{Cut, Long, Large}
 use Rattle.base.specs.Over.{part}
+use Rattle.base.specs.Bytes.{Bytes}
 use Rattle.codes.specs.Varint.{lastByte, varFrom, varintAt, bytesFrom, varBytes}
 
 -- ---- the definition of reading, case by case
@@ -218,7 +219,7 @@ record Taken (f : ℕ) (s : List ℕ) (i x m v n : ℕ) : Type 0 where
   after : i < n
   within : n ≤ length s
   shortest : 1 < m → 0 < digits
-  bytes : ((j : ℕ) → getD s j 0 < 2 ^ 8) → drop i s ≡ bytesFrom f digits ++ drop n s
+  bytes : Bytes s → drop i s ≡ bytesFrom f digits ++ drop n s
 
 taken-last : (f : ℕ) (s : List ℕ) (i x m v n : ℕ) → x < m → i < length s → getD s i 0 < 128 → varFrom (suc f) s i x m ≡ Value v n → Taken f s i x m v n
 taken-last f s i x m v n l h g e =
@@ -296,7 +297,7 @@ pub varint-lt : (s : List ℕ) (i v n : ℕ) → varintAt s i ≡ Value v n → 
 varint-lt s i v n e = taken s i v n e .below
 
 -- shortest is unique: the bytes that are read as a number are the bytes that are written for it
-pub varint-bytes : (s : List ℕ) (i v n : ℕ) → ((j : ℕ) → getD s j 0 < 2 ^ 8) → varintAt s i ≡ Value v n → part s i n ≡ varBytes v
+pub varint-bytes : (s : List ℕ) (i v n : ℕ) → Bytes s → varintAt s i ≡ Value v n → part s i n ≡ varBytes v
 varint-bytes s i v n b e =
     let t = taken s i v n e in
     let y : v ≡ t .digits = omega (arith, t .value) in
@@ -329,7 +330,7 @@ length-from (suc f) x =
 pub varBytes-length : (x : ℕ) → (0 < length (varBytes x)) × (length (varBytes x) ≤ 10)
 varBytes-length x = rw (bytes-from x) (length-from 9 x)
 
-first : (b : ℕ) (r : List ℕ) (j : ℕ) → b < 2 ^ 8 → ((k : ℕ) → getD r k 0 < 2 ^ 8) → getD (b ∷ r) j 0 < 2 ^ 8
+first : (b : ℕ) (r : List ℕ) (j : ℕ) → b < 2 ^ 8 → Bytes r → getD (b ∷ r) j 0 < 2 ^ 8
 first b r zero h g = h
 first b r (suc j) h g = g j
 

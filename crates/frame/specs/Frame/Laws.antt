@@ -12,6 +12,7 @@ use borrow.Author.Tests.{eqb-true, eqb-false, leb-true, eq-eqb, ne-eqb, le-leb, 
 use Rattle.base.specs.Pick.{pick}
 use Rattle.codes.specs.Little.{leAt, leBytes}
 use Rattle.codes.specs.Little.Laws.{leAt-same}
+use Rattle.codes.specs.Ids.Laws.{halves-same}
 use Rattle.refusal.specs.declared.Refusal.{Refusal}
 use Rattle.refusal.specs.declared.Check.{Check}
 use Rattle.refusal.specs.Check.Laws.{pick-fine, fine-pick, and-parts, and-both}
@@ -19,7 +20,7 @@ use Rattle.frame.specs.declared.Row.{Row}
 use Rattle.frame.specs.declared.Range.{Range}
 use Rattle.frame.specs.Kind as kind
 use Rattle.frame.specs.Kind.Laws.{numberAt, slot-found}
-use Rattle.frame.specs.Frame.{rowAt, nextAt, rowsFrom, endFrom, countOf, rowsOf, endOf, keyCount, edgeCount, bitsOf, has, twice, sectionOf, rangeOf, nowhere, rangeGood, ranges, all, nameGood, onceGood, kindsGood, fills, tableGood, codecGood, codecs, widthGood, sizesGood, presenceGood, countsGood, flagsOf, headCheck, recordFrom, framedFrom}
+use Rattle.frame.specs.Frame.{rowAt, nextAt, rowsFrom, endFrom, entryCount, rowsOf, endOf, keyCount, edgeCount, bitsOf, has, repeated, sectionOf, rangeOf, nowhere, rangeGood, ranges, all, nameGood, onceGood, kindsGood, fills, tableGood, codecGood, codecs, widthGood, sizesGood, presenceGood, countsGood, flagsOf, directionOf, headerIn, atMinor, headCheck, recordFrom, framedFrom}
 
 -- the magic's number is that of its bytes
 pub magic-is : leBytes 8 kind.magic ≡ kind.magicBytes
@@ -33,25 +34,25 @@ unfolding rowsFrom
 length-rows zero b i = refl
 length-rows (suc d) b i = ap suc (length-rows d b (nextAt b i))
 
--- an entry has 28 bytes at least
-pub end-room : (d : ℕ) (b : List ℕ) (i : ℕ) → i + 28 * d ≤ endFrom d b i
+-- an entry without its name is the least that there is
+pub end-room : (d : ℕ) (b : List ℕ) (i : ℕ) → i + kind.entrySize * d ≤ endFrom d b i
 unfolding endFrom
 end-room zero b i = omega arith
 end-room (suc d) b i = omega (arith, end-room d b (nextAt b i))
 
 -- rule 9, taken apart and put together
 pub record Table (b : List ℕ) : Type 0 where
-  pub some : 1 ≤ countOf b
-  pub most : countOf b ≤ 64
-  pub filled : endOf b + 17 ≡ length b
+  pub some : 1 ≤ entryCount b
+  pub most : entryCount b ≤ kind.mostSections
+  pub filled : endOf b + kind.countsSize ≡ length b
   pub names : all nameGood (rowsOf b) ≡ true
   pub kinds : kindsGood (rowsOf b) ≡ true
 
 pub table-parts : (b : List ℕ) → tableGood b ≡ true → Table b
 unfolding tableGood
 table-parts b e =
-    let p = and-parts (leb 1 (countOf b)) _ e in
-    let q = and-parts (leb (countOf b) 64) _ (p .1) in
+    let p = and-parts (leb 1 (entryCount b)) _ e in
+    let q = and-parts (leb (entryCount b) kind.mostSections) _ (p .1) in
     let r = and-parts (fills b) _ (q .1) in
     let t = and-parts (all nameGood (rowsOf b)) _ (r .1) in
     record { some = leb-true _ _ (p .0); most = leb-true _ _ (q .0); filled = eqb-true _ _ (r .0); names = t .0; kinds = t .1 }
@@ -59,11 +60,11 @@ table-parts b e =
 pub table-made : (b : List ℕ) → Table b → tableGood b ≡ true
 unfolding tableGood
 table-made b t =
-    and-both (le-leb 1 (countOf b) (t .some)) (and-both (le-leb (countOf b) 64 (t .most))
-    (and-both (eq-eqb (endOf b + 17) (length b) (t .filled)) (and-both (t .names) (t .kinds))))
+    and-both (le-leb 1 (entryCount b) (t .some)) (and-both (le-leb (entryCount b) kind.mostSections (t .most))
+    (and-both (eq-eqb (endOf b + kind.countsSize) (length b) (t .filled)) (and-both (t .names) (t .kinds))))
 
 -- tables that have the same kinds that are read, as often, are good alike
-all-once : (rs ts : List Row) (qs : List kind.Kind) → ((k : ℕ) → kind.slotIn k qs < length qs → (has k ts ≡ has k rs) × (twice k ts ≡ twice k rs)) → all (onceGood ts) qs ≡ all (onceGood rs) qs
+all-once : (rs ts : List Row) (qs : List kind.Kind) → ((k : ℕ) → kind.slotIn k qs < length qs → (has k ts ≡ has k rs) × (repeated k ts ≡ repeated k rs)) → all (onceGood ts) qs ≡ all (onceGood rs) qs
 unfolding all
 all-once rs ts [] h = refl
 all-once rs ts (q ∷ qs) h =
@@ -75,27 +76,27 @@ all-once rs ts (q ∷ qs) h =
     later true n l = omega arith
     later false n l = omega arith
 
-pub kinds-alike : (rs ts : List Row) → ((k : ℕ) → kind.fixed k ≡ true → (has k ts ≡ has k rs) × (twice k ts ≡ twice k rs)) → kindsGood ts ≡ kindsGood rs
+pub kinds-alike : (rs ts : List Row) → ((k : ℕ) → kind.fixed k ≡ true → (has k ts ≡ has k rs) × (repeated k ts ≡ repeated k rs)) → kindsGood ts ≡ kindsGood rs
 unfolding kindsGood
 kinds-alike rs ts h = all-once rs ts kind.kinds (λ k l. h k (lt-ltb (kind.slotOf k) (length kind.kinds) l))
 
 -- a good table has its keys
 pub kinds-keys : (rs : List Row) → kindsGood rs ≡ true → has kind.keys rs ≡ true
 unfolding kindsGood all
-kinds-keys rs e = and-parts (not (twice kind.keys rs)) (has kind.keys rs) (and-parts (onceGood rs (kind.exactlyOnce kind.keys)) _ e .0) .1
+kinds-keys rs e = and-parts (not (repeated kind.keys rs)) (has kind.keys rs) (and-parts (onceGood rs (kind.exactlyOnce kind.keys)) _ e .0) .1
 
 -- ---- walking the table: k entries are passed, the next is at i
 
 module _ (b : List ℕ) (count i k : ℕ) (lt : k < count) where
-  pub rows-on : (r : Row) → r ≡ rowAt b i → rowsFrom (count - k) b i ≡ r ∷ rowsFrom (count - (k + 1)) b (i + 28 + r .namelen)
+  pub rows-on : (r : Row) → r ≡ rowAt b i → rowsFrom (count - k) b i ≡ r ∷ rowsFrom (count - (k + 1)) b (i + kind.entrySize + r .namelen)
   unfolding rowsFrom rowAt
   rows-on r e = let d : count - k ≡ suc (count - (k + 1)) = omega arith in rw (d, e)
 
-  pub end-on : (r : Row) → r ≡ rowAt b i → endFrom (count - k) b i ≡ endFrom (count - (k + 1)) b (i + 28 + r .namelen)
+  pub end-on : (r : Row) → r ≡ rowAt b i → endFrom (count - k) b i ≡ endFrom (count - (k + 1)) b (i + kind.entrySize + r .namelen)
   unfolding endFrom rowAt
   end-on r e = let d : count - k ≡ suc (count - (k + 1)) = omega arith in rw (d, e)
 
-  pub row-room : i + 28 ≤ endFrom (count - k) b i
+  pub row-room : i + kind.entrySize ≤ endFrom (count - k) b i
   row-room = omega (arith, end-room (count - k) b i)
 
 pub rows-none : (b : List ℕ) (count i k : ℕ) → count ≤ k → rowsFrom (count - k) b i ≡ []
@@ -190,7 +191,7 @@ unknown-kinds k = (go (kind.fixed k) refl (eqb k 0x0100) refl, back (kind.fixed 
 -- what the rules ask a table of known kinds is the same of both: whether one is there, whether twice, and how long it is
 pub record SameKnown (rs ts : List Row) : Type 0 where
   pub there : (k : ℕ) → kind.unknown k ≡ false → has k ts ≡ has k rs
-  pub doubled : (k : ℕ) → kind.unknown k ≡ false → twice k ts ≡ twice k rs
+  pub doubled : (k : ℕ) → kind.unknown k ≡ false → repeated k ts ≡ repeated k rs
   pub len : (k : ℕ) → kind.unknown k ≡ false → sectionOf k ts .len ≡ sectionOf k rs .len
 
 fixed-known : (k : ℕ) → kind.fixed k ≡ true → kind.unknown k ≡ false
@@ -243,7 +244,7 @@ module _ (r : Row) (rs : List Row) (u : kind.unknown (r .kind) ≡ true) where
   section-skipped k h = rw (unlike k h)
 
   pub skipped : SameKnown (r ∷ rs) rs
-  unfolding has twice
+  unfolding has repeated
   skipped = record { there = λ k h. rw (unlike k h); doubled = λ k h. rw (unlike k h); len = λ k h. ap (λ (x : Range). x .len) (section-skipped k h) }
 
   -- so none to rule 9's kinds
@@ -262,7 +263,7 @@ module _ (r : Row) (rs : List Row) (u : kind.unknown (r .kind) ≡ true) where
 
 -- two headers that differ in the minor version at most
 abbrev pub ButMinor : List ℕ → List ℕ → Type 0
-ButMinor g h = (i : ℕ) → i < 64 → (i ≡ 9 → ⊥) → getD g i 0 ≡ getD h i 0
+ButMinor g h = (i : ℕ) → i < kind.headerSize → (i ≡ 9 → ⊥) → getD g i 0 ≡ getD h i 0
 
 module _ (g h : List ℕ) (same : ButMinor g h) where
   pub flags-minor : flagsOf g ≡ flagsOf h
@@ -275,3 +276,13 @@ module _ (g h : List ℕ) (same : ButMinor g h) where
       let magic = leAt-same g h 0 0 8 (λ k l. same (0 + k) (omega arith) (λ e. omega arith)) in
       let size = leAt-same g h 10 10 2 (λ k l. same (10 + k) (omega arith) (λ e. omega arith)) in
       rw (magic, same 8 (omega arith) (λ e. omega arith), size, flags-minor)
+
+  -- of what the header says, it alone may be another
+  pub header-minor : headerIn g ≡ atMinor (getD g 9 0) (headerIn h)
+  unfolding headerIn
+  header-minor =
+      let flags = flags-minor in
+      let first = halves-same g h 16 16 (λ k l. same (16 + k) (omega arith) (λ e. omega arith)) in
+      let second = halves-same g h 32 32 (λ k l. same (32 + k) (omega arith) (λ e. omega arith)) in
+      let third = halves-same g h 48 48 (λ k l. same (48 + k) (omega arith) (λ e. omega arith)) in
+      λ i. record { minor = getD g 9 0; direction = directionOf (flags i); flags = flags i; edgetype = first i; source = second i; destination = third i }

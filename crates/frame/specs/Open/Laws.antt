@@ -87,12 +87,12 @@ pub size-parts : (n : ℕ) → sizeCheck n ≡ Check.Fine → (84 ≤ n) × (n �
 unfolding sizeCheck
 size-parts n e = let a = either-parts Refusal.Size (ltb n 84) (ltb (2 ^ 30) n) e in (ltb-false n 84 (a .0), ltb-false (2 ^ 30) n (a .1))
 
-pub tail-parts : (n : ℕ) (t : List ℕ) → tailCheck n t ≡ Check.Fine → (39 ≤ footLen t) × (footLen t ≤ n - 64)
+pub tail-parts : (n : ℕ) (t : List ℕ) → tailCheck n t ≡ Check.Fine → (kind.leastFooter ≤ footLen t) × (footLen t ≤ n - kind.headerSize)
 unfolding tailCheck
 tail-parts n t e =
     let p = fine-parts (refuse Refusal.TailMagic (not (eqb (leAt t (length t - 8) 8) kind.magic))) _ e in
-    let a = either-parts Refusal.FooterLength (ltb (footLen t) 39) (ltb (n - 64) (footLen t)) (p .1) in
-    (ltb-false (footLen t) 39 (a .0), ltb-false (n - 64) (footLen t) (a .1))
+    let a = either-parts Refusal.FooterLength (ltb (footLen t) kind.leastFooter) (ltb (n - kind.headerSize) (footLen t)) (p .1) in
+    (ltb-false (footLen t) kind.leastFooter (a .0), ltb-false (n - kind.headerSize) (footLen t) (a .1))
 
 pub tail-magic : (n : ℕ) (t : List ℕ) → tailCheck n t ≡ Check.Fine → leAt t (length t - 8) 8 ≡ kind.magic
 unfolding tailCheck
@@ -109,9 +109,9 @@ pub size-made : (n : ℕ) → 84 ≤ n → n ≤ 2 ^ 30 → sizeCheck n ≡ Chec
 unfolding sizeCheck
 size-made n a b = rw (le-ltb n 84 a, le-ltb (2 ^ 30) n b)
 
-pub tail-made : (n : ℕ) (t : List ℕ) → leAt t (length t - 8) 8 ≡ kind.magic → 39 ≤ footLen t → footLen t ≤ n - 64 → tailCheck n t ≡ Check.Fine
+pub tail-made : (n : ℕ) (t : List ℕ) → leAt t (length t - 8) 8 ≡ kind.magic → kind.leastFooter ≤ footLen t → footLen t ≤ n - kind.headerSize → tailCheck n t ≡ Check.Fine
 unfolding tailCheck
-tail-made n t m a b = rw (eq-eqb (leAt t (length t - 8) 8) kind.magic m, le-ltb (footLen t) 39 a, le-ltb (n - 64) (footLen t) b)
+tail-made n t m a b = rw (eq-eqb (leAt t (length t - 8) 8) kind.magic m, le-ltb (footLen t) kind.leastFooter a, le-ltb (n - kind.headerSize) (footLen t) b)
 
 pub sum-made : (t : List ℕ) → xxh3 (bodyOf t) ≡ leAt t (length t - 20) 8 → sumCheck t ≡ Check.Fine
 unfolding sumCheck

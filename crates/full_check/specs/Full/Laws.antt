@@ -23,28 +23,28 @@ use Rattle.refusal.specs.declared.Refusal.{Refusal}
 use Rattle.refusal.specs.declared.Check.{Check}
 use Rattle.refusal.specs.Check.{_⊳_, refuse}
 use Rattle.frame.specs.Open.{bytesAt, offsetAt}
-use Rattle.index.specs.Order.{Offsets}
+use Rattle.index.specs.Order.{OffsetsRise}
 use Rattle.degrees.specs.Degrees.{groupAt}
-use Rattle.group.specs.declared.Group.{Group}
+use Rattle.group.specs.declared.GroupVerdict.{GroupVerdict}
 use Rattle.group.specs.declared.fault.Fault.{Fault}
 use Rattle.group.specs.Fault.{refusalOf}
-use Rattle.group.specs.Group.{Partners, good, groupOf, partnersOf, answerOf}
+use Rattle.group.specs.Group.{Decoded, good, groupOf, partnersOf, verdictOf}
 use Rattle.group.specs.Group.Laws.{answered-good, answered-bad}
 use Rattle.group.specs.Good.{group-length}
 use Rattle.lookup.specs.Lookup.{groupCheck}
 use Rattle.lookup.specs.Groups.{check-fine, check-bad}
 use Rattle.full_check.specs.declared.groups.Groups.{Groups}
-use Rattle.full_check.specs.Full.{sumGood, sumsFrom, denseOf, groupIn, groupsFrom, degreesFrom, denseFrom, groupsTold, groupsOf}
+use Rattle.full_check.specs.Full.{sumGood, sumsFrom, denseOf, groupIn, groupsFrom, degreesFrom, denseFrom, groupsTold, groupsSeen}
 
 -- ---- the sums: k entries are passed, the next is at i of the footer body b
 
 -- each section ends within so many bytes
-unfoldable pub Within : ℕ → List Row → Type 0
-Within size [] = Unit {0}
-Within size (r ∷ rs) = (r .start + r .len ≤ size) × Within size rs
+unfoldable pub RowsWithin : ℕ → List Row → Type 0
+RowsWithin size [] = Unit {0}
+RowsWithin size (r ∷ rs) = (r .start + r .len ≤ size) × RowsWithin size rs
 
-pub ranges-within : (size limit : ℕ) (rs : List Row) (floor k : ℕ) → limit ≤ size → ranges limit rs floor k ≡ Check.Fine → Within size rs
-unfolding ranges Within
+pub ranges-within : (size limit : ℕ) (rs : List Row) (floor k : ℕ) → limit ≤ size → ranges limit rs floor k ≡ Check.Fine → RowsWithin size rs
+unfolding ranges RowsWithin
 ranges-within size limit [] floor k h e = tt
 ranges-within size limit (r ∷ rs) floor k h e =
     let p = pick-fine (rangeGood limit floor r) (ranges limit rs (r .start + r .len) (k + 1)) (Refusal.Range k) e in
@@ -56,10 +56,10 @@ module _ (f b : List ℕ) (count : ℕ) where
   pub record Summed (i k : ℕ) : Type 0 where
     pub most : k ≤ count
     pub end : endFrom (count - k) b i ≡ endFrom count b 2
-    pub within : Within (length f) (rowsFrom (count - k) b i)
+    pub within : RowsWithin (length f) (rowsFrom (count - k) b i)
     pub check : sumsFrom f (rowsFrom (count - k) b i) k ≡ sumsFrom f (rowsFrom count b 2) 0
 
-  pub summed-start : Within (length f) (rowsFrom count b 2) → Summed 2 0
+  pub summed-start : RowsWithin (length f) (rowsFrom count b 2) → Summed 2 0
   summed-start w = record { most = omega arith; end = rw sub-zero refl; within = rw sub-zero w; check = rw sub-zero refl }
 
   module _ (i k : ℕ) (h : Summed i k) (lt : k < count) (r : Row) (e : r ≡ rowAt b i) where
@@ -67,11 +67,11 @@ module _ (f b : List ℕ) (count : ℕ) where
     rows = rows-on b count i k lt r e
 
     pub summed-within : r .start + r .len ≤ length f
-    unfolding Within
+    unfolding RowsWithin
     summed-within = (rw rows at (h .within)) .0
 
-    others : Within (length f) (rowsFrom (count - (k + 1)) b (i + 28 + r .namelen))
-    unfolding Within
+    others : RowsWithin (length f) (rowsFrom (count - (k + 1)) b (i + 28 + r .namelen))
+    unfolding RowsWithin
     others = (rw rows at (h .within)) .1
 
     sums-here : sumsFrom f (rowsFrom count b 2) 0 ≡ pick (sumGood f r) (sumsFrom f (rowsFrom (count - (k + 1)) b (i + 28 + r .namelen)) (k + 1)) (Check.Bad (Refusal.Sum k))
@@ -95,20 +95,20 @@ module _ (f b : List ℕ) (count : ℕ) where
   summed-end i k h le = ap (λ (t : List Row). sumsFrom f t k) (sym (rows-none b count i k le)) ∙ h .check
 
 -- the sections of a file whose frame is good lie within it
-pub frames-inside : (f : List ℕ) → Frames f → Within (length f) (rowsOf (bodyOf f))
+pub frames-inside : (f : List ℕ) → Frames f → RowsWithin (length f) (rowsOf (bodyOf f))
 frames-inside f s = ranges-within (length f) (length f - footLen f) (rowsOf (bodyOf f)) kind.headerSize 0 (omega arith) (s .apart)
 
 -- ---- a group by its answer
 
 -- a good answer is that of partners
-pub record Answered (g : Partners) (d : ℕ) (dense : Bool) : Type 0 where
+pub record Answered (g : Decoded) (d : ℕ) (dense : Bool) : Type 0 where
   pub partners : List Id
   pub is : g ≡ good dense partners
   pub count : length partners ≡ d
   pub degree : length (partnersOf g) ≡ d
   pub kind : denseOf g ≡ dense
 
-pub answered : (g : Partners) (d : ℕ) (dense : Bool) → answerOf g ≡ Group.Good d dense → Answered g d dense
+pub answered : (g : Decoded) (d : ℕ) (dense : Bool) → verdictOf g ≡ GroupVerdict.Good d dense → Answered g d dense
 unfolding denseOf
 answered g d dense e =
     let (is, ok, count) = answered-good g d dense e in
@@ -125,7 +125,7 @@ module _ (p o : List ℕ) (w n : ℕ) where
     pub sum : edges + degreesFrom p o w (n - i) i ≡ degreesFrom p o w n 0
     pub thick : (dense || denseFrom p o w (n - i) i) ≡ denseFrom p o w n 0
 
-  pub walk-start : Offsets o w n (length p) → Walk 0 0 0 false
+  pub walk-start : OffsetsRise o w n (length p) → Walk 0 0 0 false
   walk-start z = record {
     most = omega arith;
     place = sym (z .first);
@@ -135,7 +135,7 @@ module _ (p o : List ℕ) (w n : ℕ) where
     thick = ap (λ (t : ℕ). denseFrom p o w t 0) (sub-zero n);
   }
 
-  module _ (z : Offsets o w n (length p)) (i a edges : ℕ) (dense : Bool) (h : Walk i a edges dense) (lt : i < n) where
+  module _ (z : OffsetsRise o w n (length p)) (i a edges : ℕ) (dense : Bool) (h : Walk i a edges dense) (lt : i < n) where
     left : n - i ≡ suc (n - (i + 1))
     left = omega arith
 
@@ -151,25 +151,25 @@ module _ (p o : List ℕ) (w n : ℕ) where
       unfolding groupsFrom
       check-here =
           sym (h .check) ∙ ap (λ (t : ℕ). groupsFrom p o w t i) left
-          ∙ ap (λ (t : Partners). groupCheck i t ⊳ groupsFrom p o w (n - (i + 1)) (i + 1)) here
+          ∙ ap (λ (t : Decoded). groupCheck i t ⊳ groupsFrom p o w (n - (i + 1)) (i + 1)) here
 
       sum-here : degreesFrom p o w n 0 ≡ edges + (length (partnersOf (groupOf (part p a e))) + degreesFrom p o w (n - (i + 1)) (i + 1))
       unfolding degreesFrom
       sum-here =
           sym (h .sum) ∙ ap (λ (t : ℕ). edges + degreesFrom p o w t i) left
-          ∙ ap (λ (t : Partners). edges + (length (partnersOf t) + degreesFrom p o w (n - (i + 1)) (i + 1))) here
+          ∙ ap (λ (t : Decoded). edges + (length (partnersOf t) + degreesFrom p o w (n - (i + 1)) (i + 1))) here
 
       thick-here : denseFrom p o w n 0 ≡ (dense || (denseOf (groupOf (part p a e)) || denseFrom p o w (n - (i + 1)) (i + 1)))
       unfolding denseFrom
       thick-here =
           sym (h .thick) ∙ ap (λ (t : ℕ). dense || denseFrom p o w t i) left
-          ∙ ap (λ (t : Partners). dense || (denseOf t || denseFrom p o w (n - (i + 1)) (i + 1))) here
+          ∙ ap (λ (t : Decoded). dense || (denseOf t || denseFrom p o w (n - (i + 1)) (i + 1))) here
 
-      pub walk-bad : (f : Fault) → answerOf (groupOf (part p a e)) ≡ Group.Bad f → groupsOf p o w n ≡ Groups.Refused (refusalOf i f)
-      unfolding groupsOf groupsTold
+      pub walk-bad : (f : Fault) → verdictOf (groupOf (part p a e)) ≡ GroupVerdict.Bad f → groupsSeen p o w n ≡ Groups.Refused (refusalOf i f)
+      unfolding groupsSeen groupsTold
       walk-bad f g = rw (check-here, answered-bad (groupOf (part p a e)) f g, check-bad i f)
 
-      module _ (d : ℕ) (b : Bool) (g : answerOf (groupOf (part p a e)) ≡ Group.Good d b) where
+      module _ (d : ℕ) (b : Bool) (g : verdictOf (groupOf (part p a e)) ≡ GroupVerdict.Good d b) where
         -- each partner has nine bytes or more
         pub walk-few : edges + d ≤ e
         walk-few =
@@ -203,8 +203,8 @@ module _ (p o : List ℕ) (w n : ℕ) where
             either-assoc true y v = refl
             either-assoc false y v = refl
 
-  pub walk-end : (i a edges : ℕ) (dense : Bool) → Walk i a edges dense → n ≤ i → Groups.Good edges dense ≡ groupsOf p o w n
-  unfolding groupsOf groupsTold groupsFrom degreesFrom denseFrom
+  pub walk-end : (i a edges : ℕ) (dense : Bool) → Walk i a edges dense → n ≤ i → Groups.Good edges dense ≡ groupsSeen p o w n
+  unfolding groupsSeen groupsTold groupsFrom degreesFrom denseFrom
   walk-end i a edges dense h le =
       let none : n - i ≡ 0 = omega arith in
       let c : groupsFrom p o w n 0 ≡ Check.Fine = sym (h .check) ∙ ap (λ (t : ℕ). groupsFrom p o w t i) none in

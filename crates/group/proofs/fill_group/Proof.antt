@@ -5,9 +5,10 @@ use native.Mathlib.Omega.{arith}
 use mathlib.Core.List.{List}
 use mathlib.Core.Bool.{true, false}
 use Rattle.base.specs.Over.{over}
-use Rattle.group.specs.Group.{Partners, partnersOf, bytesOf}
+use Rattle.base.specs.Bytes.{Bytes}
+use Rattle.group.specs.Group.{Decoded, partnersOf, bytesOf}
 use Rattle.group.specs.Group.Laws.{group-bad, not-bad}
-use Rattle.group.specs.Good.{Bytes, Fill, fill, fill-length}
+use Rattle.group.specs.Good.{Fill, fill, fill-length}
 use borrow.Author.Needs.{needs}
 use Rattle.group.proofs.fill_group.Statement.{statement}
 use Rattle.group.proofs.fill_group.Tie as tie
@@ -57,7 +58,7 @@ returns-2 : tie.Need-returns-2
 returns-2 c =
     let a = c .before .before .before .before .before .before .before .before .before .before .args in
     let f = split (c .before .before .before .before) in
-    c .before .before .fill-split .ensures ∙ ap (λ (w : Partners). over (bytesOf (partnersOf w)) (a .out .now)) (sym (f .walk))
+    c .before .before .fill-split .ensures ∙ ap (λ (w : Decoded). over (bytesOf (partnersOf w)) (a .out .now)) (sym (f .walk))
 
 same-length-2 : tie.Need-same-length-2
 same-length-2 c = search needs

@@ -15,15 +15,15 @@ use Rattle.codes.specs.declared.varint.Varint.{Varint}
 use Rattle.codes.specs.declared.varint.Varint.the-variants.{Value}
 use Rattle.codes.specs.declared.varint.Unread.{Unread}
 use Rattle.codes.specs.Little.{leAt}
-use Rattle.codes.specs.Ids.{halvesAt, numberOf, idBytes}
+use Rattle.codes.specs.Ids.{halvesAt, idNumber, idBytes}
 use Rattle.codes.specs.Ids.Laws.{length-idBytes}
 use Rattle.codes.specs.Varint.{varintAt}
 use Rattle.codes.specs.Varint.Laws.{varint-next}
 use Rattle.group.specs.declared.fault.Fault.{Fault}
 use Rattle.group.specs.declared.head.Head.{Head}
 use Rattle.group.specs.declared.split.Step.{Step}
-use Rattle.group.specs.declared.Group.{Group}
-use Rattle.group.specs.Group.{Partners, good, bad, onVarint, splitStep, denseStep, stepAt, onStep, cons, walkFrom, floorOf, degreeOf, headOf, onHead, groupOf, isGood, partnersOf, bytesOf, answerOf}
+use Rattle.group.specs.declared.GroupVerdict.{GroupVerdict}
+use Rattle.group.specs.Group.{Decoded, good, bad, onVarint, splitStep, denseStep, stepAt, onStep, cons, walkFrom, floorOf, degreeOf, headOf, onHead, groupOf, isGood, partnersOf, bytesOf, verdictOf}
 
 -- ---- a partner of a split group
 
@@ -128,13 +128,13 @@ step-next false g i hi p n e =
 -- ---- order
 
 -- the first partner is not below the floor, and another is not where it is above the last one
-pub order-first : (k : ℕ) (last p : Id) → k ≡ 0 → leb (floorOf k last) (numberOf p) ≡ true
+pub above-first : (k : ℕ) (last p : Id) → k ≡ 0 → leb (floorOf k last) (idNumber p) ≡ true
 unfolding floorOf
-order-first k last p h = simp (eq-eqb k 0 h) (le-leb 0 (numberOf p) (omega arith))
+above-first k last p h = simp (eq-eqb k 0 h) (le-leb 0 (idNumber p) (omega arith))
 
-pub order-next : (k : ℕ) (last p : Id) → (k ≡ 0 → ⊥) → leb (floorOf k last) (numberOf p) ≡ ltb (numberOf last) (numberOf p)
+pub above-next : (k : ℕ) (last p : Id) → (k ≡ 0 → ⊥) → leb (floorOf k last) (idNumber p) ≡ ltb (idNumber last) (idNumber p)
 unfolding floorOf
-order-next k last p h = simp (ne-eqb k 0 h)
+above-next k last p h = simp (ne-eqb k 0 h)
 
 -- ---- what stands before the partners
 
@@ -201,9 +201,9 @@ is-dense true c j d i e = (refl, cc, cc)
 is-dense false c j d i e = let z : _≡_ {A = ℕ} 0 1 = cc in absurd (omega arith)
 
 -- what was read before the partners
-pub headed : (g : List ℕ) (dense : Bool) (d i : ℕ) → headOf g ≡ headIs dense d i → Headed g dense d i
+pub head-headed : (g : List ℕ) (dense : Bool) (d i : ℕ) → headOf g ≡ headIs dense d i → Headed g dense d i
 unfolding walks degreeOf
-headed g dense d i e = go (varintAt g 0) refl
+head-headed g dense d i e = go (varintAt g 0) refl
   where
     not : (f : Fault) → headOf g ≡ Head.Bad f → Headed g dense d i
     not f q =
@@ -259,17 +259,17 @@ module _ (dense : Bool) (g : List ℕ) (i hi floor : ℕ) where
     walk-bad f e = rw e
 
     module _ (p : Id) (n : ℕ) (e : stepAt dense g i hi ≡ Step.Partner p n) where
-      pub walk-low : leb floor (numberOf p) ≡ false → walkFrom dense (suc d) g i hi floor ≡ bad Fault.Shape
+      pub walk-low : leb floor (idNumber p) ≡ false → walkFrom dense (suc d) g i hi floor ≡ bad Fault.Shape
       unfolding walkFrom onStep
       walk-low h = rw (e, h)
 
-      pub walk-more : leb floor (numberOf p) ≡ true → walkFrom dense (suc d) g i hi floor ≡ cons p (walkFrom dense d g n (p .hi) (suc (numberOf p)))
+      pub walk-more : leb floor (idNumber p) ≡ true → walkFrom dense (suc d) g i hi floor ≡ cons p (walkFrom dense d g n (p .hi) (suc (idNumber p)))
       unfolding walkFrom onStep
       walk-more h = rw (e, h)
 
 -- ---- a good walk, taken apart
 
-cons-good : (p : Id) (w : Partners) (b : Bool) (ps : List Id) → cons p w ≡ good b ps → (qs : List Id) × (w ≡ good b qs) × (ps ≡ p ∷ qs)
+cons-good : (p : Id) (w : Decoded) (b : Bool) (ps : List Id) → cons p w ≡ good b ps → (qs : List Id) × (w ≡ good b qs) × (ps ≡ p ∷ qs)
 unfolding cons
 cons-good p (good c qs) b ps e = let same : c ≡ b = cc in (qs, ap (λ (t : Bool). good t qs) same, cc)
 cons-good p (bad f) b ps e = let z : _≡_ {A = ℕ} 0 1 = cc in absurd (omega arith)
@@ -280,25 +280,25 @@ pub record Turn (dense : Bool) (d : ℕ) (g : List ℕ) (i hi floor : ℕ) (b : 
   pub next : ℕ
   pub others : List Id
   pub step : stepAt dense g i hi ≡ Step.Partner partner next
-  pub order : floor ≤ numberOf partner
-  pub rest : walkFrom dense d g next (partner .hi) (suc (numberOf partner)) ≡ good b others
+  pub order : floor ≤ idNumber partner
+  pub rest : walkFrom dense d g next (partner .hi) (suc (idNumber partner)) ≡ good b others
   pub all : ps ≡ partner ∷ others
 
 module _ (dense : Bool) (g : List ℕ) (i hi floor : ℕ) (b : Bool) (ps : List Id) where
   pub good-turn : (d : ℕ) → walkFrom dense (suc d) g i hi floor ≡ good b ps → Turn dense d g i hi floor b ps
   good-turn d e = go (stepAt dense g i hi) refl
     where
-      low : (p : Id) (n : ℕ) → stepAt dense g i hi ≡ Step.Partner p n → (t : Bool) → leb floor (numberOf p) ≡ t → Turn dense d g i hi floor b ps
+      low : (p : Id) (n : ℕ) → stepAt dense g i hi ≡ Step.Partner p n → (t : Bool) → leb floor (idNumber p) ≡ t → Turn dense d g i hi floor b ps
       low p n q true l =
-          let w = walkFrom dense d g n (p .hi) (suc (numberOf p)) in
+          let w = walkFrom dense d g n (p .hi) (suc (idNumber p)) in
           let (qs, r, all) = cons-good p w b ps (sym (walk-more dense g i hi floor d p n q l) ∙ e) in
-          record { partner = p; next = n; others = qs; step = q; order = leb-true floor (numberOf p) l; rest = r; all = all }
+          record { partner = p; next = n; others = qs; step = q; order = leb-true floor (idNumber p) l; rest = r; all = all }
       low p n q false l =
           let r : bad Fault.Shape ≡ good b ps = sym (walk-low dense g i hi floor d p n q l) ∙ e in
           let z : _≡_ {A = ℕ} 0 1 = cc in absurd (omega arith)
 
       go : (t : Step) → stepAt dense g i hi ≡ t → Turn dense d g i hi floor b ps
-      go (Step.Partner p n) q = low p n q (leb floor (numberOf p)) refl
+      go (Step.Partner p n) q = low p n q (leb floor (idNumber p)) refl
       go (Step.Bad f) q =
           let r : bad f ≡ good b ps = sym (walk-bad dense g i hi floor d f q) ∙ e in
           let z : _≡_ {A = ℕ} 0 1 = cc in absurd (omega arith)
@@ -315,12 +315,12 @@ module _ (dense : Bool) (g : List ℕ) (i hi floor : ℕ) (b : Bool) (ps : List 
 
 -- ---- what is answered
 
-pub answer-good : (dense : Bool) (ps : List Id) → answerOf (good dense ps) ≡ Group.Good (length ps) dense
-unfolding answerOf
+pub answer-good : (dense : Bool) (ps : List Id) → verdictOf (good dense ps) ≡ GroupVerdict.Good (length ps) dense
+unfolding verdictOf
 answer-good dense ps = refl
 
-pub answer-bad : (f : Fault) → answerOf (bad f) ≡ Group.Bad f
-unfolding answerOf
+pub answer-bad : (f : Fault) → verdictOf (bad f) ≡ GroupVerdict.Bad f
+unfolding verdictOf
 answer-bad f = refl
 
 pub partners-good : (dense : Bool) (ps : List Id) → partnersOf (good dense ps) ≡ ps
@@ -332,25 +332,25 @@ unfolding isGood
 good-good dense ps = refl
 
 -- a good answer is that of partners, and their number
-pub answered-good : (w : Partners) (n : ℕ) (dense : Bool) → answerOf w ≡ Group.Good n dense
+pub answered-good : (w : Decoded) (n : ℕ) (dense : Bool) → verdictOf w ≡ GroupVerdict.Good n dense
     → (w ≡ good dense (partnersOf w)) × (isGood w ≡ true) × (length (partnersOf w) ≡ n)
-unfolding answerOf partnersOf isGood
+unfolding verdictOf partnersOf isGood
 answered-good (good b ps) n dense e = let same : b ≡ dense = cc in (ap (λ (t : Bool). good t ps) same, refl, cc)
 answered-good (bad f) n dense e = let z : _≡_ {A = ℕ} 0 1 = cc in absurd (omega arith)
 
 -- and a bad one is that of a fault
-pub answered-bad : (w : Partners) (f : Fault) → answerOf w ≡ Group.Bad f → w ≡ bad f
-unfolding answerOf
+pub answered-bad : (w : Decoded) (f : Fault) → verdictOf w ≡ GroupVerdict.Bad f → w ≡ bad f
+unfolding verdictOf
 answered-bad (good dense ps) f e = let z : _≡_ {A = ℕ} 0 1 = cc in absurd (omega arith)
 answered-bad (bad x) f e = cc
 
 -- what is good has partners
-pub good-is : (w : Partners) → isGood w ≡ true → (dense : Bool) × (w ≡ good dense (partnersOf w))
+pub good-is : (w : Decoded) → isGood w ≡ true → (dense : Bool) × (w ≡ good dense (partnersOf w))
 unfolding isGood partnersOf
 good-is (good dense ps) e = (dense, refl)
 good-is (bad f) e = let z : _≡_ {A = ℕ} 0 1 = cc in absurd (omega arith)
 
-pub not-bad : {w : Partners} {f : Fault} → isGood w ≡ true → w ≡ bad f → ⊥
+pub not-bad : {w : Decoded} {f : Fault} → isGood w ≡ true → w ≡ bad f → ⊥
 unfolding isGood
 not-bad h e = let z : _≡_ {A = ℕ} 0 1 = cc (ap isGood e) in omega arith
 
@@ -361,26 +361,26 @@ length-bytesOf (p ∷ ps) = rw length-append (omega (arith, length-bytesOf ps, l
 
 -- ---- as a check meets them: k of the partners were good, and the answer is that of the rest with k more
 
-counted : ℕ → Group → Group
-counted k (Group.Good n dense) = Group.Good (k + n) dense
-counted k (Group.Bad f) = Group.Bad f
+counted : ℕ → GroupVerdict → GroupVerdict
+counted k (GroupVerdict.Good n dense) = GroupVerdict.Good (k + n) dense
+counted k (GroupVerdict.Bad f) = GroupVerdict.Bad f
 
-counted-none : (r : Group) → counted 0 r ≡ r
+counted-none : (r : GroupVerdict) → counted 0 r ≡ r
 unfolding counted
-counted-none (Group.Good n dense) = ap (λ (t : ℕ). Group.Good t dense) (zero-add n)
-counted-none (Group.Bad f) = refl
+counted-none (GroupVerdict.Good n dense) = ap (λ (t : ℕ). GroupVerdict.Good t dense) (zero-add n)
+counted-none (GroupVerdict.Bad f) = refl
 
-counted-cons : (k : ℕ) (p : Id) (w : Partners) → counted k (answerOf (cons p w)) ≡ counted (k + 1) (answerOf w)
-unfolding counted answerOf cons
-counted-cons k p (good dense ps) = ap (λ (t : ℕ). Group.Good t dense) (omega arith)
+counted-cons : (k : ℕ) (p : Id) (w : Decoded) → counted k (verdictOf (cons p w)) ≡ counted (k + 1) (verdictOf w)
+unfolding counted verdictOf cons
+counted-cons k p (good dense ps) = ap (λ (t : ℕ). GroupVerdict.Good t dense) (omega arith)
 counted-cons k p (bad f) = refl
 
 module _ (dense : Bool) (g : List ℕ) (at degree : ℕ) where
-  abbrev pub answered : Group
-  answered = answerOf (walkFrom dense degree g at 0 0)
+  abbrev pub answered : GroupVerdict
+  answered = verdictOf (walkFrom dense degree g at 0 0)
 
   pub Checked : (i k hi floor : ℕ) → Type 0
-  Checked i k hi floor = answered ≡ counted k (answerOf (walkFrom dense (degree - k) g i hi floor))
+  Checked i k hi floor = answered ≡ counted k (verdictOf (walkFrom dense (degree - k) g i hi floor))
 
   pub check-start : Checked at 0 0 0
   unfolding Checked
@@ -388,45 +388,45 @@ module _ (dense : Bool) (g : List ℕ) (at degree : ℕ) where
 
   module _ (i k hi floor : ℕ) (l : Checked i k hi floor) where
     module _ (h : degree ≤ k) where
-      check-last : answered ≡ counted k (answerOf (walkFrom dense 0 g i hi floor))
+      check-last : answered ≡ counted k (verdictOf (walkFrom dense 0 g i hi floor))
       unfolding Checked
       check-last = let z : degree - k ≡ 0 = omega arith in (rw z at l)
 
-      pub check-end : k ≤ degree → i ≡ length g → answered ≡ Group.Good degree dense
-      unfolding counted answerOf
+      pub check-end : k ≤ degree → i ≡ length g → answered ≡ GroupVerdict.Good degree dense
+      unfolding counted verdictOf
       check-end m e =
-          check-last ∙ ap (λ (w : Partners). counted k (answerOf w)) (walk-end dense g i hi floor e)
-          ∙ ap (λ (t : ℕ). Group.Good t dense) (omega arith)
+          check-last ∙ ap (λ (w : Decoded). counted k (verdictOf w)) (walk-end dense g i hi floor e)
+          ∙ ap (λ (t : ℕ). GroupVerdict.Good t dense) (omega arith)
 
-      pub check-over : (i ≡ length g → ⊥) → answered ≡ Group.Bad Fault.Shape
-      unfolding counted answerOf
-      check-over e = check-last ∙ ap (λ (w : Partners). counted k (answerOf w)) (walk-over dense g i hi floor e)
+      pub check-over : (i ≡ length g → ⊥) → answered ≡ GroupVerdict.Bad Fault.Shape
+      unfolding counted verdictOf
+      check-over e = check-last ∙ ap (λ (w : Decoded). counted k (verdictOf w)) (walk-over dense g i hi floor e)
 
     module _ (h : k < degree) where
-      check-rest : answered ≡ counted k (answerOf (walkFrom dense (suc (degree - (k + 1))) g i hi floor))
+      check-rest : answered ≡ counted k (verdictOf (walkFrom dense (suc (degree - (k + 1))) g i hi floor))
       unfolding Checked
       check-rest = let e : degree - k ≡ suc (degree - (k + 1)) = omega arith in (rw e at l)
 
-      pub check-bad : (f : Fault) → stepAt dense g i hi ≡ Step.Bad f → answered ≡ Group.Bad f
-      unfolding counted answerOf
-      check-bad f e = check-rest ∙ ap (λ (w : Partners). counted k (answerOf w)) (walk-bad dense g i hi floor (degree - (k + 1)) f e)
+      pub check-bad : (f : Fault) → stepAt dense g i hi ≡ Step.Bad f → answered ≡ GroupVerdict.Bad f
+      unfolding counted verdictOf
+      check-bad f e = check-rest ∙ ap (λ (w : Decoded). counted k (verdictOf w)) (walk-bad dense g i hi floor (degree - (k + 1)) f e)
 
       module _ (p : Id) (n : ℕ) (e : stepAt dense g i hi ≡ Step.Partner p n) where
-        pub check-low : leb floor (numberOf p) ≡ false → answered ≡ Group.Bad Fault.Shape
-        unfolding counted answerOf
-        check-low q = check-rest ∙ ap (λ (w : Partners). counted k (answerOf w)) (walk-low dense g i hi floor (degree - (k + 1)) p n e q)
+        pub check-low : leb floor (idNumber p) ≡ false → answered ≡ GroupVerdict.Bad Fault.Shape
+        unfolding counted verdictOf
+        check-low q = check-rest ∙ ap (λ (w : Decoded). counted k (verdictOf w)) (walk-low dense g i hi floor (degree - (k + 1)) p n e q)
 
-        pub check-more : leb floor (numberOf p) ≡ true → Checked n (k + 1) (p .hi) (suc (numberOf p))
+        pub check-more : leb floor (idNumber p) ≡ true → Checked n (k + 1) (p .hi) (suc (idNumber p))
         unfolding Checked
         check-more q =
-            check-rest ∙ ap (λ (w : Partners). counted k (answerOf w)) (walk-more dense g i hi floor (degree - (k + 1)) p n e q)
-            ∙ counted-cons k p (walkFrom dense (degree - (k + 1)) g n (p .hi) (suc (numberOf p)))
+            check-rest ∙ ap (λ (w : Decoded). counted k (verdictOf w)) (walk-more dense g i hi floor (degree - (k + 1)) p n e q)
+            ∙ counted-cons k p (walkFrom dense (degree - (k + 1)) g n (p .hi) (suc (idNumber p)))
 
 pub floor-first : (k : ℕ) (last : Id) → k ≡ 0 → floorOf k last ≡ 0
 unfolding floorOf
 floor-first k last h = simp (eq-eqb k 0 h)
 
-pub floor-next : (k : ℕ) (last : Id) → (k ≡ 0 → ⊥) → floorOf k last ≡ suc (numberOf last)
+pub floor-next : (k : ℕ) (last : Id) → (k ≡ 0 → ⊥) → floorOf k last ≡ suc (idNumber last)
 unfolding floorOf
 floor-next k last h = simp (ne-eqb k 0 h)
 
@@ -436,13 +436,13 @@ unfolding cons
 dense-unfit zero g i hi floor h = walk-over true g i hi floor (λ q. h (omega arith))
 dense-unfit (suc d) g i hi floor h =
     let p = halvesAt g i in
-    let ih = dense-unfit d g (i + 16) (p .hi) (suc (numberOf p)) (λ q. h (omega arith)) in
+    let ih = dense-unfit d g (i + 16) (p .hi) (suc (idNumber p)) (λ q. h (omega arith)) in
     elim (decLe (i + 16) (length g)) [
       | yes r ↦
           let s : stepAt true g i hi ≡ Step.Partner p (i + 16) = step-dense g i hi ∙ dense-good g i r in
-          elim (decLe floor (numberOf p)) [
-            | yes o ↦ walk-more true g i hi floor d p (i + 16) s (le-leb floor (numberOf p) o) ∙ ap (cons p) ih
-            | no o ↦ walk-low true g i hi floor d p (i + 16) s (lt-leb floor (numberOf p) (omega arith))
+          elim (decLe floor (idNumber p)) [
+            | yes o ↦ walk-more true g i hi floor d p (i + 16) s (le-leb floor (idNumber p) o) ∙ ap (cons p) ih
+            | no o ↦ walk-low true g i hi floor d p (i + 16) s (lt-leb floor (idNumber p) (omega arith))
           ]
       | no r ↦ walk-bad true g i hi floor d Fault.Shape (step-dense g i hi ∙ dense-short g i (omega arith))
     ]
@@ -457,9 +457,9 @@ module _ (g : List ℕ) (i hi floor : ℕ) where
     pub partner : Id
     pub upper : partner .hi ≡ hi + v
     pub lower : partner .lo ≡ leAt g n 8
-    pub rest : isGood (walkFrom false d g (n + 8) (hi + v) (suc (numberOf partner))) ≡ true
+    pub rest : isGood (walkFrom false d g (n + 8) (hi + v) (suc (idNumber partner))) ≡ true
     pub bytes : bytesOf (partnersOf (walkFrom false (suc d) g i hi floor))
-        ≡ idBytes partner ++ bytesOf (partnersOf (walkFrom false d g (n + 8) (hi + v) (suc (numberOf partner))))
+        ≡ idBytes partner ++ bytesOf (partnersOf (walkFrom false d g (n + 8) (hi + v) (suc (idNumber partner))))
 
   module _ (d : ℕ) (ok : isGood (walkFrom false (suc d) g i hi floor) ≡ true) where
     pub fill-turn : (v n : ℕ) → varintAt g i ≡ Value v n → Filled d v n
@@ -472,8 +472,8 @@ module _ (g : List ℕ) (i hi floor : ℕ) where
         let place = s .place in
         let same = s .partner in
         let up : p .hi ≡ hi + v = ap (λ (x : Id). x .hi) same in
-        let rest : walkFrom false d g (n + 8) (hi + v) (suc (numberOf p)) ≡ good b (t .others) =
-        sym (ap₂ (λ (m h : ℕ). walkFrom false d g m h (suc (numberOf p))) place up) ∙ t .rest in
+        let rest : walkFrom false d g (n + 8) (hi + v) (suc (idNumber p)) ≡ good b (t .others) =
+        sym (ap₂ (λ (m h : ℕ). walkFrom false d g m h (suc (idNumber p))) place up) ∙ t .rest in
         record {
           fits = s .fits;
           room = s .room;

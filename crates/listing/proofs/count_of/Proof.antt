@@ -1,7 +1,7 @@
 -- `listing::count_of` meets its contract.
 use mathlib.Core.Path.{ap, _∙_}
 use lib.ListN.{length}
-use Rattle.frame.specs.Frame.{countOf}
+use Rattle.frame.specs.Frame.{entryCount}
 use Rattle.frame.specs.Open.Laws.{footed}
 use native.Mathlib.Omega.{arith}
 use Rattle.listing.proofs.count_of.Statement.{statement}
@@ -17,7 +17,7 @@ le16-requires c κs = let f = footed (c .before .before .args .file .now) (c .be
     omega arith
 
 returns : tie.Need-returns
-returns c = c .le16 .ensures .0 ∙ ap countOf (c .before .body-of .ensures)
+returns c = c .le16 .ensures .0 ∙ ap entryCount (c .before .body-of .ensures)
 
 pub count-of-spec : {M : Type 1} → statement M
 count-of-spec = tie.close (tie.spec body-of-requires le16-requires returns)

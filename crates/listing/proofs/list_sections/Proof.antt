@@ -59,11 +59,11 @@ use denote.Triple.Walked.{says, Stays, stay-slice, stay-none-slice, walkOf, goes
 use Rattle.listing.specs.List.{rowIs, planOf, listed}
 use Rattle.listing.specs.List.Laws.{plan-fits, length-listed}
 use Rattle.frame.specs.declared.Row.{Row}
-use Rattle.listing.specs.declared.Plan.{Plan}
+use Rattle.listing.specs.declared.ListPlan.{ListPlan}
 use Rattle.frame.proofs.Row as T
 use Rattle.frame.proofs.Row.Laws as T′
-use Rattle.listing.proofs.Plan as P
-use Rattle.listing.proofs.Plan.Laws as P′
+use Rattle.listing.proofs.ListPlan as P
+use Rattle.listing.proofs.ListPlan.Laws as P′
 use Rattle.listing.proofs.Listed as S
 use Rattle.listing.proofs.Listed.Laws as S′
 use Rattle.listing.proofs.plan_for as plan
@@ -150,10 +150,10 @@ module _ {M : Type 1} (𝓤 : URA M) (H : Heap 𝓤) (A : Atoms 𝓤) (W : Given
   abbrev to-plan : PlanFor 𝓤 H A mem run .Ghost
   to-plan = (((κ, tt), (q, tt), tt, (s, (length ys, tt)), (v ∷ [], (vint w64 (length ys) ∷ [], tt))), tt)
 
-  abbrev Planned : Plan → Type 0
+  abbrev Planned : ListPlan → Type 0
   Planned p = p ≡ planOf (now s) (length ys)
 
-  plan-said : (p : Plan) → ent 𝓤 (ensured 𝓤 H A plan.ended (plan.clauses 𝓤 H A mem run) (κ, tt) (s, (length ys, tt)) tt p) (fact 𝓤 (Planned p))
+  plan-said : (p : ListPlan) → ent 𝓤 (ensured 𝓤 H A plan.ended (plan.clauses 𝓤 H A mem run) (κ, tt) (s, (length ys, tt)) tt p) (fact 𝓤 (Planned p))
   plan-said p = exE 𝓤 _ (λ ws. snd∗ 𝓤 (sem 𝓤 H A (lasts plan.ended (κ, tt) (s, (length ys, tt)) ws)) (fact 𝓤 (Planned p)))
 
   abbrev to-row : ℕ → RowOf 𝓤 H A mem run .Ghost
@@ -163,9 +163,9 @@ module _ {M : Type 1} (𝓤 : URA M) (H : Heap 𝓤) (A : Atoms 𝓤) (W : Given
   row-said i r = exE 𝓤 _ (λ ws. snd∗ 𝓤 (sem 𝓤 H A (lasts row-of.ended (κ, tt) (s, (i, tt)) ws)) (fact 𝓤 (r ≡ rowIs (now s) i)))
 
   -- what is known once `plan_for` has returned p
-  module _ (p : Plan) (planned : Planned p) (is-p : Is P.the-row p (LL.vals P.the-type P′.the-laws p)) where
+  module _ (p : ListPlan) (planned : Planned p) (is-p : Is P.the-row p (LL.vals P.the-type P′.the-laws p)) where
     few : p .n ≤ length ys
-    few = subst (λ (z : Plan). z .n ≤ length ys) (sym planned) (plan-fits (now s) (length ys))
+    few = subst (λ (z : ListPlan). z .n ≤ length ys) (sym planned) (plan-fits (now s) (length ys))
 
     abbrev zs : List Row
     zs = listed (now s) (p .n) ys
@@ -181,7 +181,7 @@ module _ {M : Type 1} (𝓤 : URA M) (H : Heap 𝓤) (A : Atoms 𝓤) (W : Given
     exits gn =
         qed W (‵ (fobs γ (codedHoleys T.the-row .code (heres T.the-row zs))) ∷ ‵ (fbor κ′ (Held T.the-row (length zs) b o γ)) ∷ ‵ (flft κ′ q′) ∷ ‵ (flft κ q) ∷ ‵ Own ∷ []) ∵
         suffices ! _ (ends-at 𝓤 H A f.ended stayed (f.clauses 𝓤 H A mem run) W (((κ, (κ′, tt)), (q, (q′, tt)), tt, x ys, at), tt) answered (p .answer) (tt, (zs, tt)) (tt, (length-listed (now s) (p .n) ys, tt))) $
-        says ! (ap (λ (z : Plan). z .answer) planned, ap (λ (z : Plan). listed (now s) (z .n) ys) planned) $
+        says ! (ap (λ (z : ListPlan). z .answer) planned, ap (λ (z : ListPlan). listed (now s) (z .n) ys) planned) $
         nothing ! $ move ! (3 ∷ 0 ∷ []) $ join ! $ move ! (3 ∷ 0 ∷ []) $ join ! $ frame ! $
         fjoin ! $ pureI ! (at-slice T.the-row (x zs .1 .0) (at .1 .0)) (tt, (tt, tt)) (ap (λ (m : ℕ). sliceVal (b, o) m ∷ []) (sym (length-listed (now s) (p .n) ys)), subst (Room T.the-row) (sym (length-listed (now s) (p .n) ys)) gn) $ fjoin ! $
         nothing ! $ move ! (1 ∷ 0 ∷ []) $ fjoin ! $ move ! (1 ∷ 0 ∷ []) $ fjoin ! $
@@ -321,7 +321,7 @@ module _ {M : Type 1} (𝓤 : URA M) (H : Heap 𝓤) (A : Atoms 𝓤) (W : Given
         qed W (Opened l₀ l₁ l₂ l₃ l₄ l₅ l₆ l₇ l₈ l₉ l₁₀) ∵ exec ! (𝓣 .C) (𝓣 .Λ) (envOf l₀ l₁ l₂ l₃ l₄ l₅ l₆ l₇ l₈ l₉ l₁₀) code.Mir.t-2 (atRet (envOf l₀ l₁ l₂ l₃ l₄ l₅ l₆ l₇ l₈ l₉ l₁₀) Post) $
         use2 W (raw (PlanFor 𝓤 H A mem run .pre to-plan) ⊛ ‵ Own) (asks (length ys) (gn .0)) $ split ! $
         calls-at ! (fmOf 𝓤 H (W .laws) 𝓣) (PlanFor 𝓤 H A mem run) known-plan to-plan (and-then ! (load ! (from ! (stop !)) (look ! 24 refl)) (and-then ! (load ! (from ! (stop !)) (look ! 14 refl)) (no-more !))) (λ u.
-        use1 W (later (some (λ (p : Plan). ((‵ (flft κ q) ⊛ ‵ ftrue) ⊛ ‵ (P.the-row .own p (u ∷ []))) ⊛ raw (ensured 𝓤 H A plan.ended (plan.clauses 𝓤 H A mem run) (κ, tt) (s, (length ys, tt)) tt p)))) (id⊢ 𝓤 _) $ await ! tt $ pick ! (λ p.
+        use1 W (later (some (λ (p : ListPlan). ((‵ (flft κ q) ⊛ ‵ ftrue) ⊛ ‵ (P.the-row .own p (u ∷ []))) ⊛ raw (ensured 𝓤 H A plan.ended (plan.clauses 𝓤 H A mem run) (κ, tt) (s, (length ys, tt)) tt p)))) (id⊢ 𝓤 _) $ await ! tt $ pick ! (λ p.
         split ! $ move ! (1 ∷ []) $ use1 W (raw (fact 𝓤 (Planned p))) (plan-said p) $ heard ! (Planned p) (λ planned. split ! $ move ! (1 ∷ []) $
         peeks ! P.the-row (Is P.the-row) (shows 𝓤 H A P.the-row) p (u ∷ []) (λ is.
         land ! (from ! (stop !)) (init ! 21 refl (LL.lawful P.the-type P′.the-laws 𝓤 H A W .typed p _ is .0)) $

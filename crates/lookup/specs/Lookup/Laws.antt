@@ -9,7 +9,7 @@ use lib.ListN.{length, getD, set, List·getD-eq-default}
 use lib.Seq.{sets}
 use Rattle.codes.specs.Little.{leAt}
 use Rattle.lookup.specs.declared.Looked.{Looked}
-use Rattle.lookup.specs.Lookup.{Outcome, found, absent, refused, logsFrom, markAt, marksFrom, answerOf, partnersLeft, logsLeft, marksLeft}
+use Rattle.lookup.specs.Lookup.{Outcome, found, absent, refused, logsFrom, markAt, marksFrom, lookedOf, partnersLeft, logsLeft, marksLeft}
 
 -- ---- log numbers and dead marks
 
@@ -59,9 +59,9 @@ mark-none s e h =
 -- ---- the outputs
 
 -- where nothing is found, each output is left as it was
-pub unfound-leaves : (x : Outcome) → ((d i c : ℕ) → answerOf x ≡ Looked.Found d i c → ⊥) → (o l m : List ℕ)
+pub unfound-leaves : (x : Outcome) → ((d i c : ℕ) → lookedOf x ≡ Looked.Found d i c → ⊥) → (o l m : List ℕ)
     → (partnersLeft x o ≡ o) × (logsLeft x l ≡ l) × (marksLeft x m ≡ m)
-unfolding answerOf partnersLeft logsLeft marksLeft
+unfolding lookedOf partnersLeft logsLeft marksLeft
 unfound-leaves (found i c ps logs marks) h o l m = absurd (h (length ps) i c refl)
 unfound-leaves (absent c) h o l m = (refl, refl, refl)
 unfound-leaves (refused r) h o l m = (refl, refl, refl)

@@ -31,11 +31,11 @@ refused-requires-2 c κs = search needs
 returns-2 : tie.Need-returns-2 Inv-loop μ-loop
 returns-2 c = let a = c .before .before .before .before .before .args in c .refused2 .ensures ∙ sym (pass-many (a .b .now) (a .limit) (c .before .before .before .le16 .result) (c .before .before .before .le16 .ensures .0) (omega arith))
 
-nothing-requires : tie.Need-nothing-requires Inv-loop μ-loop
-nothing-requires c κs = search needs
+nothing-seen-requires : tie.Need-nothing-seen-requires Inv-loop μ-loop
+nothing-seen-requires c κs = search needs
 
 loop-holds : tie.Need-loop-holds Inv-loop μ-loop
-loop-holds c = let a = c .before .before .before .before .before .args in rw (c .nothing .ensures) (passing-start (a .b .now) (a .limit) (c .before .before .before .le16 .result))
+loop-holds c = let a = c .before .before .before .before .before .args in rw (c .nothing-seen .ensures) (passing-start (a .b .now) (a .limit) (c .before .before .before .le16 .result))
 
 add-if3 : tie.Need-add-if3 Inv-loop μ-loop
 add-if3 c = search needs
@@ -159,7 +159,7 @@ rows-framing-spec =
     returns
     refused-requires-2
     returns-2
-    nothing-requires
+    nothing-seen-requires
     loop-holds
     add-if3
     refused-requires-3

@@ -22,11 +22,11 @@ use Rattle.frame.specs.declared.Framed.{Framed}
 use Rattle.frame.specs.declared.Framing.{Framing}
 use Rattle.frame.specs.Kind as kind
 use Rattle.frame.specs.Kind.Laws.{numberIn, numberAt, slot-found, slot-of}
-use Rattle.frame.specs.Frame.{rowAt, rowsFrom, endFrom, countOf, rowsOf, endOf, rangeOf, nowhere, has, twice, sectionOf, all, nameGood, onceGood, kindsGood, fills, tableGood, codecGood, codecs, rangeGood, ranges, keyCount, edgeCount, bitsOf, recordFrom, framedFrom, tableCheck, rowsCheck}
+use Rattle.frame.specs.Frame.{rowAt, rowsFrom, endFrom, entryCount, rowsOf, endOf, rangeOf, nowhere, has, repeated, sectionOf, all, nameGood, onceGood, kindsGood, fills, tableGood, codecGood, codecs, rangeGood, ranges, keyCount, edgeCount, bitsOf, recordFrom, framedFrom, tableCheck, rowsCheck}
 use Rattle.frame.specs.Frame.Laws.{rows-on, end-on, row-room, rows-none, end-none}
 use Rattle.frame.specs.Open.{framing}
 use Rattle.open_table.specs.declared.Seen.{Seen}
-use Rattle.open_table.specs.Pass.{firstBad, toldBad, unseen, coded, ranged, metAt, placeAt, neededFrom, needed, framedSeen, passed}
+use Rattle.open_table.specs.Pass.{firstBad, toldBad, unseen, coded, ranged, metAt, placeAt, neededFrom, requiredSeen, framedSeen, passed}
 
 and-no : (a : Bool) {b : Bool} → b ≡ false → (a && b) ≡ false
 and-no true e = e
@@ -64,7 +64,7 @@ first-told r bad k small good rest = go (ltb bad kind.mostSections) refl good
 -- of all the rows, rest is still to come: whether kind q was met, and where
 pub record Met (q : ℕ) (rows rest : List Row) (met : Bool) (place : Range) : Type 0 where
   pub there : has q rows ≡ (met || has q rest)
-  pub again : twice q rows ≡ pick met (has q rest) (twice q rest)
+  pub again : repeated q rows ≡ pick met (has q rest) (repeated q rest)
   pub range : sectionOf q rows ≡ pick met place (sectionOf q rest)
   pub alone : pick met place nowhere ≡ place
 
@@ -74,30 +74,30 @@ module _ (q : ℕ) (rows : List Row) where
 
   module _ (r : Row) (rest : List Row) where
     met-other : {met : Bool} {place : Range} → eqb (r .kind) q ≡ false → Met q rows (r ∷ rest) met place → Met q rows rest met place
-    unfolding has twice sectionOf
+    unfolding has repeated sectionOf
     met-other {met} {place} e m = record {
       there = m .there ∙ ap (λ (t : Bool). met || (t || has q rest)) e;
-      again = m .again ∙ ap (λ (t : Bool). pick met (t || has q rest) (pick t (has q rest) (twice q rest))) e;
+      again = m .again ∙ ap (λ (t : Bool). pick met (t || has q rest) (pick t (has q rest) (repeated q rest))) e;
       range = m .range ∙ ap (λ (t : Bool). pick met place (pick t (rangeOf r) (sectionOf q rest))) e;
       alone = m .alone;
     }
 
     module _ (e : eqb (r .kind) q ≡ true) where
       met-here : {place : Range} → Met q rows (r ∷ rest) false place → Met q rows rest true (rangeOf r)
-      unfolding has twice sectionOf
+      unfolding has repeated sectionOf
       met-here m = record {
         there = m .there ∙ ap (λ (t : Bool). t || has q rest) e;
-        again = m .again ∙ ap (λ (t : Bool). pick t (has q rest) (twice q rest)) e;
+        again = m .again ∙ ap (λ (t : Bool). pick t (has q rest) (repeated q rest)) e;
         range = m .range ∙ ap (λ (t : Bool). pick t (rangeOf r) (sectionOf q rest)) e;
         alone = refl;
       }
 
-      met-twice : {place : Range} → Met q rows (r ∷ rest) true place → twice q rows ≡ true
+      met-twice : {place : Range} → Met q rows (r ∷ rest) true place → repeated q rows ≡ true
       unfolding has
       met-twice m = m .again ∙ ap (λ (t : Bool). t || has q rest) e
 
-  met-end : {met : Bool} {place : Range} → Met q rows [] met place → (has q rows ≡ met) × (twice q rows ≡ false) × (sectionOf q rows ≡ place)
-  unfolding has twice sectionOf
+  met-end : {met : Bool} {place : Range} → Met q rows [] met place → (has q rows ≡ met) × (repeated q rows ≡ false) × (sectionOf q rows ≡ place)
+  unfolding has repeated sectionOf
   met-end {met} m = (m .there ∙ or-false met, m .again ∙ go met, m .range ∙ m .alone)
     where
       go : (t : Bool) → pick t false false ≡ false
@@ -180,8 +180,8 @@ module _ (limit : ℕ) (rows : List Row) where
         kinds-are = λ i h. kind-on met places (rw f at (n .kinds-are slot read)) p q i h (n .kinds-are i h);
       }
 
-      pub noted-twice : (met : List Bool) (places : List Range) → metAt met slot ≡ true → Noted limit rows (r ∷ rest) k s met places → twice (r .kind) rows ≡ true
-      noted-twice met places f n = ap (λ (q : ℕ). twice q rows) (sym kind-is) ∙ met-twice (numberAt slot) rows r rest (eq-eqb (r .kind) (numberAt slot) (sym kind-is)) (rw f at (n .kinds-are slot read))
+      pub noted-twice : (met : List Bool) (places : List Range) → metAt met slot ≡ true → Noted limit rows (r ∷ rest) k s met places → repeated (r .kind) rows ≡ true
+      noted-twice met places f n = ap (λ (q : ℕ). repeated q rows) (sym kind-is) ∙ met-twice (numberAt slot) rows r rest (eq-eqb (r .kind) (numberAt slot) (sym kind-is)) (rw f at (n .kinds-are slot read))
 
     -- r is of another kind
     module _ (past : length kind.kinds ≤ kind.slotOf (r .kind)) where
@@ -209,22 +209,22 @@ module _ (limit : ℕ) (rows : List Row) where
 
   -- ---- kinds
 
-  kinds-twice : (qs : List kind.Kind) (k : ℕ) → kind.slotIn k qs < length qs → twice k rows ≡ true → all (onceGood rows) qs ≡ false
+  kinds-twice : (qs : List kind.Kind) (k : ℕ) → kind.slotIn k qs < length qs → repeated k rows ≡ true → all (onceGood rows) qs ≡ false
   unfolding all
   kinds-twice [] k h e = absurd (omega arith)
   kinds-twice (q ∷ qs) k h e = go (eqb k (q .number)) refl h (kinds-twice qs k)
     where
       go : (t : Bool) → eqb k (q .number) ≡ t → pick t 0 (suc (kind.slotIn k qs)) < suc (length qs)
-          → (kind.slotIn k qs < length qs → twice k rows ≡ true → all (onceGood rows) qs ≡ false) → (onceGood rows q && all (onceGood rows) qs) ≡ false
-      go true p h ih = let d : twice (q .number) rows ≡ true = ap (λ (x : ℕ). twice x rows) (sym (eqb-true k (q .number) p)) ∙ e in rw d
+          → (kind.slotIn k qs < length qs → repeated k rows ≡ true → all (onceGood rows) qs ≡ false) → (onceGood rows q && all (onceGood rows) qs) ≡ false
+      go true p h ih = let d : repeated (q .number) rows ≡ true = ap (λ (x : ℕ). repeated x rows) (sym (eqb-true k (q .number) p)) ∙ e in rw d
       go false p h ih = and-no (onceGood rows q) (ih (omega arith) e)
 
-  pub kinds-doubled : (k : ℕ) → kind.slotOf k < length kind.kinds → twice k rows ≡ true → kindsGood rows ≡ false
+  pub kinds-doubled : (k : ℕ) → kind.slotOf k < length kind.kinds → repeated k rows ≡ true → kindsGood rows ≡ false
   unfolding kindsGood
   kinds-doubled k h e = kinds-twice kind.kinds k h e
 
   kinds-once : (qs : List kind.Kind) (met : List Bool) (i : ℕ)
-      → ((j : ℕ) → j < length qs → (has (numberIn qs j) rows ≡ metAt met (i + j)) × (twice (numberIn qs j) rows ≡ false))
+      → ((j : ℕ) → j < length qs → (has (numberIn qs j) rows ≡ metAt met (i + j)) × (repeated (numberIn qs j) rows ≡ false))
       → all (onceGood rows) qs ≡ neededFrom qs met i
   unfolding all neededFrom
   kinds-once [] met i h = refl
@@ -237,7 +237,7 @@ module _ (limit : ℕ) (rows : List Row) where
   -- ---- a table that was passed to its end
 
   module _ (k : ℕ) (s : Seen) (met : List Bool) (places : List Range) (n : Noted limit rows [] k s met places) where
-    end-kinds : kindsGood rows ≡ needed kind.kinds met
+    end-kinds : kindsGood rows ≡ requiredSeen kind.kinds met
     unfolding kindsGood
     end-kinds = kinds-once kind.kinds met 0 (λ j h. let m = met-end (numberAt j) rows (n .kinds-are j h) in rw zero-add (m .0, m .1))
 
@@ -252,7 +252,7 @@ module _ (limit : ℕ) (rows : List Row) where
     end-framed : (b : List ℕ) → framedSeen b met places (s .streams) ≡ framedFrom b rows
     unfolding framedSeen framedFrom recordFrom has
     end-framed b =
-        let at : (i : ℕ) → i < length kind.kinds → (has (numberAt i) rows ≡ metAt met i) × (twice (numberAt i) rows ≡ false) × (sectionOf (numberAt i) rows ≡ placeAt places i) =
+        let at : (i : ℕ) → i < length kind.kinds → (has (numberAt i) rows ≡ metAt met i) × (repeated (numberAt i) rows ≡ false) × (sectionOf (numberAt i) rows ≡ placeAt places i) =
         λ i h. met-end (numberAt i) rows (n .kinds-are i h) in
         let keys = at (kind.slotOf kind.keys) (omega arith) in
         let offsets = at (kind.slotOf kind.offsets) (omega arith) in
@@ -333,7 +333,7 @@ module _ (b : List ℕ) (limit : ℕ) where
   unfolding rowsCheck framing
   untabled e = rw e
 
-  module _ (count : ℕ) (c : count ≡ countOf b) where
+  module _ (count : ℕ) (c : count ≡ entryCount b) where
     pub pass-few : count < 1 → answer ≡ Framing.Refused Refusal.Table
     unfolding tableGood
     pass-few h = untabled (rw (← c) (simp (lt-leb 1 count h)))
@@ -346,25 +346,25 @@ module _ (b : List ℕ) (limit : ℕ) where
     unfolding tableGood endOf
     pass-unfilled h =
         let no : fills b ≡ false = rw (← c) (ne-eqb (endFrom count b 2 + kind.countsSize) (length b) h) in
-        untabled (and-no (leb 1 (countOf b)) (and-no (leb (countOf b) kind.mostSections) (rw no)))
+        untabled (and-no (leb 1 (entryCount b)) (and-no (leb (entryCount b) kind.mostSections) (rw no)))
 
     -- a bad name
     pub pass-unnamed : all nameGood (rowsFrom count b 2) ≡ false → answer ≡ Framing.Refused Refusal.Table
     unfolding tableGood rowsOf
     pass-unnamed h =
         let no : all nameGood (rowsOf b) ≡ false = rw (← c) h in
-        untabled (and-no (leb 1 (countOf b)) (and-no (leb (countOf b) kind.mostSections) (and-no (fills b) (rw no))))
+        untabled (and-no (leb 1 (entryCount b)) (and-no (leb (entryCount b) kind.mostSections) (and-no (fills b) (rw no))))
 
     -- a kind that is read stands there again
     pub pass-doubled : kindsGood (rowsFrom count b 2) ≡ false → answer ≡ Framing.Refused Refusal.Table
     unfolding tableGood rowsOf
     pass-doubled h =
         let no : kindsGood (rowsOf b) ≡ false = rw (← c) h in
-        untabled (and-no (leb 1 (countOf b)) (and-no (leb (countOf b) kind.mostSections) (and-no (fills b) (and-no (all nameGood (rowsOf b)) no))))
+        untabled (and-no (leb 1 (entryCount b)) (and-no (leb (entryCount b) kind.mostSections) (and-no (fills b) (and-no (all nameGood (rowsOf b)) no))))
 
     -- all entries are passed
     module _ (some : 1 ≤ count) (most : count ≤ kind.mostSections) (filled : endFrom count b 2 + kind.countsSize ≡ length b) where
-      table-is : {k : ℕ} {s : Seen} {met : List Bool} {places : List Range} → Noted limit (rowsFrom count b 2) [] k s met places → tableGood b ≡ needed kind.kinds met
+      table-is : {k : ℕ} {s : Seen} {met : List Bool} {places : List Range} → Noted limit (rowsFrom count b 2) [] k s met places → tableGood b ≡ requiredSeen kind.kinds met
       unfolding tableGood endOf rowsOf all
       table-is {k} {s} {met} {places} n =
           let names : all nameGood (rowsFrom count b 2) ≡ true = n .names in
@@ -404,7 +404,7 @@ module _ (b : List ℕ) (limit count : ℕ) where
 
   module _ (k i : ℕ) (s : Seen) (met : List Bool) (places : List Range) (n : Passing k i s met places) (lt : k < count) (most : count ≤ kind.mostSections) where
     -- the next entry would end after the body
-    pub passing-cut : length b < i + kind.entrySize → count ≡ countOf b → answer b limit ≡ Framing.Refused Refusal.Table
+    pub passing-cut : length b < i + kind.entrySize → count ≡ entryCount b → answer b limit ≡ Framing.Refused Refusal.Table
     passing-cut h c =
         let room = row-room b count i k lt in
         let end = n .ends in
@@ -417,7 +417,7 @@ module _ (b : List ℕ) (limit count : ℕ) where
       here : Noted limit (rowsFrom count b 2) (r ∷ rest) k s met places
       here = rw (rows-on b count i k lt r e) at (n .noted)
 
-      pub passing-long : kind.longestName < r .namelen → count ≡ countOf b → answer b limit ≡ Framing.Refused Refusal.Table
+      pub passing-long : kind.longestName < r .namelen → count ≡ entryCount b → answer b limit ≡ Framing.Refused Refusal.Table
       passing-long h c = pass-unnamed b limit count c (noted-unnamed limit (rowsFrom count b 2) r rest k (omega arith) s (name-long r h) here)
 
       module _ (short : r .namelen ≤ kind.longestName) where
@@ -443,7 +443,7 @@ module _ (b : List ℕ) (limit count : ℕ) where
               passing-on (length-set met slot true) (length-set places slot (rangeOf r)) (noted-read limit (rowsFrom count b 2) r rest k (omega arith) s slot (sym at) read met places (named ∙ g .0) (not-true _ (g .1)) (omega arith) (omega arith) here)
 
           -- it has a name, or was met
-          pub passing-stale : (eqb (r .namelen) 0 && not (metAt met slot)) ≡ false → count ≡ countOf b → answer b limit ≡ Framing.Refused Refusal.Table
+          pub passing-stale : (eqb (r .namelen) 0 && not (metAt met slot)) ≡ false → count ≡ entryCount b → answer b limit ≡ Framing.Refused Refusal.Table
           passing-stale f c = go (eqb (r .namelen) 0) refl (metAt met slot) refl f
             where
               go : (x : Bool) → eqb (r .namelen) 0 ≡ x → (y : Bool) → metAt met slot ≡ y → (x && not y) ≡ false → answer b limit ≡ Framing.Refused Refusal.Table
@@ -454,7 +454,7 @@ module _ (b : List ℕ) (limit count : ℕ) where
               go true g false m f = let z : _≡_ {A = ℕ} 0 1 = cc in absurd (omega arith)
 
   -- all entries are passed
-  module _ (k i : ℕ) (s : Seen) (met : List Bool) (places : List Range) (n : Passing k i s met places) (all : count ≤ k) (c : count ≡ countOf b) where
+  module _ (k i : ℕ) (s : Seen) (met : List Bool) (places : List Range) (n : Passing k i s met places) (all : count ≤ k) (c : count ≡ entryCount b) where
     end-is : i ≡ endFrom count b 2
     end-is = sym (end-none b count i k all) ∙ n .ends
 
@@ -468,11 +468,11 @@ module _ (b : List ℕ) (limit count : ℕ) where
 -- ---- what was passed, as the code judges it
 
 module _ (met : List Bool) (s : Seen) (x : Framed) where
-  pub judged-missing : needed kind.kinds met ≡ false → framing (passed met s) x ≡ Framing.Refused Refusal.Table
+  pub judged-missing : requiredSeen kind.kinds met ≡ false → framing (passed met s) x ≡ Framing.Refused Refusal.Table
   unfolding passed framing
   judged-missing e = rw e
 
-  module _ (e : needed kind.kinds met ≡ true) where
+  module _ (e : requiredSeen kind.kinds met ≡ true) where
     pub judged-codec : s .codec < kind.mostSections → framing (passed met s) x ≡ Framing.Refused (Refusal.Codec (s .codec))
     unfolding passed framing toldBad
     judged-codec h = rw (e, lt-ltb (s .codec) kind.mostSections h)

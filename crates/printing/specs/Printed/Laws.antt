@@ -11,11 +11,11 @@ use lib.Dec.{ltb, eqb}
 use borrow.Author.Tests.{lt-ltb, le-ltb}
 use Rattle.base.specs.Pick.{pick}
 use Rattle.batch.specs.declared.Edge.{Edge}
-use Rattle.batch.specs.Batch.{edgeAt, edgesAt, edgesOf, countOf, place}
+use Rattle.batch.specs.Batch.{edgeAt, edgesAt, edgesOf, recordCount, place}
 use Rattle.text.specs.Text.Laws.{length-decimal, length-hex}
-use Rattle.printing.specs.Printed.{lifeEnd, edgeLine, edgeLines, forwardWord, inverseWord, firstLine, deadIn, okLine, printed, lineAt, linesFrom, lineCount}
+use Rattle.printing.specs.Printed.{lifeEnd, edgeLine, edgeLines, forwardWord, inverseWord, firstLine, deadIn, okLine, printed, lineAt, linesFrom, lineRoom, lineCount}
 
--- ---- 128 bytes are room for any line
+-- ---- there is room for any line
 
 length-life : (dead : Bool) → length (lifeEnd dead) ≡ 6
 length-life true = refl
@@ -25,7 +25,7 @@ length-direction : (t : Bool) → length (pick t inverseWord forwardWord) ≡ 23
 length-direction true = refl
 length-direction false = refl
 
-pub edge-room : (e : Edge) → length (edgeLine e) ≤ 128
+pub edge-room : (e : Edge) → length (edgeLine e) ≤ lineRoom
 unfolding edgeLine
 edge-room e =
     let a = length-hex (e .key .hi) in
@@ -36,7 +36,7 @@ edge-room e =
     let z = length-life (e .dead) in
     simp length-append (omega arith)
 
-pub first-room : (direction minor keys edges dead : ℕ) → length (firstLine direction minor keys edges dead) ≤ 128
+pub first-room : (direction minor keys edges dead : ℕ) → length (firstLine direction minor keys edges dead) ≤ lineRoom
 unfolding firstLine
 first-room direction minor keys edges dead =
     let a = length-direction (eqb direction 1) in
@@ -57,31 +57,31 @@ module _ (s : List ℕ) where
   unfolding deadIn edgesAt
   dead-none e = refl
 
-  pub dead-all : deadIn (edgesAt (countOf s) s 0) ≡ deadIn (edgesOf s)
+  pub dead-all : deadIn (edgesAt (recordCount s) s 0) ≡ deadIn (edgesOf s)
   unfolding edgesOf
   dead-all = refl
 
 -- ---- the lines
 
 module _ (minor keys : ℕ) (s : List ℕ) where
-  pub line-first : lineAt minor keys s 0 ≡ firstLine (getD s 1 0) minor keys (countOf s) (deadIn (edgesOf s))
+  pub line-first : lineAt minor keys s 0 ≡ firstLine (getD s 1 0) minor keys (recordCount s) (deadIn (edgesOf s))
   unfolding lineAt
   line-first = refl
 
-  pub line-edge : (e : ℕ) → e < countOf s → lineAt minor keys s (suc e) ≡ edgeLine (edgeAt s (place e))
+  pub line-edge : (e : ℕ) → e < recordCount s → lineAt minor keys s (suc e) ≡ edgeLine (edgeAt s (place e))
   unfolding lineAt
-  line-edge e h = rw (lt-ltb e (countOf s) h)
+  line-edge e h = rw (lt-ltb e (recordCount s) h)
 
-  pub line-ok : (e : ℕ) → countOf s ≤ e → lineAt minor keys s (suc e) ≡ okLine
+  pub line-ok : (e : ℕ) → recordCount s ≤ e → lineAt minor keys s (suc e) ≡ okLine
   unfolding lineAt
-  line-ok e h = rw (le-ltb e (countOf s) h)
+  line-ok e h = rw (le-ltb e (recordCount s) h)
 
-  pub line-room : (k : ℕ) → length (lineAt minor keys s k) ≤ 128
+  pub line-room : (k : ℕ) → length (lineAt minor keys s k) ≤ lineRoom
   unfolding lineAt
-  line-room zero = first-room (getD s 1 0) minor keys (countOf s) (deadIn (edgesOf s))
-  line-room (suc e) = go (ltb e (countOf s))
+  line-room zero = first-room (getD s 1 0) minor keys (recordCount s) (deadIn (edgesOf s))
+  line-room (suc e) = go (ltb e (recordCount s))
     where
-      go : (t : Bool) → length (pick t (edgeLine (edgeAt s (place e))) okLine) ≤ 128
+      go : (t : Bool) → length (pick t (edgeLine (edgeAt s (place e))) okLine) ≤ lineRoom
       go true = edge-room (edgeAt s (place e))
       go false = omega arith
 
@@ -99,7 +99,7 @@ module _ (minor keys : ℕ) (s : List ℕ) where
       ∙ ap (λ (t : List ℕ). lineAt minor keys s k ++ t) (ap (λ (j : ℕ). linesFrom minor keys s n (suc k) ++ lineAt minor keys s j) place ∙ lines-more n (suc k))
 
   -- the lines of d edges from edge e on, the last, and `ok`
-  lines-edges : (d e : ℕ) → e + d ≡ countOf s → linesFrom minor keys s (suc d) (suc e) ≡ edgeLines (edgesAt d s e) ++ okLine
+  lines-edges : (d e : ℕ) → e + d ≡ recordCount s → linesFrom minor keys s (suc d) (suc e) ≡ edgeLines (edgesAt d s e) ++ okLine
   unfolding linesFrom edgeLines edgesAt
   lines-edges zero e h = ap (λ (t : List ℕ). t ++ []) (line-ok e (omega arith)) ∙ append-nil okLine
   lines-edges (suc d) e h =
@@ -110,6 +110,6 @@ module _ (minor keys : ℕ) (s : List ℕ) where
   pub lines-all : linesFrom minor keys s (lineCount s) 0 ≡ printed minor keys s
   unfolding linesFrom printed edgesOf
   lines-all =
-      let count : countOf s + 2 ≡ suc (suc (countOf s)) = omega arith in
+      let count : recordCount s + 2 ≡ suc (suc (recordCount s)) = omega arith in
       ap (λ (n : ℕ). linesFrom minor keys s n 0) count
-      ∙ ap₂ (λ (x y : List ℕ). x ++ y) line-first (lines-edges (countOf s) 0 (omega arith))
+      ∙ ap₂ (λ (x y : List ℕ). x ++ y) line-first (lines-edges (recordCount s) 0 (omega arith))

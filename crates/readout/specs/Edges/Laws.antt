@@ -13,12 +13,12 @@ use Rattle.base.specs.Over.{part}
 use Rattle.base.specs.Put.{Put, Left, start, is, put, room, end}
 use Rattle.codes.specs.declared.ids.Id.{Id}
 use Rattle.codes.specs.Little.{leAt}
-use Rattle.codes.specs.Ids.{numberOf, halvesAt}
+use Rattle.codes.specs.Ids.{idNumber, halvesAt}
 use Rattle.frame.specs.Open.{offsetAt}
-use Rattle.index.specs.Order.{Offsets}
+use Rattle.index.specs.Order.{OffsetsRise}
 use Rattle.group.specs.declared.fault.Fault.{Fault}
 use Rattle.group.specs.declared.split.Step.{Step}
-use Rattle.group.specs.Group.{Partners, good, stepAt, walkFrom, groupOf, isGood, partnersOf}
+use Rattle.group.specs.Group.{Decoded, good, stepAt, walkFrom, groupOf, isGood, partnersOf}
 use Rattle.group.specs.Group.Laws.{walk-end, walk-over, walk-bad, Turn, good-turn, good-is, good-good, partners-good, not-bad}
 use Rattle.lookup.specs.Lookup.{markAt}
 use Rattle.batch.specs.declared.Edge.{Edge}
@@ -42,16 +42,16 @@ length-edges logs dead key e (p ∷ ps) = ap suc (length-edges logs dead key (e 
 
 module _ (dense : Bool) (g : List ℕ) (i hi floor d : ℕ) (ok : isGood (walkFrom dense (suc d) g i hi floor) ≡ true) where
   pub walk-turn : (p : Id) (n : ℕ) → stepAt dense g i hi ≡ Step.Partner p n
-      → (isGood (walkFrom dense d g n (p .hi) (suc (numberOf p))) ≡ true)
-      × (partnersOf (walkFrom dense (suc d) g i hi floor) ≡ p ∷ partnersOf (walkFrom dense d g n (p .hi) (suc (numberOf p))))
+      → (isGood (walkFrom dense d g n (p .hi) (suc (idNumber p))) ≡ true)
+      × (partnersOf (walkFrom dense (suc d) g i hi floor) ≡ p ∷ partnersOf (walkFrom dense d g n (p .hi) (suc (idNumber p))))
   walk-turn p n q =
       let (b, is) = good-is (walkFrom dense (suc d) g i hi floor) ok in
       let t = good-turn dense g i hi floor b (partnersOf (walkFrom dense (suc d) g i hi floor)) d is in
       let same : Step.Partner (t .partner) (t .next) ≡ Step.Partner p n = sym (t .step) ∙ q in
       let who : t .partner ≡ p = cc in
       let next : t .next ≡ n = cc in
-      let rest : walkFrom dense d g n (p .hi) (suc (numberOf p)) ≡ good b (t .others) =
-      sym (ap₂ (λ (x : Id) (y : ℕ). walkFrom dense d g y (x .hi) (suc (numberOf x))) who next) ∙ t .rest in
+      let rest : walkFrom dense d g n (p .hi) (suc (idNumber p)) ≡ good b (t .others) =
+      sym (ap₂ (λ (x : Id) (y : ℕ). walkFrom dense d g y (x .hi) (suc (idNumber x))) who next) ∙ t .rest in
       (ap isGood rest ∙ good-good b (t .others), t .all ∙ ap₂ (λ (x : Id) (y : List Id). x ∷ y) who (sym (ap partnersOf rest ∙ partners-good b (t .others))))
 
   pub walk-not-bad : (f : Fault) → stepAt dense g i hi ≡ Step.Bad f → ⊥
@@ -104,7 +104,7 @@ module _ (dense : Bool) (g : List ℕ) (at d : ℕ) (key : Id) (logs dead : List
         this = edgeOf logs dead key p (first + k)
 
         abbrev after : List ℕ
-        after = rest n (k + 1) (p .hi) (suc (numberOf p))
+        after = rest n (k + 1) (p .hi) (suc (idNumber p))
 
         todo : Left out (place (first + k)) (edgeBytes this ++ after) o (place first) groupRecords
         unfolding edgesFrom recordsOf this
@@ -114,7 +114,7 @@ module _ (dense : Bool) (g : List ℕ) (at d : ℕ) (key : Id) (logs dead : List
             is
             (ap (λ (x : ℕ). recordsOf (edgesFrom logs dead key (first + k) (partnersOf (walkFrom dense x g i hi (h .floor))))) more
             ∙ ap (λ (x : List Id). recordsOf (edgesFrom logs dead key (first + k) x)) (t .1)
-            ∙ ap (λ (x : ℕ). edgeBytes (edgeOf logs dead key p (first + k)) ++ recordsOf (edgesFrom logs dead key x (partnersOf (walkFrom dense (d - (k + 1)) g n (p .hi) (suc (numberOf p)))))) next)
+            ∙ ap (λ (x : ℕ). edgeBytes (edgeOf logs dead key p (first + k)) ++ recordsOf (edgesFrom logs dead key x (partnersOf (walkFrom dense (d - (k + 1)) g n (p .hi) (suc (idNumber p)))))) next)
             (h .left)
 
         pub giving-room : place first + length groupRecords ≤ length o → place (first + k) + 41 ≤ length out
@@ -129,7 +129,7 @@ module _ (dense : Bool) (g : List ℕ) (at d : ℕ) (key : Id) (logs dead : List
             record { place = omega arith; bytes = w ∙ ap (λ (x : Edge). sets out (place (first + k)) (edgeBytes x)) e } in
             record {
               most = omega arith;
-              floor = suc (numberOf p);
+              floor = suc (idNumber p);
               good = t .0;
               left = put todo write;
             }
@@ -150,7 +150,7 @@ pub record Readable (keys p o : List ℕ) (w : ℕ) (logs : List ℕ) (n : ℕ) 
   pub few : n ≤ 16777216
   pub keybytes : n * 16 ≤ length keys
   pub offsetbytes : (n + 1) * w ≤ length o
-  pub rises : Offsets o w n (length p)
+  pub rises : OffsetsRise o w n (length p)
   pub good : groupsFrom p o w n 0 ≡ Check.Fine
   pub edges : degreesFrom p o w n 0 ≤ 67108864
   pub logbytes : 8 * degreesFrom p o w n 0 ≤ length logs
@@ -207,7 +207,7 @@ module _ (keys p o : List ℕ) (w : ℕ) (logs dead : List ℕ) where
           reading-good = rw this-group at (check-good i (groupIn p o w i) (good-parts .0))
 
           pub reading-few : first + length (partnersOf (groupOf (part p a e))) ≤ degreesFrom p o w n 0
-          reading-few = let s = sums in let z : degreeIn keys p o w logs dead i ≡ length (partnersOf (groupOf (part p a e))) = ap (λ (x : Partners). length (partnersOf x)) this-group in omega arith
+          reading-few = let s = sums in let z : degreeIn keys p o w logs dead i ≡ length (partnersOf (groupOf (part p a e))) = ap (λ (x : Decoded). length (partnersOf x)) this-group in omega arith
 
           module _ {key : Id} (k : key ≡ halvesAt keys (i * 16)) where
             abbrev these : List Edge
@@ -221,7 +221,7 @@ module _ (keys p o : List ℕ) (w : ℕ) (logs dead : List ℕ) where
             todo-group =
                 is
                 (ap (λ (x : ℕ). recordsOf (readFrom keys p o w logs dead x i first)) now-left
-                ∙ ap₂ (λ (x : Partners) (y : Id). recordsOf (edgesFrom logs dead y first (partnersOf x) ++ readFrom keys p o w logs dead (n - (i + 1)) (i + 1) (first + length (partnersOf x)))) this-group (sym k)
+                ∙ ap₂ (λ (x : Decoded) (y : Id). recordsOf (edgesFrom logs dead y first (partnersOf x) ++ readFrom keys p o w logs dead (n - (i + 1)) (i + 1) (first + length (partnersOf x)))) this-group (sym k)
                 ∙ records-append these (readFrom keys p o w logs dead (n - (i + 1)) (i + 1) (first + length (partnersOf (groupOf (part p a e))))))
                 (h .left)
 
@@ -231,7 +231,7 @@ module _ (keys p o : List ℕ) (w : ℕ) (logs dead : List ℕ) where
             pub reading-on : {out′ : List ℕ} {next : ℕ} → next ≡ first + length (partnersOf (groupOf (part p a e))) → out′ ≡ sets out (place first) (recordsOf these) → Reading out′ (i + 1) e next
             reading-on {out′} {next} m v =
                 let s = sums in
-                let z : degreeIn keys p o w logs dead i ≡ length (partnersOf (groupOf (part p a e))) = ap (λ (x : Partners). length (partnersOf x)) this-group in
+                let z : degreeIn keys p o w logs dead i ≡ length (partnersOf (groupOf (part p a e))) = ap (λ (x : Decoded). length (partnersOf x)) this-group in
                 let len = length-records these in
                 let count = length-edges logs dead key first (partnersOf (groupOf (part p a e))) in
                 let write : Put out out′ (place first) (place next) (recordsOf these) = record { place = omega arith; bytes = v } in

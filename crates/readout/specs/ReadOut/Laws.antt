@@ -34,7 +34,7 @@ use Rattle.full_check.specs.Checked.{checked-opened, checked-fine, full-opened}
 use Rattle.readout.specs.declared.ReadOut.{ReadOut}
 use Rattle.readout.specs.Edges.{readFrom, edgesIn}
 use Rattle.readout.specs.Edges.Laws.{length-read, Readable}
-use Rattle.readout.specs.ReadOut.{headingIn, batchIn, neededFor, readCheck, answerOf, leaves, readOutOf, readOutLeaves}
+use Rattle.readout.specs.ReadOut.{headingIn, batchIn, neededFor, readCheck, readAnswer, readLeaves, readOutOf, readOutLeaves}
 
 -- ---- a file that the full check passes
 
@@ -126,8 +126,8 @@ abbrev pub Reads : List ℕ → List ℕ → ReadOut → List ℕ → Type 0
 Reads f o r out = (r ≡ readOutOf f (length o)) × (out ≡ readOutLeaves f o)
 
 reads-refused : (f o : List ℕ) (r : Refusal) → readCheck f (length o) ≡ Check.Bad r → Reads f o (ReadOut.Refused r) o
-unfolding readOutOf readOutLeaves answerOf leaves
-reads-refused f o r e = (sym (ap (λ (c : Check). answerOf c (neededFor f)) e), sym (ap (λ (c : Check). leaves c (batchIn f) o) e))
+unfolding readOutOf readOutLeaves readAnswer readLeaves
+reads-refused f o r e = (sym (ap (λ (c : Check). readAnswer c (neededFor f)) e), sym (ap (λ (c : Check). readLeaves c (batchIn f) o) e))
 
 module _ (f o : List ℕ) where
   pub reads-bad : (r : Refusal) → fullCheck f ≡ Check.Bad r → Reads f o (ReadOut.Refused r) o
@@ -152,26 +152,26 @@ module _ (f o : List ℕ) where
 
     pub reads-all : 50 + 41 * p .edgecount ≤ length o → {out : List ℕ} → out ≡ over (batchBytes (headingIn f) (edgesIn (knownOf f p))) o
         → Reads f o (ReadOut.Done (50 + 41 * p .edgecount)) out
-    unfolding readOutOf readOutLeaves answerOf leaves batchIn
+    unfolding readOutOf readOutLeaves readAnswer readLeaves batchIn
     reads-all h q =
         let c = rest false (le-ltb _ _ h) in
-        (sym (ap₂ answerOf c needs), q ∙ sym (ap₂ (λ (x : Check) (y : Opened). leaves x (batchBytes (headingIn f) (edgesIn (knownOf f y))) o) c same))
+        (sym (ap₂ readAnswer c needs), q ∙ sym (ap₂ (λ (x : Check) (y : Opened). readLeaves x (batchBytes (headingIn f) (edgesIn (knownOf f y))) o) c same))
 
 -- a refusal leaves the output as it was
-pub refused-leaves : (f o : List ℕ) (q : Refusal) → readOutOf f (length o) ≡ ReadOut.Refused q → readOutLeaves f o ≡ o
-unfolding readOutOf readOutLeaves answerOf leaves
-refused-leaves f o q = go (readCheck f (length o))
+pub read-out-refused-leaves : (f o : List ℕ) (q : Refusal) → readOutOf f (length o) ≡ ReadOut.Refused q → readOutLeaves f o ≡ o
+unfolding readOutOf readOutLeaves readAnswer readLeaves
+read-out-refused-leaves f o q = go (readCheck f (length o))
   where
-    go : (c : Check) → answerOf c (neededFor f) ≡ ReadOut.Refused q → leaves c (batchIn f) o ≡ o
+    go : (c : Check) → readAnswer c (neededFor f) ≡ ReadOut.Refused q → readLeaves c (batchIn f) o ≡ o
     go Check.Fine e = let z : _≡_ {A = ℕ} 0 1 = cc in absurd (omega arith)
     go (Check.Bad r) e = refl
 
 -- a read-out that is done wrote what it needs, within the room
 pub done-room : (f : List ℕ) (room n : ℕ) → readOutOf f room ≡ ReadOut.Done n → (n ≡ neededFor f) × (n ≤ room)
-unfolding readOutOf readCheck answerOf
+unfolding readOutOf readCheck readAnswer
 done-room f room n = go (readCheck f room) refl
   where
-    go : (c : Check) → readCheck f room ≡ c → answerOf c (neededFor f) ≡ ReadOut.Done n → (n ≡ neededFor f) × (n ≤ room)
+    go : (c : Check) → readCheck f room ≡ c → readAnswer c (neededFor f) ≡ ReadOut.Done n → (n ≡ neededFor f) × (n ≤ room)
     go Check.Fine p e =
         let same : n ≡ neededFor f = cc in
         let fits = ltb-false room (neededFor f) (refuse-fine (Refusal.Room (neededFor f)) _ .0 (fine-parts (fullCheck f) _ p .1)) in
@@ -180,13 +180,13 @@ done-room f room n = go (readCheck f room) refl
 
 -- a refusal other than 20 is the read-out's exactly if it is the full check's
 pub read-full : (f : List ℕ) (room : ℕ) (r : Refusal) → (numberOf r ≡ 20 → ⊥) → (readOutOf f room ≡ ReadOut.Refused r) ↔ (fullCheck f ≡ Check.Bad r)
-unfolding readOutOf readCheck answerOf
+unfolding readOutOf readCheck readAnswer
 read-full f room r n =
     let rule : Check = refuse (Refusal.Room (neededFor f)) (ltb room (neededFor f)) in
     let a = by-first (fullCheck f) rule r (refuse-own (Refusal.Room (neededFor f)) r (ltb room (neededFor f)) (λ e. n (sym e))) in
-    (λ e. a .0 (go (fullCheck f ⊳ rule) e), λ e. ap (λ (c : Check). answerOf c (neededFor f)) (a .1 e))
+    (λ e. a .0 (go (fullCheck f ⊳ rule) e), λ e. ap (λ (c : Check). readAnswer c (neededFor f)) (a .1 e))
   where
-    go : (c : Check) → answerOf c (neededFor f) ≡ ReadOut.Refused r → c ≡ Check.Bad r
+    go : (c : Check) → readAnswer c (neededFor f) ≡ ReadOut.Refused r → c ≡ Check.Bad r
     go Check.Fine e = let z : _≡_ {A = ℕ} 0 1 = cc in absurd (omega arith)
     go (Check.Bad q) e = let same : q ≡ r = cc in ap Check.Bad same
 

@@ -5,11 +5,11 @@ use mathlib.Core.Bool.{true, _&&_}
 use lib.Dec.{leb}
 use borrow.Author.Tests.{leb-true}
 use Rattle.refusal.specs.declared.Refusal.{Refusal}
-use Rattle.refusal.specs.Refusal.{numberOf, placeOf, besideOf, last, refusalTold}
+use Rattle.refusal.specs.Refusal.{numberOf, placeOf, besideOf, lastNumber, refusalTold}
 use Rattle.refusal.specs.Check.Laws.{and-parts}
 
 -- a number of the table
-numbered : (r : Refusal) → (leb 1 (numberOf r) && leb (numberOf r) last) ≡ true
+numbered : (r : Refusal) → (leb 1 (numberOf r) && leb (numberOf r) lastNumber) ≡ true
 -- numbered: from refusals.txt
 numbered Refusal.Size = refl
 numbered Refusal.Magic = refl
@@ -42,10 +42,10 @@ numbered Refusal.Bounds = refl
 
 -- a refusal's number is 1 to the last
 pub number-some : (r : Refusal) → 1 ≤ numberOf r
-number-some r = leb-true 1 (numberOf r) (and-parts (leb 1 (numberOf r)) (leb (numberOf r) last) (numbered r) .0)
+number-some r = leb-true 1 (numberOf r) (and-parts (leb 1 (numberOf r)) (leb (numberOf r) lastNumber) (numbered r) .0)
 
-pub number-most : (r : Refusal) → numberOf r ≤ last
-number-most r = leb-true (numberOf r) last (and-parts (leb 1 (numberOf r)) (leb (numberOf r) last) (numbered r) .1)
+pub number-most : (r : Refusal) → numberOf r ≤ lastNumber
+number-most r = leb-true (numberOf r) lastNumber (and-parts (leb 1 (numberOf r)) (leb (numberOf r) lastNumber) (numbered r) .1)
 
 -- a refusal's number and places tell that refusal
 pub told-back : (r : Refusal) → refusalTold (numberOf r) (placeOf r) (besideOf r) ≡ r

@@ -1,4 +1,5 @@
 use mathlib.Core.Path.{sym, _∙_}
+use Rattle.batch_faults.specs.Tally.Laws.{fine-is, bad-is}
 use Rattle.write_file.specs.Written.Laws.{needed-bad}
 use borrow.Author.Needs.{needs}
 use Rattle.write_file.proofs.needed.Statement.{statement}
@@ -10,14 +11,14 @@ check-batch-requires c κs = search needs
 enum-known-refusal : tie.Need-enum-known-refusal
 enum-known-refusal c = search needs
 
-enum-told : tie.Need-enum-told
-enum-told c = search needs
+enum-known-keys : tie.Need-enum-known-keys
+enum-known-keys c = search needs
 
 needed-fine-requires : tie.Need-needed-fine-requires
-needed-fine-requires c κs = sym (c .before .before .check-batch .ensures) ∙ c .enum-told .given .1
+needed-fine-requires c κs = let a = c .before .before .before .before .before .args in fine-is (a .batch .now) _ _ (sym (c .before .before .before .check-batch .ensures) ∙ c .before .keys .given .1)
 
 returns : tie.Need-returns
-returns c = let a = c .before .before .before .before .before .args in needed-bad (a .batch .now) _ (sym (c .before .before .before .check-batch .ensures) ∙ c .before .refusal .given .1)
+returns c = let a = c .before .before .before .before .before .args in needed-bad (a .batch .now) _ (bad-is (a .batch .now) _ (sym (c .before .before .before .check-batch .ensures) ∙ c .before .refusal .given .1))
 
 returns-2 : tie.Need-returns-2
 returns-2 c = search needs
@@ -28,7 +29,7 @@ needed-spec =
     (tie.spec
     check-batch-requires
     enum-known-refusal
-    enum-told
+    enum-known-keys
     needed-fine-requires
     returns
     returns-2)

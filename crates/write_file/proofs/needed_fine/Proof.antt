@@ -1,71 +1,19 @@
-use mathlib.Core.Path.{_≡_, refl, sym, ap, subst, _∙_}
-use Prim.Native.Nat.{ℕ, _^_, _<_}
+use mathlib.Core.Path.{subst}
 use native.Mathlib.Omega.{arith}
-use mathlib.Core.List.{List}
-use mathlib.Core.Bool.{true, false}
-use lib.ListN.{length, getD}
-use Rattle.base.specs.Over.{part, length-part}
-use Rattle.refusal.specs.declared.Check.{Check}
-use Rattle.batch.specs.declared.Edge.{Edge}
-use Rattle.batch.specs.Batch.{headingOf, edgesOf, batchCheck, countOf}
-use Rattle.batch_groups.specs.Groups.{groupsOf, Grouped}
-use Rattle.batch_groups.specs.Groups.Laws.{grouped}
-use Rattle.batch_groups.specs.Order.{edges-count, batch-ordered, fine-long}
-use Rattle.write_source.specs.Source.{edgesIn}
-use Rattle.write_source.specs.Source.Laws.{in-first}
-use Rattle.write_plan.specs.declared.Plan.{Plan}
-use Rattle.write_plan.specs.declared.Counted.{Counted}
-use Rattle.write_plan.specs.Parts.{length-file}
-use Rattle.write_plan.specs.Bounds.{Fits, Measured, tooMany, few, fits-measured, many-measured}
-use Rattle.write_file.specs.Written.{fileIn}
+use Rattle.batch_groups.specs.Order.{fine-long}
+use Rattle.write_source.specs.Source.{sourceEdges}
+use Rattle.write_plan.specs.Bounds.{Measured}
 use Rattle.write_file.specs.Written.Laws.{needed-many, needed-done}
+use Rattle.write_file.specs.Fine.{ready, batch-many, batch-size, batch-within}
 use borrow.Author.Needs.{needs}
 use Rattle.write_file.proofs.needed_fine.Statement.{statement}
 use Rattle.write_file.proofs.needed_fine.Tie as tie
 
-module _ (s : List ℕ) (b : (j : ℕ) → getD s j 0 < 2 ^ 8) (f : batchCheck s ≡ Check.Fine) where
-  edges-are : edgesIn 0 s s ≡ edgesOf s
-  edges-are = in-first 0 s s refl
-
-  ready : (countOf s ≡ length (edgesIn 0 s s)) × Grouped 0 (groupsOf (edgesIn 0 s s))
-  ready = (
-    sym (edges-count s) ∙ ap length (sym edges-are),
-    subst (λ (t : List Edge). Grouped 0 (groupsOf t)) (sym edges-are) (grouped (edgesOf s) (batch-ordered s b f)),
-  )
-
-  ids-long : length (part s 2 50) ≡ 48
-  ids-long = length-part s 2 50 (fine-long s f)
-
-  many : Measured (edgesIn 0 s s) Counted.TooMany → tooMany (headingOf s) (edgesOf s) ≡ true
-  unfolding headingOf
-  many m = ap (tooMany (headingOf s)) (sym edges-are) ∙ many-measured (edgesIn 0 s s) m (headingOf s) ids-long
-
-  module _ (p : Plan) (m : Measured (edgesIn 0 s s) (Counted.Fits p)) where
-    fits : Fits (edgesOf s) p
-    fits = subst (λ (t : List Edge). Fits t p) edges-are (fits-measured (edgesIn 0 s s) p m)
-
-    size : p .bytes ≡ length (fileIn s)
-    unfolding headingOf
-    size =
-        fits .size
-        ∙ sym (length-file (headingOf s) (edgesOf s) (p .edges) (p .keys) (p .width) (p .partners) (p .dense) (p .dead) (fits .fitting) ids-long)
-
-    within : tooMany (headingOf s) (edgesOf s) ≡ false
-    within =
-        let g = fits .fitting in
-        let k = g .keys-is in
-        let e = g .edges-is in
-        let z = size in
-        let a = fits .keys-few in
-        let c = fits .edges-few in
-        let d = fits .bytes-few in
-        few (headingOf s) (edgesOf s) (omega arith) (omega arith) (omega arith)
-
 sub-n : tie.Need-sub-n
-sub-n c = let a = c .before .args in omega (arith, fine-long (a .batch .now) (c .before .pre))
+sub-n c = let a = c .before .args in omega (arith, fine-long (a .batch .now) (c .before .pre .check))
 
 measure-requires : tie.Need-measure-requires
-measure-requires c κs = let a = c .before .args in ready (a .batch .now) (λ j. omega (arith, c .shared-slice-known .given j)) (c .before .pre)
+measure-requires c κs = let a = c .before .args in ready (a .batch .now) (λ j. omega (arith, c .shared-slice-known .given j)) (a .keys) (a .dead) (c .before .pre)
 
 enum-told : tie.Need-enum-told
 enum-told c = search needs
@@ -74,10 +22,18 @@ enum-known-plan : tie.Need-enum-known-plan
 enum-known-plan c = search needs
 
 returns : tie.Need-returns
-returns c = let a = c .before .before .before .before .args in needed-many (a .batch .now) (c .before .before .before .before .pre) (many (a .batch .now) (λ j. omega (arith, c .before .before .before .shared-slice-known .given j)) (c .before .before .before .before .pre) (subst (Measured _) (c .enum-told .given .1) (c .before .before .measure .ensures)))
+returns c =
+    let a = c .before .before .before .before .args in
+    let p = c .before .before .before .before .pre in
+    needed-many (a .batch .now) (p .check) (batch-many (a .batch .now) (λ j. omega (arith, c .before .before .before .shared-slice-known .given j)) (a .keys) (a .dead) p (subst (Measured _) (c .enum-told .given .1) (c .before .before .measure .ensures)))
 
 returns-2 : tie.Need-returns-2
-returns-2 c = let a = c .before .before .before .before .before .args in let m = subst (Measured (edgesIn 0 (a .batch .now) (a .batch .now))) (c .before .plan .given .1) (c .before .before .before .measure .ensures) in needed-done (a .batch .now) (c .before .before .before .before .before .pre) (within (a .batch .now) (λ j. omega (arith, c .before .before .before .before .shared-slice-known .given j)) (c .before .before .before .before .before .pre) _ m) _ (size (a .batch .now) (λ j. omega (arith, c .before .before .before .before .shared-slice-known .given j)) (c .before .before .before .before .before .pre) _ m)
+returns-2 c =
+    let a = c .before .before .before .before .before .args in
+    let p = c .before .before .before .before .before .pre in
+    let s = a .batch .now in
+    let m = subst (Measured (sourceEdges 0 s s)) (c .before .plan .given .1) (c .before .before .before .measure .ensures) in
+    needed-done s (p .check) (batch-within s (λ j. omega (arith, c .before .before .before .before .shared-slice-known .given j)) (a .keys) (a .dead) p _ m) _ (batch-size s (λ j. omega (arith, c .before .before .before .before .shared-slice-known .given j)) (a .keys) (a .dead) p _ m)
 
 pub needed-fine-spec : {M : Type 1} → statement M
 needed-fine-spec =

@@ -10,11 +10,11 @@ use Rattle.batch.specs.Batch.{headingOf, edgesOf, batchCheck}
 use Rattle.batch_groups.specs.Groups.{groupsOf, Grouped}
 use Rattle.batch_groups.specs.Order.{fine-long}
 use Rattle.write_image.specs.Image.{fileOf}
-use Rattle.write_source.specs.Source.{edgesIn}
+use Rattle.write_source.specs.Source.{sourceEdges}
 use Rattle.write_source.specs.Source.Laws.{in-first}
 use Rattle.write_plan.specs.declared.Plan.{Plan}
 use Rattle.write_plan.specs.Parts.{length-file}
-use Rattle.write_plan.specs.Bounds.{Fits, few}
+use Rattle.write_plan.specs.Bounds.{PlanFits, few}
 use Rattle.write_file.specs.declared.Written.{Written}
 use Rattle.write_file.specs.Written.{fileIn, neededOf, Wrote}
 use Rattle.write_file.specs.Written.Laws.{needed-done, wrote-short, wrote-all}
@@ -22,7 +22,7 @@ use borrow.Author.Needs.{needs}
 use Rattle.write_file.proofs.write_plan.Statement.{statement}
 use Rattle.write_file.proofs.write_plan.Tie as tie
 
-module _ (s : List ℕ) (f : batchCheck s ≡ Check.Fine) (p : Plan) (fits : Fits (edgesOf s) p) where
+module _ (s : List ℕ) (f : batchCheck s ≡ Check.Fine) (p : Plan) (fits : PlanFits (edgesOf s) p) where
   ids-long : length (part s 2 50) ≡ 48
   ids-long = length-part s 2 50 (fine-long s f)
 
@@ -43,13 +43,13 @@ module _ (s : List ℕ) (f : batchCheck s ≡ Check.Fine) (p : Plan) (fits : Fit
       let d = fits .bytes-few in
       needed-done s f (few (headingOf s) (edgesOf s) (omega arith) (omega arith) (omega arith)) (p .bytes) size
 
-  edges-are : edgesIn 0 s s ≡ edgesOf s
+  edges-are : sourceEdges 0 s s ≡ edgesOf s
   edges-are = in-first 0 s s refl
 
-  ready : Grouped 0 (groupsOf (edgesOf s)) → (o : List ℕ) → p .bytes ≤ length o → Fits (edgesIn 0 s s) p × Grouped 0 (groupsOf (edgesIn 0 s s)) × (length (part s 2 50) ≡ 48) × (p .bytes ≤ length o)
-  ready g o h = (subst (λ (t : List Edge). Fits t p) (sym edges-are) fits, subst (λ (t : List Edge). Grouped 0 (groupsOf t)) (sym edges-are) g, ids-long, h)
+  ready : Grouped 0 (groupsOf (edgesOf s)) → (o : List ℕ) → p .bytes ≤ length o → PlanFits (sourceEdges 0 s s) p × Grouped 0 (groupsOf (sourceEdges 0 s s)) × (length (part s 2 50) ≡ 48) × (p .bytes ≤ length o)
+  ready g o h = (subst (λ (t : List Edge). PlanFits t p) (sym edges-are) fits, subst (λ (t : List Edge). Grouped 0 (groupsOf t)) (sym edges-are) g, ids-long, h)
 
-  done : (o : List ℕ) → p .bytes ≤ length o → (o′ : List ℕ) → o′ ≡ over (fileOf (record { direction = getD s 1 0; ids = part s 2 50 }) (edgesIn 0 s s)) o → Wrote s o (Written.Done (p .bytes)) o′
+  done : (o : List ℕ) → p .bytes ≤ length o → (o′ : List ℕ) → o′ ≡ over (fileOf (record { direction = getD s 1 0; ids = part s 2 50 }) (sourceEdges 0 s s)) o → Wrote s o (Written.Done (p .bytes)) o′
   unfolding headingOf
   done o h o′ e = wrote-all s o (p .bytes) needed-is h o′ (e ∙ ap (λ (t : List Edge). over (fileOf (headingOf s) t) o) edges-are)
 

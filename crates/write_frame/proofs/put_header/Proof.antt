@@ -18,14 +18,14 @@ put-le-requires-4 c κs = search needs
 put-le-requires-5 : tie.Need-put-le-requires-5
 put-le-requires-5 c κs = search needs
 
-put-bytes-requires : tie.Need-put-bytes-requires
-put-bytes-requires c κs = search needs
+put-words-requires : tie.Need-put-words-requires
+put-words-requires c κs = search needs
 
 same-length : tie.Need-same-length
 same-length c = search needs
 
 returns : tie.Need-returns
-returns c = let a = c .before .before .before .before .before .before .before .before .before .before .before .before .before .before .before .before .before .before .before .before .before .before .before .before .before .before .args in head-parts (a .out .now) (a .flags) (a .ids .now) (c .before .before .before .before .before .before .before .before .before .before .before .before .before .before .before .before .before .before .before .before .before .before .put-le .ensures) (c .before .before .before .before .before .before .before .before .before .before .before .before .before .before .before .before .before .before .put-le2 .ensures) (c .before .before .before .before .before .before .before .before .before .before .before .before .before .before .put-le3 .ensures) (c .before .before .before .before .before .before .before .before .before .before .put-le4 .ensures) (c .before .before .before .before .before .before .put-le5 .ensures) (c .before .before .put-bytes .ensures)
+returns c = let a = c .before .before .before .before .before .before .before .before .before .before .before .before .before .before .before .before .before .before .before .before .before .before .before .before .before .before .args in head-parts (a .out .now) (a .flags) (a .ids .now) (c .before .before .before .before .before .before .before .before .before .before .before .before .before .before .before .before .before .before .before .before .before .before .put-le .ensures) (c .before .before .before .before .before .before .before .before .before .before .before .before .before .before .before .before .before .before .put-le2 .ensures) (c .before .before .before .before .before .before .before .before .before .before .before .before .before .before .put-le3 .ensures) (c .before .before .before .before .before .before .before .before .before .before .put-le4 .ensures) (c .before .before .before .before .before .before .put-le5 .ensures) (c .before .before .put-words .ensures)
 
 pub put-header-spec : {M : Type 1} → statement M
 put-header-spec =
@@ -36,6 +36,6 @@ put-header-spec =
     put-le-requires-3
     put-le-requires-4
     put-le-requires-5
-    put-bytes-requires
+    put-words-requires
     same-length
     returns)

@@ -5,6 +5,7 @@ use mathlib.Core.List.{List, [], _∷_, _++_, append-nil}
 use mathlib.Core.Bool.{Bool}
 use lib.ListN.{length, length-append}
 use lib.Seq.{append-snoc}
+use Rattle.batch.specs.Batch.{partnersIn}
 use Rattle.base.specs.Over.{part}
 use Rattle.base.specs.Put as P
 use Rattle.base.specs.Put.{Put, Left}
@@ -13,9 +14,8 @@ use Rattle.codes.specs.Varint.{varBytes}
 use Rattle.batch.specs.declared.Edge.{Edge}
 use Rattle.group.specs.Group.Laws.{tagOf}
 use Rattle.group.specs.Written.{payloadOf, writtenAs, written-is}
-use Rattle.write_image.specs.Image.{partnersIn}
 use Rattle.write_image.specs.Image.Laws.{length-partners-in}
-use Rattle.write_source.specs.Source.{edgesIn}
+use Rattle.write_source.specs.Source.{sourceEdges}
 use borrow.Author.Needs.{needs}
 use Rattle.write_group.proofs.put_block.Statement.{statement}
 use Rattle.write_group.proofs.put_block.Tie as tie
@@ -55,31 +55,31 @@ sub-put-head : tie.Need-sub-put-head
 sub-put-head c = search needs
 
 put-head-requires : tie.Need-put-head-requires
-put-head-requires c κs = let a = c .before .before .before .before .before .args in room-head (edgesIn (a .kind) (a .a .now) (a .b .now)) (a .i) (a .j) (a .dense) (c .before .before .before .before .before .pre .1) (c .before .if1 .taken) (a .out .now) (a .at) (c .before .before .before .before .before .pre .3)
+put-head-requires c κs = let a = c .before .before .before .before .before .args in room-head (sourceEdges (a .kind) (a .a .now) (a .b .now)) (a .i) (a .j) (a .dense) (c .before .before .before .before .before .pre .1) (c .before .if1 .taken) (a .out .now) (a .at) (c .before .before .before .before .before .pre .3)
 
 put-dense-requires : tie.Need-put-dense-requires
-put-dense-requires c κs = let a = c .before .before .before .before .before .before .before .before .before .args in (c .before .before .before .before .before .before .before .before .before .pre .0, c .before .before .before .before .before .before .before .before .before .pre .1, room-rest (edgesIn (a .kind) (a .a .now) (a .b .now)) (a .i) (a .j) (a .dense) (c .before .before .before .before .before .before .before .before .before .pre .1) (c .before .before .before .before .before .if1 .taken) (a .out .now) (a .at) (c .before .before .before .before .before .before .before .before .before .pre .3) (c .before .before .before .put-head .ensures))
+put-dense-requires c κs = let a = c .before .before .before .before .before .before .before .before .before .args in (c .before .before .before .before .before .before .before .before .before .pre .0, c .before .before .before .before .before .before .before .before .before .pre .1, room-rest (sourceEdges (a .kind) (a .a .now) (a .b .now)) (a .i) (a .j) (a .dense) (c .before .before .before .before .before .before .before .before .before .pre .1) (c .before .before .before .before .before .if1 .taken) (a .out .now) (a .at) (c .before .before .before .before .before .before .before .before .before .pre .3) (c .before .before .before .put-head .ensures))
 
 same-length : tie.Need-same-length
 same-length c = search needs
 
 returns : tie.Need-returns
-returns c = let a = c .before .before .before .before .before .before .before .before .before .before .before .before .args in done (edgesIn (a .kind) (a .a .now) (a .b .now)) (a .i) (a .j) (a .dense) (c .before .before .before .before .before .before .before .before .before .before .before .before .pre .1) (c .before .before .before .before .before .before .before .before .if1 .taken) (a .out .now) (a .at) (c .before .before .before .before .before .before .before .before .before .before .before .before .pre .3) (c .before .before .before .before .before .before .put-head .ensures) (c .before .before .put-dense .ensures)
+returns c = let a = c .before .before .before .before .before .before .before .before .before .before .before .before .args in done (sourceEdges (a .kind) (a .a .now) (a .b .now)) (a .i) (a .j) (a .dense) (c .before .before .before .before .before .before .before .before .before .before .before .before .pre .1) (c .before .before .before .before .before .before .before .before .if1 .taken) (a .out .now) (a .at) (c .before .before .before .before .before .before .before .before .before .before .before .before .pre .3) (c .before .before .before .before .before .before .put-head .ensures) (c .before .before .put-dense .ensures)
 
 sub-put-head-2 : tie.Need-sub-put-head-2
 sub-put-head-2 c = search needs
 
 put-head-requires-2 : tie.Need-put-head-requires-2
-put-head-requires-2 c κs = let a = c .before .before .before .before .before .args in room-head (edgesIn (a .kind) (a .a .now) (a .b .now)) (a .i) (a .j) (a .dense) (c .before .before .before .before .before .pre .1) (c .before .if1 .left) (a .out .now) (a .at) (c .before .before .before .before .before .pre .3)
+put-head-requires-2 c κs = let a = c .before .before .before .before .before .args in room-head (sourceEdges (a .kind) (a .a .now) (a .b .now)) (a .i) (a .j) (a .dense) (c .before .before .before .before .before .pre .1) (c .before .if1 .left) (a .out .now) (a .at) (c .before .before .before .before .before .pre .3)
 
 put-split-requires : tie.Need-put-split-requires
-put-split-requires c κs = let a = c .before .before .before .before .before .before .before .before .before .args in (c .before .before .before .before .before .before .before .before .before .pre .0, c .before .before .before .before .before .before .before .before .before .pre .1, c .before .before .before .before .before .before .before .before .before .pre .2, room-rest (edgesIn (a .kind) (a .a .now) (a .b .now)) (a .i) (a .j) (a .dense) (c .before .before .before .before .before .before .before .before .before .pre .1) (c .before .before .before .before .before .if1 .left) (a .out .now) (a .at) (c .before .before .before .before .before .before .before .before .before .pre .3) (c .before .before .before .put-head2 .ensures))
+put-split-requires c κs = let a = c .before .before .before .before .before .before .before .before .before .args in (c .before .before .before .before .before .before .before .before .before .pre .0, c .before .before .before .before .before .before .before .before .before .pre .1, c .before .before .before .before .before .before .before .before .before .pre .2, room-rest (sourceEdges (a .kind) (a .a .now) (a .b .now)) (a .i) (a .j) (a .dense) (c .before .before .before .before .before .before .before .before .before .pre .1) (c .before .before .before .before .before .if1 .left) (a .out .now) (a .at) (c .before .before .before .before .before .before .before .before .before .pre .3) (c .before .before .before .put-head2 .ensures))
 
 same-length-2 : tie.Need-same-length-2
 same-length-2 c = search needs
 
 returns-2 : tie.Need-returns-2
-returns-2 c = let a = c .before .before .before .before .before .before .before .before .before .before .before .before .args in done (edgesIn (a .kind) (a .a .now) (a .b .now)) (a .i) (a .j) (a .dense) (c .before .before .before .before .before .before .before .before .before .before .before .before .pre .1) (c .before .before .before .before .before .before .before .before .if1 .left) (a .out .now) (a .at) (c .before .before .before .before .before .before .before .before .before .before .before .before .pre .3) (c .before .before .before .before .before .before .put-head2 .ensures) (c .before .before .put-split .ensures)
+returns-2 c = let a = c .before .before .before .before .before .before .before .before .before .before .before .before .args in done (sourceEdges (a .kind) (a .a .now) (a .b .now)) (a .i) (a .j) (a .dense) (c .before .before .before .before .before .before .before .before .before .before .before .before .pre .1) (c .before .before .before .before .before .before .before .before .if1 .left) (a .out .now) (a .at) (c .before .before .before .before .before .before .before .before .before .before .before .before .pre .3) (c .before .before .before .before .before .before .put-head2 .ensures) (c .before .before .put-split .ensures)
 
 pub put-block-spec : {M : Type 1} → statement M
 put-block-spec =

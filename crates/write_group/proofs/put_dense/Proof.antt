@@ -4,6 +4,7 @@ use native.Mathlib.Omega.{arith}
 use mathlib.Core.List.{List, _++_}
 use lib.ListN.{length, getD}
 use lib.Seq.{sets}
+use Rattle.batch.specs.Batch.{partnersIn}
 use Rattle.base.specs.Over.{part}
 use Rattle.base.specs.Put as P
 use Rattle.base.specs.Put.{Put, Left}
@@ -12,9 +13,8 @@ use Rattle.codes.specs.Ids.Laws.{length-idBytes}
 use Rattle.batch.specs.declared.Edge.{Edge}
 use Rattle.group.specs.Group.{bytesOf}
 use Rattle.batch_groups.specs.Groups.{none}
-use Rattle.write_image.specs.Image.{partnersIn}
 use Rattle.write_image.specs.Image.Laws.{partner-first, partners-out, dense-none, dense-on}
-use Rattle.write_source.specs.Source.{edgesIn}
+use Rattle.write_source.specs.Source.{sourceEdges}
 use Rattle.write_group.proofs.put_dense.Statement.{statement}
 use Rattle.write_group.proofs.put_dense.Tie as tie
 
@@ -51,7 +51,7 @@ module _ (es : List Edge) (i j : ℕ) (o : List ℕ) (at : ℕ) (out : List ℕ)
   done z = P.end (ap bytesOf (partners-out es k j (omega arith)) ∙ dense-none) (h .left)
 
 abbrev Inv-loop : tie.InvT-loop
-Inv-loop kind a b i j out₀ at k₀ to₀ out k to = Head (edgesIn kind a b) i j out₀ at out k to
+Inv-loop kind a b i j out₀ at k₀ to₀ out k to = Head (sourceEdges kind a b) i j out₀ at out k to
 
 abbrev μ-loop : tie.MeasureT-loop
 μ-loop kind a b i j out₀ at k₀ to₀ out k to = j - k
@@ -66,14 +66,14 @@ put-id-requires : tie.Need-put-id-requires Inv-loop μ-loop
 put-id-requires c κs =
     let a = c .before .before .before .before .before .before .before .before .args in
     let l = c .before .before .before .before .loop in
-    let es = edgesIn (a .kind) (a .a .now) (a .b .now) in
+    let es = sourceEdges (a .kind) (a .a .now) (a .b .now) in
     room es (a .i) (a .j) (a .out .now) (a .at) (l .out) (l .k) (l .to) (l .inv) (c .before .before .before .before .before .before .before .before .pre .1) (omega arith) _ (c .before .before .edge-of .ensures) (c .before .before .before .before .before .before .before .before .pre .2)
 
 add-to : tie.Need-add-to Inv-loop μ-loop
 add-to c =
     let a = c .before .before .before .before .before .before .before .before .before .before .before .args in
     let l = c .before .before .before .before .before .before .before .loop in
-    let es = edgesIn (a .kind) (a .a .now) (a .b .now) in
+    let es = sourceEdges (a .kind) (a .a .now) (a .b .now) in
     let r = room es (a .i) (a .j) (a .out .now) (a .at) (l .out) (l .k) (l .to) (l .inv) (c .before .before .before .before .before .before .before .before .before .before .before .pre .1) (omega arith) _ (c .before .before .before .before .before .edge-of .ensures) (c .before .before .before .before .before .before .before .before .before .before .before .pre .2) in omega arith
 
 add-k : tie.Need-add-k Inv-loop μ-loop
@@ -86,7 +86,7 @@ loop-again : tie.Need-loop-again Inv-loop μ-loop
 loop-again c =
     let a = c .before .before .before .before .before .before .before .before .before .before .before .args in
     let l = c .before .before .before .before .before .before .before .loop in
-    let es = edgesIn (a .kind) (a .a .now) (a .b .now) in
+    let es = sourceEdges (a .kind) (a .a .now) (a .b .now) in
     again es (a .i) (a .j) (a .out .now) (a .at) (l .out) (l .k) (l .to) (l .inv) (c .before .before .before .before .before .before .before .before .before .before .before .pre .1) (omega arith) _ (c .before .before .before .before .before .edge-of .ensures) (c .before .before .put-id .ensures)
 
 same-length : tie.Need-same-length Inv-loop μ-loop
@@ -96,7 +96,7 @@ returns : tie.Need-returns Inv-loop μ-loop
 returns c =
     let a = c .before .before .before .before .before .args in
     let l = c .before .loop in
-    let es = edgesIn (a .kind) (a .a .now) (a .b .now) in
+    let es = sourceEdges (a .kind) (a .a .now) (a .b .now) in
     let u = l .inv .upto in done es (a .i) (a .j) (a .out .now) (a .at) (l .out) (l .k) (l .to) (l .inv) (c .before .before .before .before .before .pre .1) (omega arith)
 
 pub put-dense-spec : {M : Type 1} → statement M

@@ -3,6 +3,7 @@ use Prim.Native.Nat.{ℕ, _+_, _-_, _≤_, _<_}
 use native.Mathlib.Omega.{arith}
 use mathlib.Core.List.{List, _++_, append-assoc}
 use lib.ListN.{length, getD, length-append}
+use Rattle.batch.specs.Batch.{partnersIn}
 use Rattle.base.specs.Over.{part}
 use Rattle.base.specs.Put as P
 use Rattle.base.specs.Put.{Put, Left}
@@ -12,9 +13,8 @@ use Rattle.codes.specs.Varint.{varBytes}
 use Rattle.batch.specs.declared.Edge.{Edge}
 use Rattle.group.specs.Written.{splitFrom}
 use Rattle.batch_groups.specs.Groups.{none}
-use Rattle.write_image.specs.Image.{partnersIn}
 use Rattle.write_image.specs.Image.Laws.{Rise, partner-first, rise-first, partners-out, split-none, split-on}
-use Rattle.write_source.specs.Source.{edgesIn}
+use Rattle.write_source.specs.Source.{sourceEdges}
 use Rattle.write_group.proofs.put_split.Statement.{statement}
 use Rattle.write_group.proofs.put_split.Tie as tie
 
@@ -56,7 +56,7 @@ module _ (es : List Edge) (i j : ℕ) (o : List ℕ) (at : ℕ) (out : List ℕ)
   done z = P.end (ap (splitFrom hi) (partners-out es k j (omega arith)) ∙ split-none hi) (h .left)
 
 abbrev Inv-loop : tie.InvT-loop
-Inv-loop kind a b i j out₀ at k₀ to₀ hi₀ out k to hi = Head (edgesIn kind a b) i j out₀ at out k to hi
+Inv-loop kind a b i j out₀ at k₀ to₀ hi₀ out k to hi = Head (sourceEdges kind a b) i j out₀ at out k to hi
 
 abbrev μ-loop : tie.MeasureT-loop
 μ-loop kind a b i j out₀ at k₀ to₀ hi₀ out k to hi = j - k
@@ -71,14 +71,14 @@ sub-put-partner : tie.Need-sub-put-partner Inv-loop μ-loop
 sub-put-partner c =
     let a = c .before .before .before .before .before .before .before .before .args in
     let l = c .before .before .before .before .loop in
-    let es = edgesIn (a .kind) (a .a .now) (a .b .now) in
+    let es = sourceEdges (a .kind) (a .a .now) (a .b .now) in
     up es (a .i) (a .j) (a .out .now) (a .at) (l .out) (l .k) (l .to) (l .hi) (l .inv) (c .before .before .before .before .before .before .before .before .pre .1) (omega arith) _ (c .before .before .edge-of .ensures) .0
 
 put-partner-requires : tie.Need-put-partner-requires Inv-loop μ-loop
 put-partner-requires c κs =
     let a = c .before .before .before .before .before .before .before .before .args in
     let l = c .before .before .before .before .loop in
-    let es = edgesIn (a .kind) (a .a .now) (a .b .now) in
+    let es = sourceEdges (a .kind) (a .a .now) (a .b .now) in
     room es (a .i) (a .j) (a .out .now) (a .at) (l .out) (l .k) (l .to) (l .hi) (l .inv) (c .before .before .before .before .before .before .before .before .pre .1) (omega arith) _ (c .before .before .edge-of .ensures) (c .before .before .before .before .before .before .before .before .pre .3)
 
 add-k : tie.Need-add-k Inv-loop μ-loop
@@ -91,7 +91,7 @@ loop-again : tie.Need-loop-again Inv-loop μ-loop
 loop-again c =
     let a = c .before .before .before .before .before .before .before .before .before .before .before .args in
     let l = c .before .before .before .before .before .before .before .loop in
-    let es = edgesIn (a .kind) (a .a .now) (a .b .now) in
+    let es = sourceEdges (a .kind) (a .a .now) (a .b .now) in
     again es (a .i) (a .j) (a .out .now) (a .at) (l .out) (l .k) (l .to) (l .hi) (l .inv) (c .before .before .before .before .before .before .before .before .before .before .before .pre .1) (omega arith) _ (c .before .before .before .before .before .edge-of .ensures) (c .before .before .put-partner .ensures)
 
 same-length : tie.Need-same-length Inv-loop μ-loop
@@ -101,7 +101,7 @@ returns : tie.Need-returns Inv-loop μ-loop
 returns c =
     let a = c .before .before .before .before .before .args in
     let l = c .before .loop in
-    let es = edgesIn (a .kind) (a .a .now) (a .b .now) in
+    let es = sourceEdges (a .kind) (a .a .now) (a .b .now) in
     let u = l .inv .upto in done es (a .i) (a .j) (a .out .now) (a .at) (l .out) (l .k) (l .to) (l .hi) (l .inv) (c .before .before .before .before .before .pre .1) (omega arith)
 
 pub put-split-spec : {M : Type 1} → statement M

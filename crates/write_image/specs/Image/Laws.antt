@@ -4,19 +4,19 @@ use Prim.Native.Nat.{ℕ, zero, suc, _+_, _-_, _*_, _/_, _%_, _^_, _≤_, _<_}
 use native.Mathlib.Omega.{arith}
 use native.Mathlib.Nat.{sub-self, add-zero, add-assoc, pow-suc, pow-le-pow-right, lt-of-lt-of-le, zero-lt-suc}
 use native.Mathlib.Numerals.{add-one}
-use native.Mathlib.Decide.{decLt}
-use mathlib.Core.List.{List, [], _∷_, _++_, append-nil}
+use mathlib.Core.List.{List, [], _∷_, _++_, append-nil, append-assoc}
 use mathlib.Core.Bool.{Bool, true, false, _&&_, _||_}
-use lib.ListN.{length, getD, take, drop, length-append, length-drop, drop-of-length-le}
-use lib.Seq.{drop-cons, drop-length, drop-drop, take-nil}
+use lib.ListN.{length, getD, take, drop, length-append, length-drop, take-append-drop}
+use lib.Seq.{take-suc, drop-cons, drop-length, drop-drop, getD-drop, take-all}
 use lib.Dec.{ltb, leb}
 use borrow.Author.Tests.{lt-ltb, le-ltb, le-leb, lt-leb}
+use Rattle.batch.specs.Batch.{partnersIn, logsIn, marksIn}
 use Rattle.base.specs.Pick.{pick}
 use Rattle.base.specs.Over.{part, length-part}
 use Rattle.codes.specs.declared.ids.Id.{Id}
 use Rattle.codes.specs.Little.{leBytes}
 use Rattle.codes.specs.Little.Laws.{length-leBytes}
-use Rattle.codes.specs.Ids.{idBytes, numberOf}
+use Rattle.codes.specs.Ids.{idBytes, idNumber}
 use Rattle.codes.specs.Ids.Laws.{length-idBytes}
 use Rattle.codes.specs.Varint.{varBytes}
 use Rattle.codes.specs.Varint.Laws.{varBytes-length}
@@ -27,9 +27,15 @@ use Rattle.group.specs.Written.{Halves, Above, splitFrom, payloadOf, writtenAs,
 use Rattle.batch.specs.declared.Edge.{Edge}
 use Rattle.batch_groups.specs.Groups.{none, Group, groupsOf, GroupEnd, Run, Grouped}
 use Rattle.batch_groups.specs.Groups.Laws.{grouped-step, groups-end}
-use Rattle.write_image.specs.Image.{partnersIn, logsIn, marksIn, keysIn, anyDead, splitCost, denseBy, isDense, groupBytes, bytesIn, anyDense, keyBytes, numbers, partnerBytes, startsFrom, offsetBytes, widthOf, logBytes, bit, octet, octets, tombBytes, stride, fenceBytes, fencesFrom, fenceCount, fencesOf}
+use Rattle.write_image.specs.Image.{keysIn, splitCost, denseBy, isDense, groupBytes, bytesIn, anyDense, keyBytes, numbers, partnerBytes, startsFrom, offsetBytes, widthOf, logBytes, bit, octet, octets, tombBytes, stride, fenceBytes, fenceKeysFrom, fenceCount, fencesOf}
 
 -- ---- a part of the edges, one edge further
+
+logs-append : (xs ys : List Edge) → logBytes (xs ++ ys) ≡ logBytes xs ++ logBytes ys
+unfolding numbers logsIn
+logs-append [] ys = refl
+logs-append (x ∷ xs) ys =
+    ap (λ (t : List ℕ). leBytes 8 (x .log) ++ t) (logs-append xs ys) ∙ sym (append-assoc (leBytes 8 (x .log)) (logBytes xs) (logBytes ys))
 
 module _ (es : List Edge) (k j : ℕ) where
   pub part-step : k < j → k < length es → part es k j ≡ getD es k none ∷ part es (k + 1) j
@@ -45,6 +51,43 @@ module _ (es : List Edge) (k j : ℕ) where
   pub partners-out : j ≤ k → partnersIn (part es k j) ≡ []
   unfolding partnersIn
   partners-out h = let z : j - k ≡ 0 = omega arith in ap (λ (t : ℕ). partnersIn (take t (drop k es))) z
+
+  pub logs-on : k < j → k < length es → logBytes (part es k j) ≡ leBytes 8 (getD es k none .log) ++ logBytes (part es (k + 1) j)
+  unfolding numbers logsIn
+  logs-on h l = ap (λ (t : List Edge). logBytes t) (part-step h l)
+
+  pub logs-out : j ≤ k → logBytes (part es k j) ≡ []
+  unfolding numbers logsIn
+  logs-out h = let z : j - k ≡ 0 = omega arith in ap (λ (t : ℕ). logBytes (take t (drop k es))) z
+
+  -- those up to j, then the others
+  pub logs-cut : k ≤ j → logBytes (drop k es) ≡ logBytes (part es k j) ++ logBytes (drop j es)
+  logs-cut h =
+      let p : k + (j - k) ≡ j = omega arith in
+      ap (λ (t : List Edge). logBytes t) (sym (take-append-drop (j - k) (drop k es)))
+      ∙ logs-append (part es k j) (drop (j - k) (drop k es))
+      ∙ ap (λ (t : List Edge). logBytes (part es k j) ++ logBytes t) (drop-drop (j - k) k es ∙ ap (λ (t : ℕ). drop t es) p)
+
+  -- up to the last edge there are no others
+  pub logs-rest : j ≡ length es → logBytes (drop k es) ≡ logBytes (part es k j)
+  logs-rest e = ap (λ (t : List Edge). logBytes t) (sym (take-all (j - k) (drop k es) (simp length-drop (omega arith))))
+
+partners-joined : (xs ys : List Edge) → partnersIn (xs ++ ys) ≡ partnersIn xs ++ partnersIn ys
+unfolding partnersIn
+partners-joined [] ys = refl
+partners-joined (x ∷ xs) ys = ap (λ (t : List Id). x .partner ∷ t) (partners-joined xs ys)
+
+-- the part, one edge longer
+pub partners-snoc : (es : List Edge) (i j : ℕ) → i ≤ j → j < length es → partnersIn (part es i (j + 1)) ≡ partnersIn (part es i j) ++ (getD es j none .partner ∷ [])
+unfolding partnersIn
+partners-snoc es i j h l =
+    let m : j + 1 - i ≡ suc (j - i) = omega arith in
+    let n : i + (j - i) ≡ j = omega arith in
+    let d : j - i < length (drop i es) = rw length-drop (omega arith) in
+    let x : getD (drop i es) (j - i) none ≡ getD es j none = getD-drop i es (j - i) none ∙ ap (λ (t : ℕ). getD es t none) n in
+    ap (λ (t : ℕ). partnersIn (take t (drop i es))) m
+    ∙ ap partnersIn (take-suc (drop i es) (j - i) none d ∙ ap (λ (t : Edge). part es i j ++ (t ∷ [])) x)
+    ∙ partners-joined (part es i j) (getD es j none ∷ [])
 
 pub length-partners : (es : List Edge) → length (partnersIn es) ≡ length es
 unfolding partnersIn
@@ -80,13 +123,13 @@ rise-of : (ps : List Id) (hi floor : ℕ) → hi * 2 ^ 64 ≤ floor → Halves p
 unfolding Rise Halves Above
 rise-of [] hi floor l h a = tt
 rise-of (p ∷ ps) hi floor l h a =
-    (upper-from hi (p .hi) (p .lo) floor l (a .0) (h .1), rise-of ps (p .hi) (suc (numberOf p)) (omega arith) (h .2) (a .1))
+    (upper-from hi (p .hi) (p .lo) floor l (a .0) (h .1), rise-of ps (p .hi) (suc (idNumber p)) (omega arith) (h .2) (a .1))
 
 pub run-partners : (k : Id) (floor : ℕ) (es : List Edge) → Run k floor es → Halves (partnersIn es) × Above floor (partnersIn es)
 unfolding Run Halves Above partnersIn
 run-partners k floor [] r = (tt, tt)
 run-partners k floor (e ∷ es) r =
-    let ih = run-partners k (suc (numberOf (e .partner))) es (r .4) in ((r .1 .0, r .1 .1, ih .0), (r .3, ih .1))
+    let ih = run-partners k (suc (idNumber (e .partner))) es (r .4) in ((r .1 .0, r .1 .1, ih .0), (r .3, ih .1))
 
 pub run-rises : (k : Id) (es : List Edge) → Run k 0 es → Rise 0 (partnersIn es)
 run-rises k es r = let h = run-partners k 0 es r in rise-of (partnersIn es) 0 0 (omega arith) (h .0) (h .1)
@@ -223,62 +266,53 @@ module _ (es : List Edge) (k : ℕ) where
   edge-on : k < length es → drop k es ≡ getD es k none ∷ drop (k + 1) es
   edge-on h = drop-cons es k none h ∙ ap (λ (t : ℕ). getD es k none ∷ drop t es) (sym (add-one k))
 
-  pub logs-step : k < length es → logBytes (drop k es) ≡ leBytes 8 (getD es k none .log) ++ logBytes (drop (k + 1) es)
-  unfolding numbers logsIn
-  logs-step h = ap (λ (t : List Edge). logBytes t) (edge-on h)
-
   pub logs-end : k ≡ length es → logBytes (drop k es) ≡ []
   unfolding numbers logsIn
   logs-end e = rw (e, drop-length es)
-
-  pub dead-step : k < length es → anyDead (drop k es) ≡ (getD es k none .dead || anyDead (drop (k + 1) es))
-  unfolding anyDead
-  dead-step h = ap anyDead (edge-on h)
-
-  pub dead-end : k ≡ length es → anyDead (drop k es) ≡ false
-  unfolding anyDead
-  dead-end e = rw (e, drop-length es)
-
-  -- the mark of edge k, 0 past the last
-  octet-nil : (m : ℕ) → octet m [] ≡ 0
-  unfolding octet
-  octet-nil zero = refl
-  octet-nil (suc m) = refl
-
-  pub mark-past : (m : ℕ) → length es ≤ k → octet m (marksIn (drop k es)) ≡ 0
-  unfolding marksIn
-  mark-past m h = ap (λ (t : List Edge). octet m (marksIn t)) (drop-of-length-le es {i = k} h) ∙ octet-nil m
 
   pub mark-here : (m : ℕ) → k < length es → octet (suc m) (marksIn (drop k es)) ≡ bit (getD es k none .dead) + 2 * octet m (marksIn (drop (k + 1) es))
   unfolding marksIn octet
   mark-here m h = ap (λ (t : List Edge). octet (suc m) (marksIn t)) (edge-on h)
 
-octet-none : (ds : List Bool) → octet 0 ds ≡ 0
+pub octet-none : (ds : List Bool) → octet 0 ds ≡ 0
 unfolding octet
 octet-none ds = refl
+
+octet-nil : (m : ℕ) → octet m [] ≡ 0
+unfolding octet
+octet-nil zero = refl
+octet-nil (suc m) = refl
 
 octet-lt : (m : ℕ) (ds : List Bool) → octet m ds < 2 ^ m
 unfolding octet
 octet-lt zero ds = omega arith
-octet-lt (suc m) [] = let p : 0 < 2 ^ m = rw (octet-nil [] 0 m) at (octet-lt m []) in rw pow-suc (omega arith)
+octet-lt (suc m) [] = let p : 0 < 2 ^ m = rw (octet-nil m) at (octet-lt m []) in rw pow-suc (omega arith)
 octet-lt (suc m) (true ∷ ds) = let ih = octet-lt m ds in rw pow-suc (omega arith)
 octet-lt (suc m) (false ∷ ds) = let ih = octet-lt m ds in rw pow-suc (omega arith)
 
 pub octet-byte : (m : ℕ) (ds : List Bool) → m ≤ 8 → octet m ds < 2 ^ 8
 octet-byte m ds h = lt-of-lt-of-le (octet-lt m ds) (pow-le-pow-right (zero-lt-suc 1) h)
 
-pub mark-step : (es : List Edge) (k m : ℕ) → octet (suc m) (marksIn (drop k es)) ≡ octet 1 (marksIn (drop k es)) + 2 * octet m (marksIn (drop (k + 1) es))
-mark-step es k m = elim (decLt k (length es)) [
-  | yes h ↦
-      let one : octet 1 (marksIn (drop k es)) ≡ bit (getD es k none .dead) + 2 * octet 0 (marksIn (drop (k + 1) es)) = mark-here es k 0 h in
-      let rest = octet-none (marksIn (drop (k + 1) es)) in
-      mark-here es k m h ∙ omega arith
-  | no h ↦
-      let a = mark-past es k (suc m) (omega arith) in
-      let b = mark-past es k 1 (omega arith) in
-      let c = mark-past es (k + 1) m (omega arith) in
-      omega arith
-]
+-- bits past the last mark are 0
+octet-past : (m k : ℕ) (ds : List Bool) → length ds ≤ m → octet (m + k) ds ≡ octet m ds
+unfolding octet
+octet-past m k [] h = octet-nil (m + k) ∙ sym (octet-nil m)
+octet-past zero k (d ∷ ds) h = absurd (omega arith)
+octet-past (suc m) k (d ∷ ds) h =
+    let e : suc m + k ≡ suc (m + k) = omega arith in
+    ap (λ (t : ℕ). octet t (d ∷ ds)) e ∙ ap (λ (t : ℕ). bit d + 2 * t) (octet-past m k ds (omega arith))
+
+length-marks : (es : List Edge) → length (marksIn es) ≡ length es
+unfolding marksIn
+length-marks [] = refl
+length-marks (e ∷ es) = ap suc (length-marks es)
+
+-- the last edges, at most eight
+pub octet-rest : (es : List Edge) (i j : ℕ) → j ≡ length es → j ≤ i + 8 → octet (j - i) (marksIn (drop i es)) ≡ octet 8 (marksIn (drop i es))
+octet-rest es i j e h =
+    let n : j - i + (8 - (j - i)) ≡ 8 = omega arith in
+    let l : length (marksIn (drop i es)) ≤ j - i = rw (length-marks (drop i es), length-drop) (omega arith) in
+    sym (octet-past (j - i) (8 - (j - i)) (marksIn (drop i es)) l) ∙ ap (λ (t : ℕ). octet t (marksIn (drop i es))) n
 
 drop-marks : (k : ℕ) (es : List Edge) → drop k (marksIn es) ≡ marksIn (drop k es)
 unfolding marksIn
@@ -314,15 +348,15 @@ length-fence k i =
     let b = length-leBytes 8 (kind.keySize * (i * stride)) in
     length-append (idBytes k) (leBytes 8 (kind.keySize * (i * stride))) ∙ omega arith
 
-pub fences-step : (ks : List Id) (m i : ℕ) → i < m → fencesFrom (m - i) ks i ≡ fenceBytes (getD ks (i * stride) (none .key)) i ++ fencesFrom (m - (i + 1)) ks (i + 1)
-unfolding fencesFrom
-fences-step ks m i h = let n : m - i ≡ suc (m - (i + 1)) = omega arith in ap (λ (t : ℕ). fencesFrom t ks i) n
+pub fences-step : (ks : List Id) (m i : ℕ) → i < m → fenceKeysFrom (m - i) ks i ≡ fenceBytes (getD ks (i * stride) (none .key)) i ++ fenceKeysFrom (m - (i + 1)) ks (i + 1)
+unfolding fenceKeysFrom
+fences-step ks m i h = let n : m - i ≡ suc (m - (i + 1)) = omega arith in ap (λ (t : ℕ). fenceKeysFrom t ks i) n
 
-pub fences-end : (ks : List Id) (m i : ℕ) → m ≤ i → fencesFrom (m - i) ks i ≡ []
-unfolding fencesFrom
+pub fences-end : (ks : List Id) (m i : ℕ) → m ≤ i → fenceKeysFrom (m - i) ks i ≡ []
+unfolding fenceKeysFrom
 fences-end ks m i h = let z : m - i ≡ 0 = omega arith in rw z
 
-pub fences-are : (ks : List Id) → fencesOf ks ≡ leBytes 4 stride ++ (leBytes 4 (fenceCount (length ks)) ++ fencesFrom (fenceCount (length ks)) ks 0)
+pub fences-are : (ks : List Id) → fencesOf ks ≡ leBytes 4 stride ++ (leBytes 4 (fenceCount (length ks)) ++ fenceKeysFrom (fenceCount (length ks)) ks 0)
 unfolding fencesOf
 fences-are ks = refl
 
@@ -359,8 +393,8 @@ unfolding logsIn
 length-logsIn [] = refl
 length-logsIn (e ∷ es) = ap suc (length-logsIn es)
 
-pub length-logs : (es : List Edge) → length (logBytes es) ≡ length es * 8
-length-logs es = length-numbers 8 (logsIn es) ∙ ap (λ (t : ℕ). t * 8) (length-logsIn es)
+pub length-logBytes : (es : List Edge) → length (logBytes es) ≡ length es * 8
+length-logBytes es = length-numbers 8 (logsIn es) ∙ ap (λ (t : ℕ). t * 8) (length-logsIn es)
 
 length-octets : (m : ℕ) (ds : List Bool) → length (octets m ds) ≡ m
 unfolding octets
@@ -370,13 +404,13 @@ length-octets (suc m) ds = ap suc (length-octets m (drop 8 ds))
 pub length-tombs : (es : List Edge) → length (tombBytes es) ≡ (length es + 7) / 8
 length-tombs es = length-octets ((length es + 7) / 8) (marksIn es)
 
-length-fencesFrom : (m : ℕ) (ks : List Id) (i : ℕ) → length (fencesFrom m ks i) ≡ 24 * m
-unfolding fencesFrom
+length-fencesFrom : (m : ℕ) (ks : List Id) (i : ℕ) → length (fenceKeysFrom m ks i) ≡ 24 * m
+unfolding fenceKeysFrom
 length-fencesFrom zero ks i = refl
 length-fencesFrom (suc m) ks i =
     let a = length-fence (getD ks (i * stride) (none .key)) i in
     let b = length-fencesFrom m ks (i + 1) in
-    length-append (fenceBytes (getD ks (i * stride) (none .key)) i) (fencesFrom m ks (i + 1)) ∙ omega arith
+    length-append (fenceBytes (getD ks (i * stride) (none .key)) i) (fenceKeysFrom m ks (i + 1)) ∙ omega arith
 
 pub length-fences : (ks : List Id) → length (fencesOf ks) ≡ 8 + 24 * fenceCount (length ks)
 length-fences ks =
@@ -385,8 +419,8 @@ length-fences ks =
     let b = length-leBytes 4 m in
     let c = length-fencesFrom m ks 0 in
     ap length (fences-are ks)
-    ∙ length-append (leBytes 4 stride) (leBytes 4 m ++ fencesFrom m ks 0)
-    ∙ ap (λ (t : ℕ). length (leBytes 4 stride) + t) (length-append (leBytes 4 m) (fencesFrom m ks 0))
+    ∙ length-append (leBytes 4 stride) (leBytes 4 m ++ fenceKeysFrom m ks 0)
+    ∙ ap (λ (t : ℕ). length (leBytes 4 stride) + t) (length-append (leBytes 4 m) (fenceKeysFrom m ks 0))
     ∙ omega arith
 
 pub width-small : (size : ℕ) → size < 2 ^ 24 → widthOf size ≡ 3
@@ -396,6 +430,14 @@ width-small size h = simp (lt-ltb size (2 ^ 24) h)
 pub width-large : (size : ℕ) → 2 ^ 24 ≤ size → widthOf size ≡ 4
 unfolding widthOf
 width-large size h = simp (le-ltb size (2 ^ 24) h)
+
+pub width-least : (size : ℕ) → 3 ≤ widthOf size
+unfolding widthOf
+width-least size = go (ltb size (2 ^ 24))
+  where
+    go : (b : Bool) → 3 ≤ pick b 3 4
+    go true = omega arith
+    go false = omega arith
 
 pub width-most : (size : ℕ) → widthOf size ≤ 4
 unfolding widthOf

@@ -11,11 +11,11 @@ one : (b : Bool) → pick b 1 0 ≡ bit b
 one true = refl
 one false = refl
 
-number-requires : tie.Need-number-requires
-number-requires c κs = search needs
+counted-if-requires : tie.Need-counted-if-requires
+counted-if-requires c κs = search needs
 
-number-requires-2 : tie.Need-number-requires-2
-number-requires-2 c κs = search needs
+counted-if-requires-2 : tie.Need-counted-if-requires-2
+counted-if-requires-2 c κs = search needs
 
 add-result : tie.Need-add-result
 add-result c = search needs
@@ -24,8 +24,8 @@ add-result-2 : tie.Need-add-result-2
 add-result-2 c = search needs
 
 returns : tie.Need-returns
-returns c = let a = c .before .before .args in let t = c .before .number .ensures in let f = c .number2 .ensures in (omega (arith, t .0, f .0, one (a .dead), one (fenced (a .keys))), omega (arith, t .1, f .1))
+returns c = let a = c .before .before .args in let t = c .before .counted-if .ensures in let f = c .counted-if2 .ensures in (omega (arith, t .0, f .0, one (a .dead), one (fenced (a .keys))), omega (arith, t .1, f .1))
 
 pub section-count-spec : {M : Type 1} → statement M
 section-count-spec =
-    tie.close (tie.spec number-requires number-requires-2 add-result add-result-2 returns)
+    tie.close (tie.spec counted-if-requires counted-if-requires-2 add-result add-result-2 returns)

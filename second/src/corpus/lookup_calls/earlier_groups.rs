@@ -1,12 +1,16 @@
 //! Refusal 19: the degrees of earlier groups and the edge count.
 
 use super::raw::{self, group, halves, single, SPLIT};
-use super::{ask, expect, found, Files, LentRecord, Rooms};
+use super::{ask, expect, found, Files, LentRecord, LookupFile, Question, Rooms};
+use crate::numbers::Id;
+use std::cmp::Ordering;
 
 pub fn add(files: &mut Files) {
     edge_counts(files);
     sums_that_wrap(files);
+    sums_near_the_edge_count(files);
     one_bad_degree(files);
+    degrees_alone(files);
     order_of_refusals(files);
 }
 
@@ -14,23 +18,19 @@ fn two(lower: u64) -> Vec<u8> {
     group(2, &[SPLIT, &halves(3, lower), &halves(1, lower)])
 }
 
+/// So many groups of one partner.
+fn singles(count: u8) -> Vec<Vec<u8>> {
+    (0..count).map(|i| single(i, u64::from(i))).collect()
+}
+
 /// Degrees 2, 1 and 2 under every edge count that opening lets pass, and under
 /// smaller ones by record.
 fn edge_counts(files: &mut Files) {
     let groups = [two(1), single(4, 4), two(9)];
-    let ends = [2, 3, 5];
     for edge_count in [3, 4, 5, 6, 7, 100] {
         let layout = raw::layout(&groups, edge_count, 24);
         let file = files.layout(format!("edges-{edge_count}"), &layout);
-        for (index, (degree, end)) in [2, 1, 2].into_iter().zip(ends).enumerate() {
-            let question = ask(raw::key(index as u64));
-            let name = format!("key-{index}");
-            if end <= edge_count {
-                file.both(name, question, found(degree, index as u64));
-            } else {
-                file.misplaced(name, question, degree, index as u64);
-            }
-        }
+        each_of_2_1_2(file, "key", edge_count, ask);
     }
     let layout = raw::layout(&groups, 5, 24);
     let file = files.layout("edges-by-record", &layout);
@@ -41,40 +41,54 @@ fn edge_counts(files: &mut Files) {
             record.logs.offset -= 8;
             record.fit();
         });
-        for (index, (degree, end)) in [2, 1, 2].into_iter().zip(ends).enumerate() {
-            let question = ask(raw::key(index as u64)).by(&record);
-            let name = format!("{edge_count}-key-{index}");
-            if end <= edge_count {
-                file.both(name, question, found(degree, index as u64));
-            } else {
-                file.misplaced(name, question, degree, index as u64);
-            }
+        let name = format!("{edge_count}-key");
+        each_of_2_1_2(file, &name, edge_count, |key| ask(key).by(&record));
+    }
+}
+
+/// The keys of degrees 2, 1 and 2. Those whose edges go past the edge count
+/// have lost their place.
+fn each_of_2_1_2(
+    file: &mut LookupFile,
+    name: &str,
+    edge_count: u64,
+    question: impl Fn(Id) -> Question,
+) {
+    for (index, degree, end) in [(0, 2, 2), (1, 1, 3), (2, 2, 5)] {
+        let name = format!("{name}-{index}");
+        let question = question(raw::key(index));
+        if end <= edge_count {
+            file.both(name, question, found(degree, index));
+        } else {
+            file.misplaced(name, question, degree, index);
         }
     }
 }
 
 /// Earlier degrees whose sum comes round to a small number in 64 or 32 bits,
-/// or is negative there. The groups behind these degrees are not looked at.
+/// or is negative there.
+const DEGREES_THAT_WRAP: [(&str, &[u64]); 16] = [
+    ("63-63", &[1 << 63, 1 << 63]),
+    ("most-1", &[u64::MAX, 1]),
+    ("most-2", &[u64::MAX, 2]),
+    ("most", &[u64::MAX]),
+    ("most-but-1", &[u64::MAX - 1]),
+    ("most-most", &[u64::MAX, u64::MAX]),
+    ("most-most-4", &[u64::MAX, u64::MAX, 4]),
+    ("1-most", &[1, u64::MAX]),
+    ("62-four-times", &[1 << 62; 4]),
+    ("63-and-63-less-1", &[(1 << 63) - 1, 1 << 63]),
+    ("32-less-1", &[(1 << 32) - 1]),
+    ("32", &[1 << 32]),
+    ("32-and-1", &[(1 << 32) + 1]),
+    ("31-31", &[1 << 31, 1 << 31]),
+    ("26", &[1 << 26]),
+    ("9", &[9]),
+];
+
+/// The groups behind these degrees are not looked at.
 fn sums_that_wrap(files: &mut Files) {
-    let largest = u64::MAX;
-    for (name, degrees) in [
-        ("63-63", vec![1 << 63, 1 << 63]),
-        ("most-1", vec![largest, 1]),
-        ("most-2", vec![largest, 2]),
-        ("most", vec![largest]),
-        ("most-but-1", vec![largest - 1]),
-        ("most-most", vec![largest, largest]),
-        ("most-most-4", vec![largest, largest, 4]),
-        ("1-most", vec![1, largest]),
-        ("62-four-times", vec![1 << 62; 4]),
-        ("63-and-63-less-1", vec![(1 << 63) - 1, 1 << 63]),
-        ("32-less-1", vec![(1 << 32) - 1]),
-        ("32", vec![1 << 32]),
-        ("32-and-1", vec![(1 << 32) + 1]),
-        ("31-31", vec![1 << 31, 1 << 31]),
-        ("26", vec![1 << 26]),
-        ("9", vec![9]),
-    ] {
+    for (name, degrees) in DEGREES_THAT_WRAP {
         let mut groups: Vec<Vec<u8>> = degrees.iter().map(|&d| group(d, &[])).collect();
         let last = groups.len() as u64;
         groups.push(single(5, 1));
@@ -86,7 +100,10 @@ fn sums_that_wrap(files: &mut Files) {
         file.misplaced("by-record", ask(raw::key(last)).by(&record), 1, last);
         file.misplaced("next", ask(raw::key(last + 1)), 1, last + 1);
     }
-    // The degree before it leaves just enough, or one too few.
+}
+
+/// The degree before it leaves just enough, or one too few.
+fn sums_near_the_edge_count(files: &mut Files) {
     for (name, degree) in [("8", 8), ("7", 7)] {
         let layout = raw::layout(&[group(degree, &[b"any"]), single(5, 1)], 9, 24);
         let file = files.layout(format!("sum-{name}"), &layout);
@@ -107,39 +124,38 @@ fn one_bad_degree(files: &mut Files) {
         ("cut-at-10", 10, &[0x80], 17),
         ("cut-at-11", 11, &[0x80], 17),
     ] {
-        let mut groups: Vec<Vec<u8>> = (0..12).map(|i| single(i as u8, i)).collect();
-        groups[at] = bytes.to_vec();
+        let mut groups = singles(12);
+        groups[at as usize] = bytes.to_vec();
         let layout = raw::layout(&groups, 12, 32);
         let file = files.layout(format!("twelve-{name}"), &layout);
         for index in 0..12 {
-            let question = ask(raw::key(index as u64));
+            let question = ask(raw::key(index));
             let name = format!("key-{index}");
-            if index < at {
-                file.both(name, question, found(1, index as u64));
-            } else if index == at {
-                file.both(name, question, expect(number, index as u64));
-            } else {
-                file.misplaced(name, question, 1, index as u64);
+            match index.cmp(&at) {
+                Ordering::Less => file.both(name, question, found(1, index)),
+                Ordering::Equal => file.both(name, question, expect(number, index)),
+                Ordering::Greater => file.misplaced(name, question, 1, index),
             }
         }
     }
-    // An unknown tag and a payload of any sort do not matter behind a degree.
-    let mut groups: Vec<Vec<u8>> = (0..5).map(|i| single(i as u8, i)).collect();
+}
+
+/// An unknown tag and a payload of any sort do not matter behind a degree.
+fn degrees_alone(files: &mut Files) {
+    let mut groups = singles(5);
     groups[1] = group(3, &[]);
     groups[3] = group(2, &[&[0xFF; 20]]);
     let layout = raw::layout(&groups, 8, 24);
     let file = files.layout("degrees-alone", &layout);
-    for (index, answer) in [
+    let answers = [
         found(1, 0),
         expect(18, 1),
         found(1, 2),
         expect(16, 3),
         found(1, 4),
-    ]
-    .into_iter()
-    .enumerate()
-    {
-        file.both(format!("key-{index}"), ask(raw::key(index as u64)), answer);
+    ];
+    for (index, answer) in (0..).zip(answers) {
+        file.both(format!("key-{index}"), ask(raw::key(index)), answer);
     }
 }
 

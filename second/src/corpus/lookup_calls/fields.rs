@@ -14,7 +14,7 @@ pub fn add(files: &mut Files) {
     one_field(files, "full", full(), &keys);
     let layout = groups::layout(&three_groups(), 48);
     one_field(files, "three48", layout, &keys);
-    products_that_wrap(files);
+    lengths_that_agree(files);
 }
 
 type RangeOf = fn(&mut LentRecord) -> &mut Range;
@@ -44,18 +44,34 @@ fn others(number: u64) -> Vec<u64> {
 }
 
 fn one_field(files: &mut Files, name: &str, layout: Layout, keys: &[Id]) {
-    let own = LentRecord::of_layout(&layout);
     let mut fields = Fields {
         file: files.layout(format!("field-{name}"), &layout),
-        own: own.clone(),
+        own: LentRecord::of_layout(&layout),
         keys,
     };
-    let size = layout.size();
-    for (word, range_of) in RANGES {
-        let Range { offset, length } = *range_of(&mut own.clone());
-        let fixed = word != "partners";
-        let asked = word != "dead" || own.marked;
+    for range in RANGES {
+        fields.starts(range);
+        fields.lengths(range);
+    }
+    fields.key_counts();
+    fields.edge_counts();
+    fields.offset_bits();
+    fields.mark();
+}
 
+/// A file, its own record, and the keys that are asked for.
+struct Fields<'a> {
+    file: &'a mut LookupFile,
+    own: LentRecord,
+    keys: &'a [Id],
+}
+
+impl Fields<'_> {
+    /// A range that begins elsewhere.
+    fn starts(&mut self, (word, range_of): (&str, RangeOf)) {
+        let size = self.file.size();
+        let Range { offset, length } = *range_of(&mut self.own);
+        let asked = self.is_asked(word);
         let mut starts = others(offset);
         starts.extend([
             // The range ends with the file, or a byte later, or begins there.
@@ -68,12 +84,20 @@ fn one_field(files: &mut Files, name: &str, layout: Layout, keys: &[Id]) {
             1u64.wrapping_sub(length),
             offset.wrapping_sub(length),
         ]);
-        fields.each(&format!("{word}-start"), offset, starts, |record, start| {
+        self.each(&format!("{word}-start"), offset, starts, |record, start| {
             range_of(record).offset = start;
             let end = u128::from(start) + u128::from(length);
             asked && end > u128::from(size)
         });
+    }
 
+    /// A range of another length. Only that of the partners is not given by
+    /// the counts.
+    fn lengths(&mut self, (word, range_of): (&str, RangeOf)) {
+        let size = self.file.size();
+        let Range { offset, length } = *range_of(&mut self.own);
+        let asked = self.is_asked(word);
+        let fixed = word != "partners";
         let mut lengths = others(length);
         lengths.extend([
             size - offset,
@@ -83,56 +107,62 @@ fn one_field(files: &mut Files, name: &str, layout: Layout, keys: &[Id]) {
             1u64.wrapping_sub(offset),
             length.wrapping_sub(offset),
         ]);
-        fields.each(
-            &format!("{word}-length"),
-            length,
-            lengths,
-            |record, length| {
-                range_of(record).length = length;
-                let end = u128::from(offset) + u128::from(length);
-                asked && (fixed || end > u128::from(size))
-            },
-        );
+        let field = format!("{word}-length");
+        self.each(&field, length, lengths, |record, length| {
+            range_of(record).length = length;
+            let end = u128::from(offset) + u128::from(length);
+            asked && (fixed || end > u128::from(size))
+        });
     }
 
-    let mut counts = others(own.key_count);
-    counts.extend([1 << 24, (1 << 24) + 1, 1 << 60, own.key_count | 1 << 60]);
-    fields.each("key-count", own.key_count, counts, |record, count| {
-        record.key_count = count;
-        true
-    });
-    let mut counts = others(own.edge_count);
-    counts.extend([1 << 26, (1 << 26) + 1, 1 << 61, own.edge_count | 1 << 61]);
-    // One byte of tombstones for all of these, but other log numbers.
-    counts.extend([2, 6, 8, 9]);
-    fields.each("edge-count", own.edge_count, counts, |record, count| {
-        record.edge_count = count;
-        true
-    });
-    let bits = [
-        0, 1, 8, 16, 23, 24, 25, 31, 32, 33, 40, 48, 56, 64, 128, 152, 255,
-    ];
-    let own_bits = u64::from(own.offset_bits);
-    fields.each("bits", own_bits, bits.to_vec(), |record, bits| {
-        record.offset_bits = bits as u8;
-        true
-    });
-    // A mark where there is no range gives that range a wrong length; no mark
-    // where there is one is lawful.
-    let own_mark = u64::from(own.marked);
-    fields.each("marked", own_mark, vec![0, 1], |record, mark| {
-        record.marked = mark == 1;
-        record.marked
-    });
-}
+    /// The range of tombstones has no meaning if the record is not marked.
+    fn is_asked(&self, word: &str) -> bool {
+        word != "dead" || self.own.marked
+    }
 
-struct Fields<'a> {
-    file: &'a mut LookupFile,
-    own: LentRecord,
-    keys: &'a [Id],
-}
+    fn key_counts(&mut self) {
+        let own = self.own.key_count;
+        let mut counts = others(own);
+        counts.extend([1 << 24, (1 << 24) + 1, 1 << 60, own | 1 << 60]);
+        self.each("key-count", own, counts, |record, count| {
+            record.key_count = count;
+            true
+        });
+    }
 
-impl Fields<'_> {
+    fn edge_counts(&mut self) {
+        let own = self.own.edge_count;
+        let mut counts = others(own);
+        counts.extend([1 << 26, (1 << 26) + 1, 1 << 61, own | 1 << 61]);
+        // One byte of tombstones for all of these, but other log numbers.
+        counts.extend([2, 6, 8, 9]);
+        self.each("edge-count", own, counts, |record, count| {
+            record.edge_count = count;
+            true
+        });
+    }
+
+    fn offset_bits(&mut self) {
+        let own = u64::from(self.own.offset_bits);
+        let bits = [
+            0, 1, 8, 16, 23, 24, 25, 31, 32, 33, 40, 48, 56, 64, 128, 152, 255,
+        ];
+        self.each("bits", own, bits.to_vec(), |record, bits| {
+            record.offset_bits = bits as u8;
+            true
+        });
+    }
+
+    /// A mark where there is no range gives that range a wrong length; no mark
+    /// where there is one is lawful.
+    fn mark(&mut self) {
+        let own = u64::from(self.own.marked);
+        self.each("marked", own, vec![0, 1], |record, mark| {
+            record.marked = mark == 1;
+            record.marked
+        });
+    }
+
     /// The record with each of these numbers in a field of another number.
     /// `set` says of each whether it is to be refused.
     fn each(
@@ -166,67 +196,72 @@ impl Fields<'_> {
     }
 }
 
+type Change = fn(&mut LentRecord);
+
 /// Counts so large that the lengths they give come round to those that stand
 /// there.
-fn products_that_wrap(files: &mut Files) {
+const PRODUCTS_THAT_WRAP: [(&str, Change); 6] = [
+    ("keys-16-times", |r| {
+        r.key_count = 1 << 60;
+        r.keys.length = 0;
+        r.offsets.length = 6;
+    }),
+    ("keys-16-times-and-1", |r| r.key_count |= 1 << 60),
+    ("keys-and-1", |r| {
+        r.key_count = u64::MAX;
+        r.keys.length = 0u64.wrapping_sub(16);
+        r.offsets.length = 0;
+    }),
+    ("edges-8-times", |r| {
+        r.edge_count = 1 << 61;
+        r.logs.length = 0;
+    }),
+    ("edges-8-times-and-1", |r| r.edge_count |= 1 << 61),
+    ("edges-rounded-up", |r| {
+        r.edge_count = u64::MAX;
+        r.logs.length = 0u64.wrapping_sub(8);
+        r.marked = true;
+        r.dead.length = 0;
+    }),
+];
+
+/// Offset bits that there are not, each with the length that it gives for two
+/// offsets.
+const OTHER_BITS: [(&str, u8, u64); 5] = [
+    ("bits-rounded", 52, 13),
+    ("bits-56", 56, 14),
+    ("bits-64", 64, 16),
+    ("bits-16", 16, 4),
+    ("bits-0", 0, 0),
+];
+
+/// Records whose lengths are those that their counts and offset bits give, if
+/// only in 64 bits: the counts, the bits or a place are wrong.
+fn lengths_that_agree(files: &mut Files) {
     let layout = groups::layout(&three_groups()[1..2], 48);
     let own = LentRecord::of_layout(&layout);
     let file = files.layout("wrap", &layout);
     let key = id_of(1, 3);
     file.both("own", ask(key).by(&own), found(1, 0));
-    let mut refused = |name: &str, change: fn(&mut LentRecord)| {
-        let record = own.with(change);
-        file.both(name, ask(key).by(&record), expect(21, 0));
-    };
-    refused("keys-16-times", |r| {
-        r.key_count = 1 << 60;
-        r.keys.length = 0;
-        r.offsets.length = 6;
-    });
-    refused("keys-16-times-and-1", |r| r.key_count |= 1 << 60);
-    refused("keys-and-1", |r| {
-        r.key_count = u64::MAX;
-        r.keys.length = 0u64.wrapping_sub(16);
-        r.offsets.length = 0;
-    });
-    refused("edges-8-times", |r| {
-        r.edge_count = 1 << 61;
-        r.logs.length = 0;
-    });
-    refused("edges-8-times-and-1", |r| r.edge_count |= 1 << 61);
-    refused("edges-rounded-up", |r| {
-        r.edge_count = u64::MAX;
-        r.logs.length = 0u64.wrapping_sub(8);
-        r.marked = true;
-        r.dead.length = 0;
-    });
-    refused("bits-rounded", |r| {
-        r.offset_bits = 52;
-        r.offsets.length = 13;
-    });
-    refused("bits-56", |r| {
-        r.offset_bits = 56;
-        r.offsets.length = 14;
-    });
-    refused("bits-64", |r| {
-        r.offset_bits = 64;
-        r.offsets.length = 16;
-    });
-    refused("bits-16", |r| {
-        r.offset_bits = 16;
-        r.offsets.length = 4;
-    });
-    refused("bits-0", |r| {
-        r.offset_bits = 0;
-        r.offsets.length = 0;
+    let wrapping = PRODUCTS_THAT_WRAP.map(|(name, change)| (name, own.with(change)));
+    let other_bits = OTHER_BITS.map(|(name, bits, length)| {
+        let change = |r: &mut LentRecord| (r.offset_bits, r.offsets.length) = (bits, length);
+        (name, own.with(change))
     });
     // No log numbers, just past the file or at the largest place.
-    for (name, past) in [("past", layout.size() + 1), ("largest", u64::MAX)] {
+    let empty = |name, place| {
         let record = own.with(|r| {
             (r.key_count, r.edge_count) = (0, 0);
             r.fit();
-            r.logs.offset = past;
+            r.logs.offset = place;
         });
-        file.both(format!("empty-{name}"), ask(key).by(&record), expect(21, 0));
+        (name, record)
+    };
+    let empty = [
+        empty("empty-past", layout.size() + 1),
+        empty("empty-largest", u64::MAX),
+    ];
+    for (name, record) in wrapping.into_iter().chain(other_bits).chain(empty) {
+        file.both(name, ask(key).by(&record), expect(21, 0));
     }
 }

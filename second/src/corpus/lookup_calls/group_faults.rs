@@ -10,7 +10,11 @@ pub fn add(files: &mut Files) {
     degrees(&mut bad);
     tags(&mut bad);
     dense(&mut bad);
-    split(&mut bad);
+    split_first(&mut bad);
+    split_later(&mut bad);
+    split_order(&mut bad);
+    split_uppers(&mut bad);
+    split_degrees(&mut bad);
     two_faults(&mut bad);
     for bad in &bad.0 {
         only(files, bad);
@@ -39,6 +43,14 @@ impl BadGroups {
             number,
             degree: Some(degree),
         });
+    }
+
+    /// A split group of these partners, by the difference of the upper half and
+    /// the lower half. It is whole, and refused with 18.
+    fn split(&mut self, name: &str, partners: &[(u64, u64)]) {
+        let degree = partners.len() as u64;
+        let partners: Vec<u8> = partners.iter().flat_map(|&(u, l)| halves(u, l)).collect();
+        self.of(format!("split-{name}"), degree, &[SPLIT, &partners], 18);
     }
 
     /// A group without a readable degree, or of degree 0.
@@ -168,23 +180,30 @@ fn dense(bad: &mut BadGroups) {
     bad.of("dense-degree-101", 101, &[DENSE, &a, &b], 18);
 }
 
-fn split(bad: &mut BadGroups) {
+/// A varint of a number above 2^64.
+const TOO_LARGE: &[u8] = b"\xFF\xFF\xFF\xFF\xFF\xFF\xFF\xFF\xFF\x02";
+
+/// The first partner is cut, or its upper half is no varint.
+fn split_first(bad: &mut BadGroups) {
     let a = &halves(5, 1)[..];
     bad.of("split-nothing", 1, &[SPLIT], 17);
     bad.of("split-upper-cut", 1, &[SPLIT, &[0x80]], 17);
     bad.of("split-upper-cut-after-9", 1, &[SPLIT, &[0xFF; 9]], 17);
     bad.of("split-upper-long", 1, &[SPLIT, &[0x85, 0x00], &[1; 8]], 17);
-    let large = [&[0xFF; 9][..], &[0x02]].concat();
-    bad.of("split-upper-large", 1, &[SPLIT, &large, &[1; 8]], 17);
+    bad.of("split-upper-large", 1, &[SPLIT, TOO_LARGE, &[1; 8]], 17);
     bad.of("split-upper-without-end", 1, &[SPLIT, &[0x80; 18]], 17);
     bad.of("split-lower-missing", 1, &[SPLIT, &[5]], 18);
     bad.of("split-lower-cut-by-1", 1, &[SPLIT, &a[..8]], 18);
     bad.of("split-lower-one-byte", 1, &[SPLIT, &a[..2]], 18);
+}
 
+/// A later partner is missing, cut or no varint, or more follows the last one.
+fn split_later(bad: &mut BadGroups) {
+    let a = &halves(5, 1)[..];
     bad.of("split-second-missing", 2, &[SPLIT, a], 17);
     bad.of("split-second-upper-cut", 2, &[SPLIT, a, &[0x81]], 17);
     bad.of("split-second-long", 2, &[SPLIT, a, &[0x81, 0], &[1; 8]], 17);
-    bad.of("split-second-large", 2, &[SPLIT, a, &large, &[1; 8]], 17);
+    bad.of("split-second-large", 2, &[SPLIT, a, TOO_LARGE, &[1; 8]], 17);
     bad.of("split-second-lower-missing", 2, &[SPLIT, a, &[1]], 18);
     bad.of("split-second-lower-cut", 2, &[SPLIT, a, &[1; 8]], 18);
     bad.of("split-third-missing", 3, &[SPLIT, a, &halves(1, 0)], 17);
@@ -192,39 +211,36 @@ fn split(bad: &mut BadGroups) {
     bad.of("split-overlong-open", 1, &[SPLIT, a, &[0x80]], 18);
     bad.of("split-overlong-partner", 1, &[SPLIT, a, &halves(1, 1)], 18);
     bad.of("split-holds-dense", 1, &[SPLIT, &id_of(5, 1)], 18);
+}
 
+/// A partner is not above the one before it.
+fn split_order(bad: &mut BadGroups) {
     // The marked case of lower halves 2 and 2 is the first of these.
-    let equal = [&halves(5, 2)[..], &halves(0, 2)].concat();
-    bad.of("split-equal", 2, &[SPLIT, &equal], 18);
-    let falls = [&halves(5, 2)[..], &halves(0, 1)].concat();
-    bad.of("split-falls", 2, &[SPLIT, &falls], 18);
-    let zeros = [halves(0, 0), halves(0, 0)].concat();
-    bad.of("split-zeros", 2, &[SPLIT, &zeros], 18);
-    let reversed = [halves(5, 1 << 56), halves(0, 2)].concat();
-    bad.of("split-rises-as-big-endian", 2, &[SPLIT, &reversed], 18);
-    let signed = [halves(5, 1 << 63), halves(0, 1)].concat();
-    bad.of("split-rises-as-signed", 2, &[SPLIT, &signed], 18);
-    let third = [halves(5, 2), halves(1, 1), halves(0, 1)].concat();
-    bad.of("split-third-equal", 3, &[SPLIT, &third], 18);
-    let third = [halves(5, 2), halves(1, 9), halves(0, 3)].concat();
-    bad.of("split-third-falls", 3, &[SPLIT, &third], 18);
+    bad.split("equal", &[(5, 2), (0, 2)]);
+    bad.split("falls", &[(5, 2), (0, 1)]);
+    bad.split("zeros", &[(0, 0), (0, 0)]);
+    bad.split("rises-as-big-endian", &[(5, 1 << 56), (0, 2)]);
+    bad.split("rises-as-signed", &[(5, 1 << 63), (0, 1)]);
+    bad.split("third-equal", &[(5, 2), (1, 1), (0, 1)]);
+    bad.split("third-falls", &[(5, 2), (1, 9), (0, 3)]);
+}
 
-    for (word, first, difference) in [
-        ("by-1", u64::MAX, 1),
-        ("to-0", 1 << 63, 1 << 63),
-        ("to-itself", 1, u64::MAX),
-        ("twice-most", u64::MAX, u64::MAX),
-    ] {
-        let uppers = [halves(first, 1), halves(difference, 2)].concat();
-        bad.of(format!("split-passes-{word}"), 2, &[SPLIT, &uppers], 18);
-    }
-    let sum = [halves(1 << 62, 1), halves(3 << 62, 2)].concat();
-    bad.of("split-passes-by-sum", 2, &[SPLIT, &sum], 18);
-    let sum = [halves(1 << 63, 1), halves(1 << 62, 2), halves(1 << 62, 3)].concat();
-    bad.of("split-passes-at-third", 3, &[SPLIT, &sum], 18);
+/// An upper half passes 2^64 - 1.
+fn split_uppers(bad: &mut BadGroups) {
+    let most = u64::MAX;
+    bad.split("passes-by-1", &[(most, 1), (1, 2)]);
+    bad.split("passes-to-0", &[(1 << 63, 1), (1 << 63, 2)]);
+    bad.split("passes-to-itself", &[(1, 1), (most, 2)]);
+    bad.split("passes-twice-most", &[(most, 1), (most, 2)]);
+    bad.split("passes-by-sum", &[(1 << 62, 1), (3 << 62, 2)]);
+    let third = [(1 << 63, 1), (1 << 62, 2), (1 << 62, 3)];
+    bad.split("passes-at-third", &third);
+}
 
-    // The bytes run out where the next varint would begin, however many
-    // partners are still to come.
+/// The bytes run out where the next varint would begin, however many partners
+/// are still to come.
+fn split_degrees(bad: &mut BadGroups) {
+    let a = &halves(5, 1)[..];
     for (word, degree) in [
         ("2-to-63", 1 << 63),
         ("most", u64::MAX),

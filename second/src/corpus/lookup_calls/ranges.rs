@@ -3,7 +3,7 @@
 //! that are read at another width.
 
 use super::raw::{self, single, DENSE};
-use super::{ask, expect, found, Files, Intended, LentRecord};
+use super::{ask, expect, found, Files, Intended, LentRecord, LookupFile, Question};
 use crate::corpus::open_files::samples::{one_edge, single_groups};
 use crate::format::OFFSET_BITS;
 use crate::groups;
@@ -11,74 +11,104 @@ use crate::numbers::{id_of, Id};
 use crate::open::Range;
 
 pub fn add(files: &mut Files) {
-    in_header_and_footer(files);
+    other_places(files);
     empty_ranges(files);
-    over_each_other(files);
+    key_is_partner(files);
+    key_is_offsets_and_group(files);
     zeros(files);
     other_widths(files);
 }
 
-fn range(offset: u64, length: u64) -> Range {
+const fn range(offset: u64, length: u64) -> Range {
     Range { offset, length }
 }
 
-fn in_header_and_footer(files: &mut Files) {
-    let layout = one_edge();
-    let own = LentRecord::of_layout(&layout);
-    let key = id_of(1, 2);
-    let file = files.layout("places", &layout);
-    let size = file.bytes.len() as u64;
-    let id_at =
-        |bytes: &[u8], at: u64| -> Id { bytes[at as usize..][..16].try_into().expect("16 bytes") };
+/// One key and one edge, with tombstones. The ranges are to be set.
+const ONE_OF_EACH: LentRecord = LentRecord {
+    keys: range(0, 0),
+    offsets: range(0, 0),
+    partners: range(0, 0),
+    logs: range(0, 0),
+    dead: range(0, 0),
+    marked: true,
+    key_count: 1,
+    edge_count: 1,
+    offset_bits: 24,
+};
 
+/// One range after the other lies elsewhere in the file of one edge.
+fn other_places(files: &mut Files) {
+    let layout = one_edge();
+    let file = files.layout("places", &layout);
+    let own = LentRecord::of_layout(&layout);
+    partners_elsewhere(file, &own);
+    keys_elsewhere(file, &own);
+    logs_elsewhere(file, &own);
+    offsets_elsewhere(file, &own);
+}
+
+/// Asks for the key of the file of one edge.
+fn its_key(record: &LentRecord) -> Question {
+    ask(id_of(1, 2)).by(record)
+}
+
+fn partners_elsewhere(file: &mut LookupFile, own: &LentRecord) {
+    let size = file.size();
     let record = own.with(|r| r.partners.length = size - r.partners.offset);
-    file.both("partners-to-the-end", ask(key).by(&record), found(1, 0));
+    file.both("partners-to-the-end", its_key(&record), found(1, 0));
     let record = own.with(|r| r.partners.length += 1 + size - r.partners.offset);
-    file.both("partners-past-the-end", ask(key).by(&record), expect(21, 0));
+    file.both("partners-past-the-end", its_key(&record), expect(21, 0));
     // The offsets then count from the file's first byte: 84 partners and no tag
     // that there is.
     let record = own.with(|r| r.partners = range(0, size));
-    file.both("partners-are-the-file", ask(key).by(&record), expect(16, 0));
+    file.both("partners-are-the-file", its_key(&record), expect(16, 0));
     let record = own.with(|r| r.partners = range(size, 0));
-    file.both(
-        "no-partners-at-the-end",
-        ask(key).by(&record),
-        expect(14, 0),
-    );
+    file.both("no-partners-at-the-end", its_key(&record), expect(14, 0));
+}
 
+/// The key is what lies there.
+fn keys_elsewhere(file: &mut LookupFile, own: &LentRecord) {
     for (word, at) in [
         ("magic", 0),
         ("type", 16),
         ("offsets", own.offsets.offset),
-        ("table", layout.footer_place() + 2),
-        ("end", size - 16),
+        ("table", one_edge().footer_place() + 2),
+        ("end", file.size() - 16),
     ] {
         let record = own.with(|r| r.keys.offset = at);
-        let there = id_at(&file.bytes, at);
+        let there: Id = file.bytes[at as usize..][..16]
+            .try_into()
+            .expect("16 bytes");
         let name = format!("key-in-{word}");
-        file.both(&name, ask(there).by(&record), found(1, 0));
+        file.both(name, ask(there).by(&record), found(1, 0));
         let name = format!("key-not-in-{word}");
-        file.both(&name, ask(key).by(&record), Intended::Absent);
+        file.both(name, its_key(&record), Intended::Absent);
     }
+}
+
+fn logs_elsewhere(file: &mut LookupFile, own: &LentRecord) {
     for (word, at) in [
         ("magic", 0),
         ("label", 41),
         ("key", own.keys.offset + 4),
         ("partner", own.partners.offset + 3),
-        ("footer", layout.footer_place()),
-        ("end", size - 8),
+        ("footer", one_edge().footer_place()),
+        ("end", file.size() - 8),
     ] {
         let record = own.with(|r| r.logs.offset = at);
-        file.both(format!("log-in-{word}"), ask(key).by(&record), found(1, 0));
+        file.both(format!("log-in-{word}"), its_key(&record), found(1, 0));
     }
-    let record = own.with(|r| r.logs.offset = size - 7);
-    file.both("log-past-the-end", ask(key).by(&record), expect(21, 0));
+    let record = own.with(|r| r.logs.offset = file.size() - 7);
+    file.both("log-past-the-end", its_key(&record), expect(21, 0));
+}
+
+fn offsets_elsewhere(file: &mut LookupFile, own: &LentRecord) {
     // The first six bytes are no offsets of this partner range.
     let record = own.with(|r| r.offsets.offset = 0);
-    file.both("offsets-in-magic", ask(key).by(&record), expect(14, 0));
+    file.both("offsets-in-magic", its_key(&record), expect(14, 0));
     // Zeros behind a zero: an empty group.
     let record = own.with(|r| r.offsets.offset = own.keys.offset);
-    file.both("offsets-in-key", ask(key).by(&record), expect(17, 0));
+    file.both("offsets-in-key", its_key(&record), expect(17, 0));
 }
 
 /// An empty range may lie anywhere up to the file's end.
@@ -90,7 +120,7 @@ fn empty_ranges(files: &mut Files) {
         r.fit();
     });
     let file = files.layout("empty", &layout);
-    let size = file.bytes.len() as u64;
+    let size = file.size();
     type Place = fn(&mut LentRecord) -> &mut Range;
     let places: [(&str, Place); 3] = [
         ("keys", |r| &mut r.keys),
@@ -116,9 +146,9 @@ fn empty_ranges(files: &mut Files) {
     }
 }
 
-/// Bytes that are no file at all, and stand for several things at once.
-fn over_each_other(files: &mut Files) {
-    // A dense group of one partner: 2 and 16 bytes. Then offsets 0 and 18.
+/// Bytes that are no file at all, and stand for several things at once: a
+/// dense group of one partner, 2 and 16 bytes, and offsets 0 and 18.
+fn key_is_partner(files: &mut Files) {
     let partner = id_of(0x0102030405060708, 0x090A0B0C0D0E0F10);
     let mut bytes = raw::group(1, &[DENSE, &partner]);
     bytes.extend([0, 0, 0, 18, 0, 0]);
@@ -129,32 +159,28 @@ fn over_each_other(files: &mut Files) {
         partners: range(0, 18),
         logs: range(0, 8),
         dead: range(0, 1),
-        marked: true,
-        key_count: 1,
-        edge_count: 1,
-        offset_bits: 24,
+        ..ONE_OF_EACH
     };
-    let own = ask(partner);
-    file.both("one-call", own.clone(), expect(1, 0));
-    file.both("key-is-partner", own.clone().by(&record), found(1, 0));
-    let longer = record.with(|r| r.partners.length = 24);
-    file.both("partners-hold-all", own.clone().by(&longer), found(1, 0));
-    let logs = record.with(|r| r.logs.offset = 16);
-    file.both("log-to-the-end", own.clone().by(&logs), found(1, 0));
-    let dead = record.with(|r| r.dead.offset = 23);
-    file.both("dead-to-the-end", own.clone().by(&dead), found(1, 0));
-    let past = record.with(|r| r.logs.offset = 17);
-    file.both("log-past-the-end", own.clone().by(&past), expect(21, 0));
-    let shifted = record.with(|r| r.keys.offset = 1);
-    file.both("key-shifted", own.clone().by(&shifted), Intended::Absent);
+    file.both("one-call", ask(partner), expect(1, 0));
+    let mut by = |name: &str, change: fn(&mut LentRecord), answer: Intended| {
+        file.both(name, ask(partner).by(&record.with(change)), answer);
+    };
+    by("key-is-partner", |_| (), found(1, 0));
+    by("partners-hold-all", |r| r.partners.length = 24, found(1, 0));
+    by("log-to-the-end", |r| r.logs.offset = 16, found(1, 0));
+    by("dead-to-the-end", |r| r.dead.offset = 23, found(1, 0));
+    by("log-past-the-end", |r| r.logs.offset = 17, expect(21, 0));
+    by("key-shifted", |r| r.keys.offset = 1, Intended::Absent);
     let no_edges = record.with(|r| {
         r.edge_count = 0;
         r.fit();
     });
-    file.misplaced("no-edges", own.by(&no_edges), 1, 0);
+    file.misplaced("no-edges", ask(partner).by(&no_edges), 1, 0);
+}
 
-    // A key whose first bytes are its own offsets, 0 and 11, and whose other
-    // bytes are its group but for the last one.
+/// A key whose first bytes are its own offsets, 0 and 11, and whose other
+/// bytes are its group but for the last one.
+fn key_is_offsets_and_group(files: &mut Files) {
     let mut bytes = vec![0, 0, 0, 11, 0, 0];
     bytes.extend(single(5, 1 << 56));
     let key: Id = bytes[..16].try_into().expect("16 bytes");
@@ -165,18 +191,21 @@ fn over_each_other(files: &mut Files) {
         partners: range(6, 11),
         logs: range(9, 8),
         dead: range(3, 1),
-        ..record
+        ..ONE_OF_EACH
     };
-    file.both("all-in-one", ask(key).by(&record), found(1, 0));
+    let mut by = |name: &str, change: fn(&mut LentRecord), answer: Intended| {
+        file.both(name, ask(key).by(&record.with(change)), answer);
+    };
+    by("all-in-one", |_| (), found(1, 0));
     // Offsets that fall, and offsets that pass.
-    let shifted = record.with(|r| r.offsets.offset = 1);
-    file.both("offsets-at-1", ask(key).by(&shifted), expect(14, 0));
-    let shifted = record.with(|r| r.offsets.offset = 3);
-    file.both("offsets-at-3", ask(key).by(&shifted), expect(14, 0));
-    let earlier = record.with(|r| r.partners = range(5, 12));
-    file.both("partners-at-5", ask(key).by(&earlier), expect(18, 0));
-    let shorter = record.with(|r| r.partners = range(6, 10));
-    file.both("partners-cut", ask(key).by(&shorter), expect(14, 0));
+    by("offsets-at-1", |r| r.offsets.offset = 1, expect(14, 0));
+    by("offsets-at-3", |r| r.offsets.offset = 3, expect(14, 0));
+    by(
+        "partners-at-5",
+        |r| r.partners = range(5, 12),
+        expect(18, 0),
+    );
+    by("partners-cut", |r| r.partners = range(6, 10), expect(14, 0));
 }
 
 /// Keys that are all zero, and offsets of which none rises.
@@ -184,15 +213,11 @@ fn zeros(files: &mut Files) {
     let file = files.bytes("zeros", vec![0; 200]);
     for key_count in [1, 2, 3, 4, 7, 8] {
         let record = LentRecord {
-            keys: range(0, 0),
-            offsets: range(0, 0),
             partners: range(200, 0),
-            logs: range(0, 0),
-            dead: range(0, 0),
-            marked: true,
             key_count,
             edge_count: 1600,
             offset_bits: 40,
+            ..ONE_OF_EACH
         }
         .with(LentRecord::fit);
         // More log numbers than the file has bytes.

@@ -4,6 +4,8 @@ use super::{ask, expect, found, Files, LentRecord, LookupFile, Question, Rooms};
 use crate::corpus::open_files::samples::{dead, dense, live, split};
 use crate::groups::{self, Edge, Group};
 use crate::numbers::id_of;
+use Lookup::{Alone, Both, Full};
+use Room::{Enough, Short};
 
 pub fn add(files: &mut Files) {
     let degrees = [1, 2, 3, 8, 127, 128, 200, 1000];
@@ -50,51 +52,95 @@ fn rooms(file: &mut LookupFile, question: &Question, degree: u32, index: u64) {
     } else {
         "group"
     };
-    let name = |word: &str| format!("{form}-{index}-{word}");
-    let exact = Rooms::exact(degree);
-    let enough = found(u64::from(degree), index);
-    let short = expect(20, u64::from(degree));
-    let with = |rooms: Rooms| question.clone().rooms(rooms);
-    let partners = |partners: u32| with(Rooms { partners, ..exact });
-    let logs = |logs: u32| with(Rooms { logs, ..exact });
-    let marks = |marks: u32| with(Rooms { marks, ..exact });
+    let rows = all_at_once(degree)
+        .into_iter()
+        .chain(partners_short(degree))
+        .chain(logs_or_marks_short(degree))
+        .chain(several_short(degree));
+    for (lookup, word, rooms, room) in rows {
+        let name = format!("{form}-{index}-{word}");
+        let question = question.clone().rooms(rooms);
+        let answer = match room {
+            Enough => found(u64::from(degree), index),
+            Short => expect(20, u64::from(degree)),
+        };
+        match lookup {
+            Both => file.both(name, question, answer),
+            Full => file.full(name, question, answer),
+            Alone => file.alone(name, question, answer),
+        }
+    }
+}
 
-    file.both(name("exact"), with(exact), enough);
-    file.both(name("one-more"), with(Rooms::more(degree)), enough);
+enum Lookup {
+    Both,
+    Full,
+    Alone,
+}
+
+enum Room {
+    Enough,
+    Short,
+}
+
+/// Which lookup is made with which rooms, its name, and whether they are
+/// enough for it.
+type Row = (Lookup, &'static str, Rooms, Room);
+
+fn all_at_once(degree: u32) -> [Row; 4] {
     let much = Rooms {
         partners: 16 * degree + 1000,
         logs: degree + 100,
         marks: degree + 77,
     };
-    file.both(name("much-more"), with(much), enough);
-    file.both(name("none"), with(Rooms::NONE), short);
+    [
+        (Both, "exact", Rooms::exact(degree), Enough),
+        (Both, "one-more", Rooms::more(degree), Enough),
+        (Both, "much-more", much, Enough),
+        (Both, "none", Rooms::NONE, Short),
+    ]
+}
 
-    file.both(name("partners-short"), partners(exact.partners - 1), short);
-    file.full(
-        name("partners-16-short"),
-        partners(16 * (degree - 1)),
-        short,
-    );
-    file.alone(name("partners-as-edges"), partners(degree), short);
-    file.full(name("partners-none"), partners(0), short);
-    // Partners alone have no use for the other two.
-    file.full(name("logs-short"), logs(degree - 1), short);
-    file.alone(name("logs-none"), logs(0), enough);
-    file.full(name("logs-none"), logs(0), short);
-    file.full(name("marks-short"), marks(degree - 1), short);
-    file.alone(name("marks-none"), marks(0), enough);
-    file.full(name("marks-none"), marks(0), short);
-    let marks_alone = Rooms {
+fn partners_short(degree: u32) -> [Row; 4] {
+    let exact = Rooms::exact(degree);
+    let room = |partners: u32| Rooms { partners, ..exact };
+    [
+        (Both, "partners-short", room(exact.partners - 1), Short),
+        (Full, "partners-16-short", room(16 * (degree - 1)), Short),
+        (Alone, "partners-as-edges", room(degree), Short),
+        (Full, "partners-none", room(0), Short),
+    ]
+}
+
+/// Partners alone have no use for these two.
+fn logs_or_marks_short(degree: u32) -> [Row; 6] {
+    let exact = Rooms::exact(degree);
+    let logs = |logs: u32| Rooms { logs, ..exact };
+    let marks = |marks: u32| Rooms { marks, ..exact };
+    [
+        (Full, "logs-short", logs(degree - 1), Short),
+        (Alone, "logs-none", logs(0), Enough),
+        (Full, "logs-none", logs(0), Short),
+        (Full, "marks-short", marks(degree - 1), Short),
+        (Alone, "marks-none", marks(0), Enough),
+        (Full, "marks-none", marks(0), Short),
+    ]
+}
+
+fn several_short(degree: u32) -> [Row; 2] {
+    let marks_only = Rooms {
         marks: 4 * degree,
         ..Rooms::NONE
     };
-    file.both(name("marks-only"), with(marks_alone), short);
-    let short_in_each = Rooms {
-        partners: exact.partners - 1,
+    let each_short = Rooms {
+        partners: 16 * degree - 1,
         logs: degree - 1,
         marks: degree - 1,
     };
-    file.full(name("each-short"), with(short_in_each), short);
+    [
+        (Both, "marks-only", marks_only, Short),
+        (Full, "each-short", each_short, Short),
+    ]
 }
 
 /// The largest group for which a call may lend enough, after a single edge.

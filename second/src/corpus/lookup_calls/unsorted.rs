@@ -8,9 +8,12 @@ use crate::format::{kind, OFFSET_BITS};
 use crate::groups;
 use crate::layout::Layout;
 use crate::numbers::id_of;
+use Group::{Found, Misplaced, Refused};
 
 pub fn add(files: &mut Files) {
-    keys(files);
+    for run in KEY_RUNS {
+        key_run(files, &run);
+    }
     offsets(files);
     partner_ranges(files);
 }
@@ -21,47 +24,93 @@ fn singles(count: u64, offset_bits: u8) -> Layout {
     raw::layout(&groups, count, offset_bits)
 }
 
-/// Runs of keys, with the index of the first that does not rise; keys that the
-/// search meets, with their indices; and keys that it misses, there or not.
-fn keys(files: &mut Files) {
-    let mut run = |name: &str, keys: &[u64], faulty, met: &[(u64, u64)], missed: &[u64]| {
-        let layout = singles(keys.len() as u64, 24).with(|l| {
-            for (i, &lower) in keys.iter().enumerate() {
-                set_key(l, i, id_of(0, lower));
-            }
-        });
-        let file = files.layout(format!("unsorted-{name}"), &layout);
-        let record = LentRecord::of_layout(&layout);
-        let met = met.iter().map(|&(lower, index)| (lower, found(1, index)));
-        let missed = missed.iter().map(|&lower| (lower, Intended::Absent));
-        for (lower, answer) in met.chain(missed) {
-            let question = ask(id_of(0, lower));
-            let name = format!("file-{lower}");
-            file.full(name, question.clone(), expect(13, faulty));
-            file.both(format!("record-{lower}"), question.by(&record), answer);
-        }
-    };
-    run("three", &[30, 10, 20], 1, &[(10, 1), (20, 2)], &[30, 5, 25]);
-    let falling = [50, 40, 30, 20, 10];
-    run("falling", &falling, 1, &[(30, 2)], &[40, 20, 50, 10, 35]);
-    run("equal-2", &[7; 2], 1, &[(7, 1)], &[6, 8]);
-    run("equal-4", &[7; 4], 1, &[(7, 2)], &[6, 8]);
-    run("equal-5", &[7; 5], 1, &[(7, 2)], &[6, 8]);
+/// Keys, by their lower halves, with the index of the first that does not rise;
+/// keys that the search meets, with their indices; and keys that it misses,
+/// there or not.
+struct KeyRun {
+    name: &'static str,
+    keys: &'static [u64],
+    faulty: u64,
+    met: &'static [(u64, u64)],
+    missed: &'static [u64],
+}
+
+const KEY_RUNS: [KeyRun; 8] = [
+    KeyRun {
+        name: "three",
+        keys: &[30, 10, 20],
+        faulty: 1,
+        met: &[(10, 1), (20, 2)],
+        missed: &[30, 5, 25],
+    },
+    KeyRun {
+        name: "falling",
+        keys: &[50, 40, 30, 20, 10],
+        faulty: 1,
+        met: &[(30, 2)],
+        missed: &[40, 20, 50, 10, 35],
+    },
+    KeyRun {
+        name: "equal-2",
+        keys: &[7; 2],
+        faulty: 1,
+        met: &[(7, 1)],
+        missed: &[6, 8],
+    },
+    KeyRun {
+        name: "equal-4",
+        keys: &[7; 4],
+        faulty: 1,
+        met: &[(7, 2)],
+        missed: &[6, 8],
+    },
+    KeyRun {
+        name: "equal-5",
+        keys: &[7; 5],
+        faulty: 1,
+        met: &[(7, 2)],
+        missed: &[6, 8],
+    },
     // Of equal keys the search meets the last.
-    let some_equal = [1, 3, 3, 3, 5, 5];
-    let met = [(3, 3), (5, 5), (1, 0)];
-    run("some-equal", &some_equal, 2, &met, &[4, 2]);
-    let rotated = [4, 5, 6, 7, 1, 2, 3];
-    let met = [(7, 3), (5, 1), (6, 2), (4, 0)];
-    run("rotated", &rotated, 4, &met, &[1, 2, 9]);
-    let met = [(10, 0), (20, 1), (30, 2)];
-    run(
-        "last-misplaced",
-        &[10, 20, 30, 40, 5],
-        4,
-        &met,
-        &[5, 40, 45],
-    );
+    KeyRun {
+        name: "some-equal",
+        keys: &[1, 3, 3, 3, 5, 5],
+        faulty: 2,
+        met: &[(3, 3), (5, 5), (1, 0)],
+        missed: &[4, 2],
+    },
+    KeyRun {
+        name: "rotated",
+        keys: &[4, 5, 6, 7, 1, 2, 3],
+        faulty: 4,
+        met: &[(7, 3), (5, 1), (6, 2), (4, 0)],
+        missed: &[1, 2, 9],
+    },
+    KeyRun {
+        name: "last-misplaced",
+        keys: &[10, 20, 30, 40, 5],
+        faulty: 4,
+        met: &[(10, 0), (20, 1), (30, 2)],
+        missed: &[5, 40, 45],
+    },
+];
+
+fn key_run(files: &mut Files, run: &KeyRun) {
+    let layout = singles(run.keys.len() as u64, 24).with(|l| {
+        for (i, &lower) in run.keys.iter().enumerate() {
+            set_key(l, i, id_of(0, lower));
+        }
+    });
+    let file = files.layout(format!("unsorted-{}", run.name), &layout);
+    let record = LentRecord::of_layout(&layout);
+    let met = run.met.iter().map(|&(key, index)| (key, found(1, index)));
+    let missed = run.missed.iter().map(|&key| (key, Intended::Absent));
+    for (lower, answer) in met.chain(missed) {
+        let question = ask(id_of(0, lower));
+        let name = format!("file-{lower}");
+        file.full(name, question.clone(), expect(13, run.faulty));
+        file.both(format!("record-{lower}"), question.by(&record), answer);
+    }
 }
 
 /// What a lookup of a group says: both the same, or the full one misplaced.
@@ -72,96 +121,105 @@ enum Group {
     Refused(u8),
 }
 
-/// Runs of offsets over four groups that truly lie at 0, 11, 22, 33 to 44.
+/// Every bit is set, at whatever width.
+const LARGEST: u64 = u64::MAX;
+
+/// Offsets over four groups that truly lie at 0, 11, 22, 33 to 44; the index of
+/// the first faulty one; and what a lookup says of each group.
+type OffsetRun = (&'static str, [u64; 5], u64, [Group; 4]);
+
+const OFFSET_RUNS: [OffsetRun; 12] = [
+    (
+        "fall",
+        [0, 22, 11, 33, 44],
+        2,
+        [Refused(18), Refused(14), Refused(18), Misplaced],
+    ),
+    (
+        "equal",
+        [0, 11, 11, 33, 44],
+        2,
+        [Found, Refused(17), Refused(18), Misplaced],
+    ),
+    (
+        "pass",
+        [0, 11, 45, 33, 44],
+        3,
+        [Found, Refused(14), Refused(14), Misplaced],
+    ),
+    (
+        "last-passes",
+        [0, 11, 22, 33, 45],
+        4,
+        [Found, Found, Found, Refused(14)],
+    ),
+    (
+        "equal-past-the-length",
+        [0, 11, 50, 50, 50],
+        3,
+        [Found, Refused(14), Refused(14), Refused(14)],
+    ),
+    (
+        "equal-at-the-length",
+        [0, 11, 44, 44, 44],
+        3,
+        [Found, Refused(18), Refused(17), Refused(17)],
+    ),
+    ("zeros", [0; 5], 1, [Refused(17); 4]),
+    (
+        "begin-at-11",
+        [11, 22, 33, 44, 44],
+        0,
+        [Found, Found, Found, Refused(17)],
+    ),
+    (
+        "back-to-0",
+        [0, 11, 0, 11, 22],
+        2,
+        [Found, Refused(14), Misplaced, Misplaced],
+    ),
+    (
+        "end-early",
+        [0, 11, 22, 33, 43],
+        4,
+        [Found, Found, Found, Refused(18)],
+    ),
+    (
+        "largest-first",
+        [LARGEST, 11, 22, 33, 44],
+        0,
+        [Refused(14), Misplaced, Misplaced, Misplaced],
+    ),
+    (
+        "largest-last",
+        [0, 11, 22, 33, LARGEST],
+        4,
+        [Found, Found, Found, Refused(14)],
+    ),
+];
+
 fn offsets(files: &mut Files) {
-    use Group::{Found, Misplaced, Refused};
     for bits in OFFSET_BITS {
-        let most = (1 << bits) - 1;
-        let runs: [(&str, [u64; 5], u64, [Group; 4]); 12] = [
-            (
-                "fall",
-                [0, 22, 11, 33, 44],
-                2,
-                [Refused(18), Refused(14), Refused(18), Misplaced],
-            ),
-            (
-                "equal",
-                [0, 11, 11, 33, 44],
-                2,
-                [Found, Refused(17), Refused(18), Misplaced],
-            ),
-            (
-                "pass",
-                [0, 11, 45, 33, 44],
-                3,
-                [Found, Refused(14), Refused(14), Misplaced],
-            ),
-            (
-                "last-passes",
-                [0, 11, 22, 33, 45],
-                4,
-                [Found, Found, Found, Refused(14)],
-            ),
-            (
-                "equal-past-the-length",
-                [0, 11, 50, 50, 50],
-                3,
-                [Found, Refused(14), Refused(14), Refused(14)],
-            ),
-            (
-                "equal-at-the-length",
-                [0, 11, 44, 44, 44],
-                3,
-                [Found, Refused(18), Refused(17), Refused(17)],
-            ),
-            ("zeros", [0; 5], 1, [Refused(17); 4]),
-            (
-                "begin-at-11",
-                [11, 22, 33, 44, 44],
-                0,
-                [Found, Found, Found, Refused(17)],
-            ),
-            (
-                "back-to-0",
-                [0, 11, 0, 11, 22],
-                2,
-                [Found, Refused(14), Misplaced, Misplaced],
-            ),
-            (
-                "end-early",
-                [0, 11, 22, 33, 43],
-                4,
-                [Found, Found, Found, Refused(18)],
-            ),
-            (
-                "largest-first",
-                [most, 11, 22, 33, 44],
-                0,
-                [Refused(14), Misplaced, Misplaced, Misplaced],
-            ),
-            (
-                "largest-last",
-                [0, 11, 22, 33, most],
-                4,
-                [Found, Found, Found, Refused(14)],
-            ),
-        ];
         // The widths between the others show no more than that they are read.
         let shown = if bits == 24 || bits == 48 { 12 } else { 3 };
-        for (name, numbers, faulty, answers) in runs.into_iter().take(shown) {
-            let layout = singles(4, bits)
-                .with(|l| *l.section(kind::OFFSETS) = groups::offsets(&numbers, bits));
-            let file = files.layout(format!("offsets-{name}-{bits}"), &layout);
-            let record = LentRecord::of_layout(&layout);
-            file.full("file", ask(raw::key(0)), expect(14, faulty));
-            for (index, answer) in (0..).zip(answers) {
-                let question = ask(raw::key(index)).by(&record);
-                match answer {
-                    Found => file.both(index, question, found(1, index)),
-                    Misplaced => file.misplaced(index, question, 1, index),
-                    Refused(number) => file.both(index, question, expect(number, index)),
-                }
-            }
+        for run in OFFSET_RUNS.into_iter().take(shown) {
+            offset_run(files, bits, run);
+        }
+    }
+}
+
+fn offset_run(files: &mut Files, bits: u8, (name, numbers, faulty, answers): OffsetRun) {
+    let layout =
+        singles(4, bits).with(|l| *l.section(kind::OFFSETS) = groups::offsets(&numbers, bits));
+    let file = files.layout(format!("offsets-{name}-{bits}"), &layout);
+    let record = LentRecord::of_layout(&layout);
+    file.full("file", ask(raw::key(0)), expect(14, faulty));
+    for (index, answer) in (0..).zip(answers) {
+        let question = ask(raw::key(index)).by(&record);
+        match answer {
+            Found => file.both(index, question, found(1, index)),
+            Misplaced => file.misplaced(index, question, 1, index),
+            Refused(number) => file.both(index, question, expect(number, index)),
         }
     }
 }

@@ -13,8 +13,14 @@ pub fn add(files: &mut Files) {
     wrapping_lengths(files);
     edges_and_keys(files);
     offset_bits(files);
+    offset_bits_in_earnest(files);
+    exchanged_widths(files);
     lengths(files);
+    lengths_without_keys(files);
+    tombstone_lengths(files);
     flag_bits(files);
+    property_streams(files);
+    other_kinds(files);
 }
 
 fn two_groups() -> Vec<Group> {
@@ -137,7 +143,10 @@ fn offset_bits(files: &mut Files) {
         let layout = base().with(|l| l.offset_bits = bits);
         files.refused(format!("offset-bits-{bits}"), layout, expect(12, 0));
     }
-    // The section has the length that these bits give.
+}
+
+/// The section has the length that these bits give.
+fn offset_bits_in_earnest(files: &mut Files) {
     for bits in [16, 56, 64] {
         let layout = groups::layout(&two_groups(), bits);
         let name = format!("offset-bits-{bits}-in-earnest");
@@ -157,14 +166,15 @@ fn offset_bits(files: &mut Files) {
         let name = format!("offset-bits-{bits}-in-{length}-bytes");
         files.refused(name, layout, expect(12, 0));
     }
-    // Each width said to be each other.
+}
+
+/// Each width said to be each other.
+fn exchanged_widths(files: &mut Files) {
     for said in OFFSET_BITS {
-        for bits in OFFSET_BITS {
-            if said != bits {
-                let layout = groups::layout(&single_groups(2), bits).with(|l| l.offset_bits = said);
-                let name = format!("offset-bits-{bits}-said-{said}");
-                files.refused(name, layout, expect(12, 0));
-            }
+        for bits in OFFSET_BITS.into_iter().filter(|&bits| bits != said) {
+            let layout = groups::layout(&single_groups(2), bits).with(|l| l.offset_bits = said);
+            let name = format!("offset-bits-{bits}-said-{said}");
+            files.refused(name, layout, expect(12, 0));
         }
     }
 }
@@ -188,6 +198,10 @@ fn lengths(files: &mut Files) {
             files.refused(name, layout, expect(12, 0));
         }
     }
+}
+
+/// With no keys, all sections but the offsets are empty.
+fn lengths_without_keys(files: &mut Files) {
     for (word, kind) in [
         ("keys", kind::KEYS),
         ("offsets", kind::OFFSETS),
@@ -199,7 +213,10 @@ fn lengths(files: &mut Files) {
     }
     let layout = heading_only().with(|l| l.sections[1].bytes.clear());
     files.refused("length-of-offsets-0-on-heading-only", layout, expect(12, 0));
-    // One byte for eight edges.
+}
+
+/// Another length than one byte for eight edges.
+fn tombstone_lengths(files: &mut Files) {
     for (edges, length) in [
         (0, 1),
         (1, 0),
@@ -224,28 +241,39 @@ fn lengths(files: &mut Files) {
     }
 }
 
+fn property_stream(bytes: &[u8]) -> Section {
+    Section::new(kind::PROPERTIES, bytes)
+}
+
+fn with_flags(layout: Layout, flags: u32) -> Layout {
+    layout.with(|l| l.header.flags |= flags)
+}
+
+/// A bit without its section, and a property stream without its bit.
 fn flag_bits(files: &mut Files) {
-    let properties = |bytes: &[u8]| Section::new(kind::PROPERTIES, bytes);
-    let set = |layout: Layout, flags: u32| layout.with(|l| l.header.flags |= flags);
     for (word, layout) in [
         ("heading-only", heading_only()),
         ("one-edge", one_edge()),
         ("minor-200", one_edge().with(|l| l.header.minor = 200)),
     ] {
         let name = format!("bit-0-without-properties-{word}");
-        let flagged = set(layout.clone(), flag::PROPERTIES);
+        let flagged = with_flags(layout.clone(), flag::PROPERTIES);
         files.refused(name, flagged, expect(12, 0));
         let name = format!("bit-1-without-tombstones-{word}");
-        let flagged = set(layout.clone(), flag::TOMBSTONES);
+        let flagged = with_flags(layout.clone(), flag::TOMBSTONES);
         files.refused(name, flagged, expect(12, 0));
         let name = format!("properties-without-bit-0-{word}");
-        let streamed = layout.with(|l| l.sections.push(properties(b"p")));
+        let streamed = layout.with(|l| l.sections.push(property_stream(b"p")));
         files.refused(name, streamed, expect(12, 0));
     }
+}
+
+/// Property streams of any sort want bit 0.
+fn property_streams(files: &mut Files) {
     for (word, section) in [
-        ("empty", properties(b"")),
-        ("named", properties(b"p").named(*b"weight")),
-        ("coded", properties(b"p").codec(1)),
+        ("empty", property_stream(b"")),
+        ("named", property_stream(b"p").named(*b"weight")),
+        ("coded", property_stream(b"p").codec(1)),
     ] {
         let layout = one_edge().with(|l| l.sections.push(section));
         let name = format!("properties-without-bit-0-{word}");
@@ -253,19 +281,27 @@ fn flag_bits(files: &mut Files) {
     }
     let layout = full().with(|l| l.header.flags &= !flag::PROPERTIES);
     files.refused("properties-without-bit-0-full", layout, expect(12, 0));
-    // Only kind 0x0100 is meant by bit 0, and only kind 5 by bit 1.
-    for other in [0, 7, 0x0101, 0x0200, 0xFF00] {
-        let layout = one_edge().with(|l| l.sections.push(Section::new(other, *b"p")));
-        let name = format!("bit-0-with-kind-{other}");
-        files.refused(name, set(layout, flag::PROPERTIES), expect(12, 0));
-    }
-    for other in [7, 0x0105, 0x0500] {
-        let layout = one_edge().with(|l| l.sections.push(Section::new(other, [1])));
-        let name = format!("bit-1-with-kind-{other}");
-        files.refused(name, set(layout, flag::TOMBSTONES), expect(12, 0));
+}
+
+/// Only kind 0x0100 is meant by bit 0, and only kind 5 by bit 1.
+fn other_kinds(files: &mut Files) {
+    for (bit, flag, kinds, bytes) in [
+        (
+            0,
+            flag::PROPERTIES,
+            &[0, 7, 0x0101, 0x0200, 0xFF00][..],
+            b'p',
+        ),
+        (1, flag::TOMBSTONES, &[7, 0x0105, 0x0500], 1),
+    ] {
+        for &kind in kinds {
+            let layout = one_edge().with(|l| l.sections.push(Section::new(kind, [bytes])));
+            let name = format!("bit-{bit}-with-kind-{kind}");
+            files.refused(name, with_flags(layout, flag), expect(12, 0));
+        }
     }
     let layout = full().with(|l| l.section(kind::TOMBSTONES).kind = 8);
     files.refused("bit-1-with-tombstones-as-kind-8", layout, expect(12, 0));
-    let both = set(one_edge(), flag::PROPERTIES | flag::TOMBSTONES);
+    let both = with_flags(one_edge(), flag::PROPERTIES | flag::TOMBSTONES);
     files.refused("bits-0-and-1-without-sections", both, expect(12, 0));
 }

@@ -21,7 +21,11 @@ pub fn add(files: &mut Files) {
         .with(|l| l.sections.push(groups::fences(&groups, STRIDE)));
     files.opens("large-65537-keys-with-fences", fenced.clone());
     files.refused("large-65537-keys-without-fences", bare, expect(12, 0));
+    wrong_fences(files, &fenced);
+    equal_neighbours(files, &fenced, &groups);
+}
 
+fn wrong_fences(files: &mut Files, fenced: &Layout) {
     let changed = |change: fn(&mut Vec<u8>)| -> Layout {
         let mut layout = fenced.clone();
         change(&mut layout.section(kind::FENCES).bytes);
@@ -45,12 +49,15 @@ pub fn add(files: &mut Files) {
         rounded_down,
         expect(15, 0),
     );
+}
 
+/// A key or an offset that equals the one before it.
+fn equal_neighbours(files: &mut Files, fenced: &Layout, groups: &[Group]) {
     let before = groups[64_999].key;
     let equal_keys = fenced.clone().with(|l| set_key(l, 65_000, before));
     files.refused("large-key-65000-equal", equal_keys, expect(13, 65_000));
-    let before = groups::group_offsets(&groups)[65_499];
-    let equal_offsets = fenced.with(|l| set_offset(l, 65_500, before));
+    let before = groups::group_offsets(groups)[65_499];
+    let equal_offsets = fenced.clone().with(|l| set_offset(l, 65_500, before));
     files.refused(
         "large-offset-65500-equal",
         equal_offsets,

@@ -14,51 +14,52 @@ struct Fault {
     change: fn(&mut Layout),
 }
 
-/// In the order of the checks. See `full` for the entries' indices.
-fn faults() -> Vec<Fault> {
-    let fault = |name, intended, change| Fault {
+const fn fault(name: &'static str, intended: Verdict, change: fn(&mut Layout)) -> Fault {
+    Fault {
         name,
         intended,
         change,
-    };
-    vec![
-        fault("magic", expect(2, 0), |l| l.header.magic[5] = b'F'),
-        fault("major", expect(3, 0), |l| l.header.major = 2),
-        fault("header-size", expect(4, 0), |l| l.header.size = 65),
-        fault("flag-bit", expect(5, 0), |l| l.header.flags |= 1 << 20),
-        fault("tail-magic", expect(6, 0), |l| l.tail_magic[7] = 1),
-        fault("footer-length", expect(7, 0), |l| {
-            l.footer_length = Some(38)
-        }),
-        fault("checksum", expect(8, 0), |l| l.footer_checksum = Some(1)),
-        fault("named-keys", expect(9, 0), |l| {
-            l.section(kind::KEYS).name = b"k".to_vec()
-        }),
-        fault("doubled-fences", expect(9, 0), |l| {
-            l.sections.push(Section::new(kind::FENCES, []))
-        }),
-        fault("codec-at-1", expect(10, 1), |l| l.sections[1].codec = 1),
-        fault("codec-at-7", expect(10, 7), |l| l.sections[7].codec = 1),
-        fault("range-at-0", expect(11, 0), |l| {
-            l.sections[0].stated.offset = Some(63)
-        }),
-        fault("range-at-5", expect(11, 5), |l| {
-            l.sections[5].stated.length = Some(u64::MAX)
-        }),
-        fault("edge-count", expect(12, 0), |l| l.edge_count += 1),
-        fault("offset-bits", expect(12, 0), |l| l.offset_bits = 25),
-        fault("key-1", expect(13, 1), |l| set_key(l, 1, id_of(1, 2))),
-        fault("key-2", expect(13, 2), |l| set_key(l, 2, id_of(0, 9))),
-        fault("offset-0", expect(14, 0), |l| set_offset(l, 0, 1)),
-        fault("offset-3", expect(14, 3), |l| set_offset(l, 3, 60)),
-        fault("fence-stride", expect(15, 0), |l| {
-            l.section(kind::FENCES).bytes[0] = 0
-        }),
-        fault("fence-key", expect(15, 0), |l| {
-            l.section(kind::FENCES).bytes[8 + 24 + 9] ^= 1
-        }),
-    ]
+    }
 }
+
+/// In the order of the checks. See `full` for the entries' indices.
+static FAULTS: [Fault; 21] = [
+    fault("magic", expect(2, 0), |l| l.header.magic[5] = b'F'),
+    fault("major", expect(3, 0), |l| l.header.major = 2),
+    fault("header-size", expect(4, 0), |l| l.header.size = 65),
+    fault("flag-bit", expect(5, 0), |l| l.header.flags |= 1 << 20),
+    fault("tail-magic", expect(6, 0), |l| l.tail_magic[7] = 1),
+    fault("footer-length", expect(7, 0), |l| {
+        l.footer_length = Some(38)
+    }),
+    fault("checksum", expect(8, 0), |l| l.footer_checksum = Some(1)),
+    fault("named-keys", expect(9, 0), |l| {
+        l.section(kind::KEYS).name = b"k".to_vec()
+    }),
+    fault("doubled-fences", expect(9, 0), |l| {
+        l.sections.push(Section::new(kind::FENCES, []))
+    }),
+    fault("codec-at-1", expect(10, 1), |l| l.sections[1].codec = 1),
+    fault("codec-at-7", expect(10, 7), |l| l.sections[7].codec = 1),
+    fault("range-at-0", expect(11, 0), |l| {
+        l.sections[0].stated.offset = Some(63)
+    }),
+    fault("range-at-5", expect(11, 5), |l| {
+        l.sections[5].stated.length = Some(u64::MAX)
+    }),
+    fault("edge-count", expect(12, 0), |l| l.edge_count += 1),
+    fault("offset-bits", expect(12, 0), |l| l.offset_bits = 25),
+    fault("key-1", expect(13, 1), |l| set_key(l, 1, id_of(1, 2))),
+    fault("key-2", expect(13, 2), |l| set_key(l, 2, id_of(0, 9))),
+    fault("offset-0", expect(14, 0), |l| set_offset(l, 0, 1)),
+    fault("offset-3", expect(14, 3), |l| set_offset(l, 3, 60)),
+    fault("fence-stride", expect(15, 0), |l| {
+        l.section(kind::FENCES).bytes[0] = 0
+    }),
+    fault("fence-key", expect(15, 0), |l| {
+        l.section(kind::FENCES).bytes[8 + 24 + 9] ^= 1
+    }),
+];
 
 impl Fault {
     fn number(&self) -> u8 {
@@ -70,31 +71,30 @@ impl Fault {
 }
 
 pub fn add(files: &mut Files) {
-    let faults = faults();
-    for fault in &faults {
+    for fault in &FAULTS {
         let layout = full().with(fault.change);
         files.refused(format!("only-{}", fault.name), layout, fault.intended);
     }
-    two_numbers(files, &faults);
-    all_from(files, &faults);
+    two_numbers(files);
+    all_from(files);
     same_number(files);
     early_ends(files);
 }
 
 /// Whether a fault is the first of its number.
-fn leads(faults: &[Fault], index: usize) -> bool {
-    index == 0 || faults[index - 1].number() < faults[index].number()
+fn leads(index: usize) -> bool {
+    index == 0 || FAULTS[index - 1].number() < FAULTS[index].number()
 }
 
 /// Neighbouring numbers with all their faults, all other pairs of numbers with
 /// the first fault of each.
-fn two_numbers(files: &mut Files, faults: &[Fault]) {
-    for (i, earlier) in faults.iter().enumerate() {
-        for (j, later) in faults.iter().enumerate().skip(i + 1) {
+fn two_numbers(files: &mut Files) {
+    for (i, earlier) in FAULTS.iter().enumerate() {
+        for (j, later) in FAULTS.iter().enumerate().skip(i + 1) {
             let wanted = match later.number() - earlier.number() {
                 0 => false,
                 1 => true,
-                _ => leads(faults, i) && leads(faults, j),
+                _ => leads(i) && leads(j),
             };
             if wanted {
                 let layout = full().with(later.change).with(earlier.change);
@@ -106,12 +106,12 @@ fn two_numbers(files: &mut Files, faults: &[Fault]) {
 }
 
 /// Every fault from one on, up to the last.
-fn all_from(files: &mut Files, faults: &[Fault]) {
-    for (i, first) in faults.iter().enumerate() {
-        if leads(faults, i) {
+fn all_from(files: &mut Files) {
+    for (i, first) in FAULTS.iter().enumerate() {
+        if leads(i) {
             // The last one first: what it changes is found by fields that an
             // earlier one may make wrong.
-            let layout = faults[i..]
+            let layout = FAULTS[i..]
                 .iter()
                 .rev()
                 .fold(full(), |layout, fault| layout.with(fault.change));

@@ -7,10 +7,12 @@ use crate::layout::{Layout, Section};
 
 pub fn add(files: &mut Files) {
     beginnings(files);
+    last_end(files);
     ends(files);
     sums(files);
     rising(files);
     empty_ones(files);
+    empty_read_kinds(files);
     first_of_several(files);
 }
 
@@ -42,10 +44,11 @@ fn beginnings(files: &mut Files) {
     }
 }
 
-fn ends(files: &mut Files) {
-    let last_length = |layout: &Layout| layout.sections.last().map_or(0, |s| s.bytes.len() as u64);
+/// The last section goes on into the footer, or begins there or past it.
+fn last_end(files: &mut Files) {
+    let right = one_edge().sections[3].bytes.len() as u64;
     for (word, by) in [("1", 1), ("20", 20), ("all-the-footer", 151)] {
-        let layout = length(one_edge(), 3, last_length(&one_edge()) + by);
+        let layout = length(one_edge(), 3, right + by);
         let name = format!("range-ends-past-footer-begin-by-{word}");
         files.refused(name, layout, expect(11, 3));
     }
@@ -57,32 +60,32 @@ fn ends(files: &mut Files) {
     files.refused("range-begins-at-footer", footer, expect(11, 3));
     let past = begin(one_edge(), 3, one_edge().size());
     files.refused("range-begins-past-file", past, expect(11, 3));
+}
+
+/// The description with a section that goes on so far into the footer.
+fn into_footer(index: usize, by: u64) -> Layout {
+    let to_end = full().footer_place() - full().offsets()[index];
+    length(full(), index, to_end + by)
+}
+
+fn ends(files: &mut Files) {
     // Each row in turn goes on one byte into the footer. It is told itself,
     // though the row after it then begins too early as well.
     for index in 0..8 {
-        let to_end = full().footer_place() - full().offsets()[index];
-        let layout = length(full(), index, to_end + 1);
         let name = format!("range-at-entry-{index}-ends-in-footer");
-        files.refused(name, layout, expect(11, index as u64));
+        files.refused(name, into_footer(index, 1), expect(11, index as u64));
     }
     // It ends just with the footer's beginning, so the next begins too early.
     for index in [0, 2, 5] {
-        let to_end = full().footer_place() - full().offsets()[index];
-        let layout = length(full(), index, to_end);
         let name = format!("range-at-entry-{index}-ends-at-footer");
-        files.refused(name, layout, expect(11, index as u64 + 1));
+        files.refused(name, into_footer(index, 0), expect(11, index as u64 + 1));
     }
     let last = full().with(|l| {
-        let skipped = Section::new(7, *b"skip");
-        l.sections.push(skipped);
+        l.sections.push(Section::new(7, *b"skip"));
         l.last_gap.clear();
     });
-    let layout = length(last, 8, 5);
-    files.refused(
-        "range-of-skipped-kind-ends-in-footer",
-        layout,
-        expect(11, 8),
-    );
+    let name = "range-of-skipped-kind-ends-in-footer";
+    files.refused(name, length(last, 8, 5), expect(11, 8));
 }
 
 /// Offset and length whose sum is 2^64 or more, and would be small or right if
@@ -147,48 +150,33 @@ fn rising(files: &mut Files) {
     files.refused("row-of-skipped-kind-last", skipped_last, expect(11, 7));
 }
 
+/// A skipped section of no bytes, as the entry with an index and at an offset;
+/// and the entry that is told.
 fn empty_ones(files: &mut Files) {
-    let with_empty = |index: usize, offset: u64| {
-        let layout = one_edge().with(|l| l.sections.insert(index, Section::new(7, [])));
-        begin(layout, index, offset)
-    };
+    let with_empty =
+        |index: usize| one_edge().with(|layout| layout.sections.insert(index, Section::new(7, [])));
     let offsets = one_edge().offsets();
     let footer = one_edge().footer_place();
-    files.refused("empty-range-at-63", with_empty(0, 63), expect(11, 0));
-    files.refused("empty-range-at-0", with_empty(0, 0), expect(11, 0));
-    files.refused("empty-range-last-at-0", with_empty(4, 0), expect(11, 4));
-    let past = with_empty(4, footer + 1);
-    files.refused("empty-range-past-footer-begin", past, expect(11, 4));
-    let first_past = with_empty(0, footer + 1);
-    files.refused(
-        "empty-range-first-past-footer-begin",
-        first_past,
-        expect(11, 0),
-    );
-    let at_size = with_empty(
-        4,
-        one_edge()
-            .with(|l| l.sections.push(Section::new(7, [])))
-            .size(),
-    );
-    files.refused("empty-range-at-file-end", at_size, expect(11, 4));
-    let inside = with_empty(1, offsets[1] - 1);
-    files.refused("empty-range-inside-the-last", inside, expect(11, 1));
-    let begins_with_last = with_empty(1, offsets[0]);
-    files.refused(
-        "empty-range-where-the-last-begins",
-        begins_with_last,
-        expect(11, 1),
-    );
-    // It may lie there itself, but the next row has to begin no earlier.
-    let at_footer = with_empty(0, footer);
-    files.refused(
-        "empty-range-first-at-footer-begin",
-        at_footer,
-        expect(11, 1),
-    );
-    let ahead = with_empty(1, offsets[1] + 1);
-    files.refused("empty-range-inside-the-next", ahead, expect(11, 2));
+    for (word, index, offset, told) in [
+        ("at-63", 0, 63, 0),
+        ("at-0", 0, 0, 0),
+        ("last-at-0", 4, 0, 4),
+        ("past-footer-begin", 4, footer + 1, 4),
+        ("first-past-footer-begin", 0, footer + 1, 0),
+        ("at-file-end", 4, with_empty(4).size(), 4),
+        ("inside-the-last", 1, offsets[1] - 1, 1),
+        ("where-the-last-begins", 1, offsets[0], 1),
+        // It may lie there itself, but the next row has to begin no earlier.
+        ("first-at-footer-begin", 0, footer, 1),
+        ("inside-the-next", 1, offsets[1] + 1, 2),
+    ] {
+        let layout = begin(with_empty(index), index, offset);
+        files.refused(format!("empty-range-{word}"), layout, expect(11, told));
+    }
+}
+
+/// Kinds that are read and have no bytes in a file without keys.
+fn empty_read_kinds(files: &mut Files) {
     let no_keys = begin(heading_only(), 0, heading_only().footer_place());
     files.refused("empty-keys-at-footer-begin", no_keys, expect(11, 1));
     let no_logs = begin(heading_only(), 3, 66);

@@ -22,6 +22,7 @@ pub fn add(files: &mut Files) {
     section_orders(files);
     gaps(files);
     empty_sections(files);
+    empty_read_kinds(files);
     tombstones(files);
     fences(files);
 }
@@ -222,7 +223,11 @@ fn empty_sections(files: &mut Files) {
         l.sections.push(empty());
     });
     files.opens("empty-sections-at-both-ends", both);
-    // All that may be empty lies at the footer, or at 64.
+}
+
+/// All that may be empty of the kinds that are read lies at the footer, or at
+/// 64.
+fn empty_read_kinds(files: &mut Files) {
     let at_footer = heading_only().with(|l| l.sections.swap(0, 1));
     files.opens("heading-only-empty-ones-at-footer", at_footer);
     let at_64 = heading_only().with(|l| {

@@ -8,10 +8,15 @@ use crate::layout::{Layout, Section};
 pub fn add(files: &mut Files) {
     section_counts(files);
     bodies_not_filled(files);
-    names(files);
+    names_of_read_kinds(files);
+    names_too_long(files);
+    name_lengths(files);
     missing_kinds(files);
     doubled_kinds(files);
     codecs(files);
+    codecs_without_keys(files);
+    several_codecs(files);
+    codecs_elsewhere(files);
 }
 
 fn section_counts(files: &mut Files) {
@@ -86,7 +91,8 @@ fn bodies_not_filled(files: &mut Files) {
     files.opens("body-with-counts-twice-once-as-name", layout);
 }
 
-fn names(files: &mut Files) {
+/// Kinds that are read have no name.
+fn names_of_read_kinds(files: &mut Files) {
     for kind in kind::READ {
         let layout = full().with(|l| l.section(kind).name = vec![b'k']);
         files.refused(format!("name-of-1-on-kind-{kind}"), layout, expect(9, 0));
@@ -96,8 +102,10 @@ fn names(files: &mut Files) {
         let name = format!("name-of-{length}-on-kind-4");
         files.refused(name, layout, expect(9, 0));
     }
+}
 
-    // The name is there, and too long.
+/// The name is there, and too long.
+fn names_too_long(files: &mut Files) {
     for length in [64, 128, 255] {
         for (word, kind, flags) in [
             ("skipped-kind", 7, 0),
@@ -112,25 +120,25 @@ fn names(files: &mut Files) {
             files.refused(name, layout, expect(9, 0));
         }
     }
-    // The name length says more or less than there is.
+}
+
+/// The name length says more or less than there is.
+fn name_lengths(files: &mut Files) {
     let named = one_edge().with(|l| l.sections.push(Section::new(7, *b"!").named(*b"four")));
+    let stated = |index: usize, length: u8| {
+        let mut layout = named.clone();
+        layout.sections[index].stated.name_length = Some(length);
+        layout
+    };
     for length in [0, 3, 5, 21, 22, 63, 64, 255] {
-        let stated = |index: usize| {
-            let mut layout = named.clone();
-            layout.sections[index].stated.name_length = Some(length);
-            layout
-        };
         let name = format!("name-of-4-said-{length}");
-        files.refused(name, stated(4), expect(9, 0));
+        files.refused(name, stated(4, length), expect(9, 0));
         if length > 0 {
             let name = format!("name-of-0-on-keys-said-{length}");
-            files.refused(name, stated(0), expect(9, 0));
+            files.refused(name, stated(0, length), expect(9, 0));
         }
     }
-    let first = named.clone().with(|l| {
-        l.sections.rotate_right(1);
-        l.sections[0].stated.name_length = Some(5);
-    });
+    let first = stated(4, 5).with(|l| l.sections.rotate_right(1));
     files.refused("name-of-4-in-first-row-said-5", first, expect(9, 0));
 }
 
@@ -172,9 +180,13 @@ fn doubled_kinds(files: &mut Files) {
     files.refused("doubled-kinds-1-to-4", layout, expect(9, 0));
 }
 
+/// The description with another codec in a row.
+fn coded(layout: Layout, index: usize, codec: u8) -> Layout {
+    layout.with(|l| l.sections[index].codec = codec)
+}
+
+/// Each entry in turn: kinds that are read are raw, others need not be.
 fn codecs(files: &mut Files) {
-    let coded =
-        |layout: Layout, index: usize, codec: u8| layout.with(|l| l.sections[index].codec = codec);
     for (index, section) in full().sections.iter().enumerate() {
         if kind::READ.contains(&section.kind) {
             for codec in [1, 255] {
@@ -187,12 +199,18 @@ fn codecs(files: &mut Files) {
             files.opens(format!("codec-255-at-entry-{index}"), layout);
         }
     }
+}
+
+fn codecs_without_keys(files: &mut Files) {
     for index in 0..4 {
         let layout = coded(heading_only(), index, 1);
         let name = format!("codec-of-heading-only-at-entry-{index}");
         files.refused(name, layout, expect(10, index as u64));
     }
-    // The first one counts, and it is an index of the table.
+}
+
+/// The first one counts, and it is an index of the table.
+fn several_codecs(files: &mut Files) {
     let layout = coded(coded(full(), 7, 1), 3, 1);
     files.refused("codecs-at-entries-3-and-7", layout, expect(10, 3));
     let layout = coded(coded(full(), 4, 1), 1, 9);
@@ -207,11 +225,12 @@ fn codecs(files: &mut Files) {
         l.section(kind::KEYS).codec = 0;
         l.section(kind::OFFSETS).codec = 0;
     });
-    files.refused(
-        "codecs-but-not-of-keys-and-offsets",
-        all_but_keys,
-        expect(10, 2),
-    );
+    let name = "codecs-but-not-of-keys-and-offsets";
+    files.refused(name, all_but_keys, expect(10, 2));
+}
+
+/// In the last entry that there may be, and at another minor version.
+fn codecs_elsewhere(files: &mut Files) {
     let last = one_edge().with(|l| {
         let skipped = Section::new(7, []);
         l.sections.splice(0..0, vec![skipped; 60]);

@@ -2,7 +2,7 @@
 use mathlib.Core.Path.{_≡_, sym}
 use Prim.Native.Nat.{_^_, _<_}
 use native.Mathlib.Omega.{arith}
-use Rattle.codes.specs.Ids.{numberOf}
+use Rattle.codes.specs.Ids.{idNumber}
 use Rattle.codes.specs.Ids.Laws.{less, greater, equal, upper}
 use Rattle.codes.proofs.ids.compare.Statement.{statement}
 use Rattle.codes.proofs.ids.compare.Tie as tie
@@ -20,14 +20,14 @@ returns-3 : tie.Need-returns-3
 returns-3 c =
     let a = c .before .before .before .before .before .before .before .before .before .args in
     let same : a .a .hi ≡ a .b .hi = omega arith in
-    let lt : numberOf (a .a) < numberOf (a .b) = rw same (omega arith) in
+    let lt : idNumber (a .a) < idNumber (a .b) = rw same (omega arith) in
     sym (less lt)
 
 returns-4 : tie.Need-returns-4
 returns-4 c =
     let a = c .before .before .before .before .before .before .before .before .before .before .before .before .args in
     let same : a .a .hi ≡ a .b .hi = omega arith in
-    let lt : numberOf (a .b) < numberOf (a .a) = rw same (omega arith) in
+    let lt : idNumber (a .b) < idNumber (a .a) = rw same (omega arith) in
     sym (greater lt)
 
 returns-5 : tie.Need-returns-5
@@ -35,7 +35,7 @@ returns-5 c =
     let a = c .before .before .before .before .before .before .before .before .before .before .before .before .args in
     let high : a .a .hi ≡ a .b .hi = omega arith in
     let low : a .a .lo ≡ a .b .lo = omega arith in
-    let eq : numberOf (a .a) ≡ numberOf (a .b) = rw (high, low) in
+    let eq : idNumber (a .a) ≡ idNumber (a .b) = rw (high, low) in
     sym (equal eq)
 
 pub compare-spec : {M : Type 1} → statement M

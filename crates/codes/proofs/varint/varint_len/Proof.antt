@@ -1,5 +1,6 @@
 -- `codes::varint::varint_len` meets its contract: j / 7 + 1 bytes, where 2 ^ j is the highest power of two in x.
-use mathlib.Core.Path.{_≡_, _∙_, ap, sym, refl}
+use mathlib.Core.Path.{_≡_, _∙_, ap}
+use native.Mathlib.Nat.{pow-suc}
 use native.Mathlib.Decide.{decLe}
 use Prim.Native.Nat.{ℕ, zero, suc, _+_, _-_, _*_, _/_, _%_, _^_, _≤_, _<_}
 use native.Mathlib.Omega.{arith}
@@ -8,6 +9,7 @@ use lib.Pow.{pow-mono, pow-add}
 use lib.Count.{leadingZeros, leading-le, leading-top}
 use Rattle.codes.specs.Varint.{bytesFrom, varBytes}
 use Rattle.codes.specs.Varint.Laws.{bytes-from, length-more, length-last}
+use borrow.Author.Needs.{needs}
 use Rattle.codes.proofs.varint.varint_len.Statement.{statement}
 use Rattle.codes.proofs.varint.varint_len.Tie as tie
 
@@ -38,22 +40,43 @@ bits (suc f) x j lo hi b =
           ]
     ]
 
-counted : (x : ℕ) → zero < x → x < 2 ^ 64 → (70 - leadingZeros 64 x) / 7 ≡ length (varBytes x)
-counted x p h =
-    let (j, e, lo, hi) = leading-top 64 x p h in
-    omega (arith, ap length (bytes-from x), bits 9 x j lo hi (omega arith))
+-- x with its lowest bit set: its highest bit is where that of x is, and 0 becomes 1
+abbrev odd : ℕ → ℕ
+odd x = x / 2 * 2 + 1
+
+from-top : (x j : ℕ) → 2 ^ j ≤ odd x → odd x < 2 ^ suc j → j < 64 → length (varBytes x) ≡ j / 7 + 1
+from-top x zero lo hi b = omega (arith, ap length (bytes-from x), length-last 9 x (omega arith))
+from-top x (suc j) lo hi b =
+    let e : 2 ^ suc j ≡ 2 ^ j * 2 = pow-suc 2 j in
+    ap length (bytes-from x) ∙ bits 9 x (suc j) (omega arith) (omega arith) (omega arith)
+
+top : (x : ℕ) → x < 2 ^ 64 → (j : ℕ) × (leadingZeros 64 (odd x) + suc j ≡ 64) × (2 ^ j ≤ odd x) × (odd x < 2 ^ suc j)
+top x h = leading-top 64 (odd x) (omega arith) (omega arith)
+
+counted : (x : ℕ) → x < 2 ^ 64 → (9 * (63 - leadingZeros 64 (odd x)) + 73) / 64 ≡ length (varBytes x)
+counted x h = let (j, e, lo, hi) = top x h in omega (arith, from-top x j lo hi (omega arith))
+
+mul-odd : tie.Need-mul-odd
+mul-odd c = search needs
+
+add-odd : tie.Need-add-odd
+add-odd c = search needs
+
+cast-top : tie.Need-cast-top
+cast-top c = omega (arith, leading-le 64 (odd (c .args .x)))
+
+sub-top : tie.Need-sub-top
+sub-top c = let (j, e, lo, hi) = top (c .args .x) (c .fits .x .fits) in omega arith
+
+mul-result : tie.Need-mul-result
+mul-result c = search needs
+
+add-result : tie.Need-add-result
+add-result c = search needs
 
 returns : tie.Need-returns
-returns c = let z : c .before .args .x ≡ 0 = omega arith in rw (z, bytes-from 0) (sym (length-last 9 0 (omega arith)))
-
-cast-result : tie.Need-cast-result
-cast-result c = omega (arith, leading-le 64 (c .before .args .x))
-
-sub-result : tie.Need-sub-result
-sub-result c = omega (arith, leading-le 64 (c .before .args .x))
-
-returns-2 : tie.Need-returns-2
-returns-2 c = counted (c .before .args .x) (omega arith) (c .before .fits .x .fits)
+returns c = counted (c .args .x) (c .fits .x .fits)
 
 pub varint-len-spec : {M : Type 1} → statement M
-varint-len-spec = tie.close (tie.spec returns cast-result sub-result returns-2)
+varint-len-spec =
+    tie.close (tie.spec mul-odd add-odd cast-top sub-top mul-result add-result returns)

@@ -1,6 +1,6 @@
 -- `edge_sst_c::desk::edge_sst_check` meets its contract.
 use mathlib.Core.Path.{_≡_, sym, _∙_}
-use Rattle.edge_sst_c.specs.Desk.{check-fine, check-bad}
+use Rattle.edge_sst_c.specs.Desk.{check-told-fine, check-told-bad}
 use native.Mathlib.Omega.{arith}
 use borrow.Author.Needs.{needs}
 use Rattle.edge_sst_c.proofs.desk.edge_sst_check.Statement.{statement}
@@ -26,10 +26,10 @@ cast-t6 : tie.Need-cast-t6
 cast-t6 c = search needs
 
 returns : tie.Need-returns
-returns c = check-fine _ (sym (c .before .before .check .ensures) ∙ c .enum-told .given .1)
+returns c = check-told-fine _ (sym (c .before .before .check .ensures) ∙ c .enum-told .given .1)
 
 returns-2 : tie.Need-returns-2
-returns-2 c = check-bad _ _ (sym (c .before .before .before .before .before .check .ensures) ∙ c .before .before .before .refusal .given .1) (c .before .told-of .ensures .0) (c .before .told-of .ensures .1) (c .before .told-of .ensures .2)
+returns-2 c = check-told-bad _ _ (sym (c .before .before .before .before .before .check .ensures) ∙ c .before .before .before .refusal .given .1) (c .before .told-of .ensures .0) (c .before .told-of .ensures .1) (c .before .told-of .ensures .2)
 
 pub edge-sst-check-spec : {M : Type 1} → statement M
 edge-sst-check-spec =

@@ -4,7 +4,7 @@ use Prim.Native.Nat.{ℕ, _/_}
 use mathlib.Core.List.{List}
 use Rattle.reader.specs.Opened.{opened-offsets}
 use Rattle.reader.specs.Look.{opened-holds}
-use Rattle.full_check.specs.Full.{groupsOf}
+use Rattle.full_check.specs.Full.{groupsSeen}
 use native.Mathlib.Omega.{arith}
 use borrow.Author.Needs.{needs}
 use Rattle.full_check.proofs.data.groups_in.Statement.{statement}
@@ -34,7 +34,7 @@ groups-of-requires c κs = let a = c .before .before .before .before .before .be
 
 returns : tie.Need-returns
 returns c = let a = c .before .before .before .before .before .before .before .args in
-    c .groups-of .ensures ∙ ap₂ (λ (x y : List ℕ). groupsOf x y (a .o .bits / 8) (a .o .keycount)) (c .before .before .before .bytes-of .ensures) (c .before .before .bytes-of2 .ensures)
+    c .groups-of .ensures ∙ ap₂ (λ (x y : List ℕ). groupsSeen x y (a .o .bits / 8) (a .o .keycount)) (c .before .before .before .bytes-of .ensures) (c .before .before .bytes-of2 .ensures)
 
 pub groups-in-spec : {M : Type 1} → statement M
 groups-in-spec =

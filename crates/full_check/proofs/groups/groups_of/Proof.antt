@@ -11,7 +11,6 @@ use Rattle.full_check.proofs.groups.groups_of.Statement.{statement}
 use Rattle.full_check.proofs.groups.groups_of.Tie as tie
 use Rattle.full_check.proofs.groups.groups_of.Reads as reads
 use Rattle.full_check.proofs.groups.groups_of.Lts as lts
-use Rattle.full_check.proofs.groups.either.Reads as either-reads
 use Rattle.full_check.proofs.groups.refused.Reads as refused-reads
 use Rattle.group.proofs.check_group.Reads as check-group-reads
 use Rattle.index.proofs.offsets.offset_at.Reads as offset-at-reads

@@ -7,11 +7,11 @@ use mathlib.Core.List.{List}
 use lib.ListN.{length}
 use lib.Dec.{ltb}
 use borrow.Author.Tests.{not-true, not-false, le-leb}
-use Rattle.codes.specs.Ids.{beAt, idAt, halvesAt, numberOf}
+use Rattle.codes.specs.Ids.{beAt, idAt, halvesAt, idNumber}
 use Rattle.codes.specs.Ids.Laws.{number-halves}
-use Rattle.group.specs.declared.Group.{Group}
+use Rattle.group.specs.declared.GroupVerdict.{GroupVerdict}
 use Rattle.group.specs.declared.fault.Fault.{Fault}
-use Rattle.group.specs.Group.{answerOf}
+use Rattle.group.specs.Group.{verdictOf}
 use Rattle.group.specs.Group.Laws.{answered, Checked, check-start, check-end, check-low, check-more, dense-at, dense-unfit, answer-bad}
 use borrow.Author.Needs.{needs}
 use Rattle.group.proofs.dense.check_dense.Statement.{statement}
@@ -20,7 +20,7 @@ use Rattle.group.proofs.dense.check_dense.Tie as tie
 module _ (g : List ℕ) (at degree : ℕ) where
   -- k partners were good: what is left, after the partner at j, gives the whole
   abbrev Left : ℕ → ℕ → ℕ → Type 0
-  Left i k j = Checked true g at degree i k (halvesAt g j .hi) (suc (numberOf (halvesAt g j)))
+  Left i k j = Checked true g at degree i k (halvesAt g j .hi) (suc (idNumber (halvesAt g j)))
 
   -- the partner before i has the upper half `last`
   abbrev Passed : ℕ → ℕ → ℕ → Type 0
@@ -31,7 +31,7 @@ module _ (g : List ℕ) (at degree : ℕ) where
     first =
         let p = halvesAt g at in
         check-more true g at degree at 0 0 0 (check-start true g at degree) (omega arith) p (at + 16) (dense-at g at 0 refl room)
-        (le-leb 0 (numberOf p) (omega arith))
+        (le-leb 0 (idNumber p) (omega arith))
 
     passed-first : {hi : ℕ} → hi ≡ beAt g at 8 → Passed hi (at + 16) 1
     passed-first q =
@@ -40,17 +40,17 @@ module _ (g : List ℕ) (at degree : ℕ) where
 
   module _ (last i k : ℕ) (l : Passed last i k) (room : i + 16 ≤ length g) (lt : k < degree) where
     -- the partners as they were compared
-    compared : (b : Bool) → ltb (idAt g (i - 16)) (idAt g i) ≡ b → ltb (numberOf (halvesAt g (i - 16))) (numberOf (halvesAt g i)) ≡ b
+    compared : (b : Bool) → ltb (idAt g (i - 16)) (idAt g i) ≡ b → ltb (idNumber (halvesAt g (i - 16))) (idNumber (halvesAt g i)) ≡ b
     compared b q = ap₂ ltb (number-halves g (i - 16)) (number-halves g i) ∙ q
 
-    passed-low : ltb (idAt g (i - 16)) (idAt g i) ≡ false → answered true g at degree ≡ Group.Bad Fault.Shape
+    passed-low : ltb (idAt g (i - 16)) (idAt g i) ≡ false → answered true g at degree ≡ GroupVerdict.Bad Fault.Shape
     passed-low q =
-        check-low true g at degree i k (halvesAt g (i - 16) .hi) (suc (numberOf (halvesAt g (i - 16)))) (l .4) lt
+        check-low true g at degree i k (halvesAt g (i - 16) .hi) (suc (idNumber (halvesAt g (i - 16)))) (l .4) lt
         (halvesAt g i) (i + 16) (dense-at g i (halvesAt g (i - 16) .hi) refl room) (compared false q)
 
     next : ltb (idAt g (i - 16)) (idAt g i) ≡ true → Left (i + 16) (k + 1) i
     next q =
-        check-more true g at degree i k (halvesAt g (i - 16) .hi) (suc (numberOf (halvesAt g (i - 16)))) (l .4) lt
+        check-more true g at degree i k (halvesAt g (i - 16) .hi) (suc (idNumber (halvesAt g (i - 16)))) (l .4) lt
         (halvesAt g i) (i + 16) (dense-at g i (halvesAt g (i - 16) .hi) refl room) (compared true q)
 
     passed-on : {hi : ℕ} → hi ≡ beAt g i 8 → ltb (idAt g (i - 16)) (idAt g i) ≡ true → Passed hi (i + 16) (k + 1)
@@ -71,12 +71,12 @@ sub-rest c = omega arith
 returns : tie.Need-returns Inv-loop μ-loop
 returns c =
     let a = c .before .before .args in
-    sym (ap answerOf (dense-unfit (a .degree) (a .g .now) (a .at) 0 0 (λ q. omega arith)) ∙ answer-bad _)
+    sym (ap verdictOf (dense-unfit (a .degree) (a .g .now) (a .at) 0 0 (λ q. omega arith)) ∙ answer-bad _)
 
 returns-2 : tie.Need-returns-2 Inv-loop μ-loop
 returns-2 c =
     let a = c .before .before .before .args in
-    sym (ap answerOf (dense-unfit (a .degree) (a .g .now) (a .at) 0 0 (λ q. omega arith)) ∙ answer-bad _)
+    sym (ap verdictOf (dense-unfit (a .degree) (a .g .now) (a .at) 0 0 (λ q. omega arith)) ∙ answer-bad _)
 
 be64-requires : tie.Need-be64-requires Inv-loop μ-loop
 be64-requires c κs = omega arith

@@ -9,7 +9,7 @@ use lib.Seq.{sets}
 use Rattle.base.specs.Over.{over, sets-over}
 use Rattle.base.specs.Put.{Put, Left, start, is, put, end}
 use Rattle.codes.specs.declared.ids.Id.{Id}
-use Rattle.codes.specs.Ids.{beBytes, idBytes, numberOf}
+use Rattle.codes.specs.Ids.{beBytes, idBytes, idNumber}
 use Rattle.codes.specs.Ids.Laws.{put-halves, length-idBytes}
 use Rattle.group.specs.Group.{walkFrom, isGood, partnersOf, bytesOf}
 use Rattle.group.specs.Group.Laws.{Filled, fill-turn, fill-read, fill-end}
@@ -92,7 +92,7 @@ loop-again c =
     let w = put-partner (l .out) (l .to) (t .partner) (c .before .before .before .before .before .before .before .put-be64 .ensures) (c .before .before .put-be642 .ensures) (t .upper) (t .lower ∙ sym (c .before .before .before .before .le64 .ensures)) in
     let e : a .degree - l .k ≡ suc (a .degree - (l .k + 1)) = omega arith in
     let left = rw e at (l .inv .2 .2) in
-    (omega arith, omega arith, (suc (numberOf (t .partner)), t .rest, put (is (t .bytes) left) w))
+    (omega arith, omega arith, (suc (idNumber (t .partner)), t .rest, put (is (t .bytes) left) w))
 
 enum-told : tie.Need-enum-told Inv-loop μ-loop
 enum-told c = search needs

@@ -11,15 +11,15 @@ use borrow.Author.Needs.{needs}
 use Rattle.index.proofs.fences.fence_good.Statement.{statement}
 use Rattle.index.proofs.fences.fence_good.Tie as tie
 
--- what `same` answered, of the fence's key
-said : (c : tie.After-same) (b : Bool) → c .same .result ≡ b →
+-- what `same_id` answered, of the fence's key
+said : (c : tie.After-same-id) (b : Bool) → c .same-id .result ≡ b →
     (let a = c .before .before .before .before .before .args in
     eqb (idAt (a .x .now) (8 + 24 * a .i)) (keyAt (a .keys .now) (a .i * a .stride)) ≡ b)
 said c b q =
     let a = c .before .before .before .before .before .args in
     let fence = c .before .before .id-at .ensures in
     let key = c .before .key-at .ensures in
-    eqb-read (a .x .now) (8 + 24 * a .i) fence (a .keys .now) (a .i * a .stride * 16) key (c .same .ensures) q
+    eqb-read (a .x .now) (8 + 24 * a .i) fence (a .keys .now) (a .i * a .stride * 16) key (c .same-id .ensures) q
 
 mul-k : tie.Need-mul-k
 mul-k c = search needs
@@ -36,8 +36,8 @@ id-at-requires c κs = search needs
 key-at-requires : tie.Need-key-at-requires
 key-at-requires c κs = search needs
 
-same-requires : tie.Need-same-requires
-same-requires c κs = search needs
+same-id-requires : tie.Need-same-id-requires
+same-id-requires c κs = search needs
 
 returns : tie.Need-returns
 unfolding fenceGood
@@ -69,7 +69,7 @@ fence-good-spec =
     add-at
     id-at-requires
     key-at-requires
-    same-requires
+    same-id-requires
     returns
     add-le64
     le64-requires

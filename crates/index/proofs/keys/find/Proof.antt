@@ -3,18 +3,18 @@ use mathlib.Core.Path.{_≡_}
 use Prim.Native.Nat.{_+_, _-_, _*_, _≤_}
 use native.Mathlib.Omega.{arith}
 use Rattle.codes.specs.declared.ids.Order.{Order}
-use Rattle.codes.specs.Ids.{numberOf, order}
+use Rattle.codes.specs.Ids.{idNumber, order}
 use Rattle.frame.specs.Open.{keyAt}
 use Rattle.index.specs.Compare.{order-read}
 use Rattle.index.specs.Find.{middle}
-use Rattle.index.specs.Find.Laws.{Left, search-start, search-end, search-above, search-here, search-below}
+use Rattle.index.specs.Find.Laws.{Between, search-start, search-end, search-above, search-here, search-below}
 use borrow.Author.Needs.{needs}
 use Rattle.index.proofs.keys.find.Statement.{statement}
 use Rattle.index.proofs.keys.find.Tie as tie
 
 abbrev Inv-loop : tie.InvT-loop
 Inv-loop keys n key low₀ high₀ compared₀ low high compared =
-    (high ≤ n) × (compared + (high - low) ≤ n) × Left keys n (numberOf key) low high compared
+    (high ≤ n) × (compared + (high - low) ≤ n) × Between keys n (idNumber key) low high compared
 
 abbrev μ-loop : tie.MeasureT-loop
 μ-loop keys n key low₀ high₀ compared₀ low high compared = high - low
@@ -23,14 +23,14 @@ abbrev μ-loop : tie.MeasureT-loop
 said : (c : tie.After-compare Inv-loop μ-loop) (p : Order) → c .compare .result ≡ p →
     (let a = c .before .before .before .before .before .args in
     let l = c .before .before .before .loop in
-    order (keyAt (a .keys .now) (middle (l .low) (l .high))) (numberOf (a .key)) ≡ p)
+    order (keyAt (a .keys .now) (middle (l .low) (l .high))) (idNumber (a .key)) ≡ p)
 said c p q =
     let a = c .before .before .before .before .before .args in
     let l = c .before .before .before .loop in
-    order-read (a .keys .now) (middle (l .low) (l .high) * 16) (c .before .key-at .ensures) (numberOf (a .key)) p (c .compare .ensures) q
+    order-read (a .keys .now) (middle (l .low) (l .high) * 16) (c .before .key-at .ensures) (idNumber (a .key)) p (c .compare .ensures) q
 
 loop-holds : tie.Need-loop-holds Inv-loop μ-loop
-loop-holds c = let a = c .before .args in (omega arith, omega arith, search-start (a .keys .now) (a .n) (numberOf (a .key)))
+loop-holds c = let a = c .before .args in (omega arith, omega arith, search-start (a .keys .now) (a .n) (idNumber (a .key)))
 
 sub-middle : tie.Need-sub-middle Inv-loop μ-loop
 sub-middle c = omega arith
@@ -61,7 +61,7 @@ loop-again c =
     let a = c .before .before .before .before .before .before .before .args in
     let l = c .before .before .before .before .before .loop in
     let answer = said (c .before .before) Order.Less (c .enum-told .given .1) in
-    (omega arith, omega arith, search-above (a .keys .now) (a .n) (numberOf (a .key)) (l .low) (l .high) (l .compared) (l .inv .2) (omega arith) answer)
+    (omega arith, omega arith, search-above (a .keys .now) (a .n) (idNumber (a .key)) (l .low) (l .high) (l .compared) (l .inv .2) (omega arith) answer)
 
 enum-told-2 : tie.Need-enum-told-2 Inv-loop μ-loop
 enum-told-2 c = search needs
@@ -74,7 +74,7 @@ loop-again-2 c =
     let a = c .before .before .before .before .before .before .before .args in
     let l = c .before .before .before .before .before .loop in
     let answer = said (c .before .before) Order.Greater (c .enum-told2 .given .1) in
-    (omega arith, omega arith, search-below (a .keys .now) (a .n) (numberOf (a .key)) (l .low) (l .high) (l .compared) (l .inv .2) (omega arith) answer)
+    (omega arith, omega arith, search-below (a .keys .now) (a .n) (idNumber (a .key)) (l .low) (l .high) (l .compared) (l .inv .2) (omega arith) answer)
 
 enum-told-3 : tie.Need-enum-told-3 Inv-loop μ-loop
 enum-told-3 c = search needs
@@ -84,13 +84,13 @@ returns c =
     let a = c .before .before .before .before .before .before .before .args in
     let l = c .before .before .before .before .before .loop in
     let answer = said (c .before .before) Order.Equal (c .enum-told3 .given .1) in
-    search-here (a .keys .now) (a .n) (numberOf (a .key)) (l .low) (l .high) (l .compared) (l .inv .2) (omega arith) answer
+    search-here (a .keys .now) (a .n) (idNumber (a .key)) (l .low) (l .high) (l .compared) (l .inv .2) (omega arith) answer
 
 returns-2 : tie.Need-returns-2 Inv-loop μ-loop
 returns-2 c =
     let a = c .before .before .before .args in
     let l = c .before .loop in
-    search-end (a .keys .now) (a .n) (numberOf (a .key)) (l .low) (l .high) (l .compared) (l .inv .2) (omega arith)
+    search-end (a .keys .now) (a .n) (idNumber (a .key)) (l .low) (l .high) (l .compared) (l .inv .2) (omega arith)
 
 pub find-spec : {M : Type 1} → statement M
 find-spec =

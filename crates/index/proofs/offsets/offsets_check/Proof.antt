@@ -6,14 +6,14 @@ use native.Mathlib.Omega.{arith}
 use mathlib.Core.Bool.{true, false}
 use borrow.Author.Tests.{eq-eqb, ne-eqb}
 use Rattle.frame.specs.Open.{offsetAt, offsetsFrom}
-use Rattle.index.specs.Cases.{rises, first-rises, next-rises, offsets-first, offsets-on, offsets-bad, offsets-end}
+use Rattle.index.specs.Cases.{risingKeys, first-rises, next-rises, offsets-first, offsets-on, offsets-bad, offsets-end}
 use borrow.Author.Needs.{needs}
 use Rattle.index.proofs.offsets.offsets_check.Statement.{statement}
 use Rattle.index.proofs.offsets.offsets_check.Tie as tie
 
 abbrev Inv-loop : tie.InvT-loop
 Inv-loop offs w n len last₀ i₀ last i =
-    (i ≤ n) × (last ≡ offsetAt offs w i) × (rises offs w i ≡ true)
+    (i ≤ n) × (last ≡ offsetAt offs w i) × (risingKeys offs w i ≡ true)
     × (offsetsFrom (n + 1 - i) offs w n len i ≡ offsetsFrom (n + 1) offs w n len 0)
 
 abbrev μ-loop : tie.MeasureT-loop

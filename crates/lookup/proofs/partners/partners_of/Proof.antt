@@ -2,7 +2,7 @@
 use mathlib.Core.Path.{_≡_, refl, sym, ap, _∙_}
 use lib.ListN.{length}
 use mathlib.Core.Bool.{false}
-use Rattle.codes.specs.Ids.{numberOf}
+use Rattle.codes.specs.Ids.{idNumber}
 use Rattle.frame.specs.Open.{knownOf, bytesAt}
 use Rattle.index.specs.Find.Laws.{find-sound}
 use Rattle.lookup.specs.Lookup.{lookIn, partnersAt}
@@ -25,7 +25,7 @@ enum-known-index c = search needs
 group-of-requires : tie.Need-group-of-requires
 group-of-requires c κs = let a = c .before .before .before .before .before .before .args in
     let f = a .file .now in
-    let key = numberOf (a .key) in
+    let key = idNumber (a .key) in
     let n = length (a .out .now) in
     let i = c .before .index .given .0 .0 in
     let m = c .before .index .given .0 .1 .0 in
@@ -44,7 +44,7 @@ too-short-requires c κs = search needs
 returns : tie.Need-returns
 returns c = let a = c .before .before .before .before .before .before .before .before .before .before .before .before .args in
     let f = a .file .now in
-    let key = numberOf (a .key) in
+    let key = idNumber (a .key) in
     let n = length (a .out .now) in
     let i = c .before .before .before .before .before .before .before .index .given .0 .0 in
     let m = c .before .before .before .before .before .before .before .index .given .0 .1 .0 in
@@ -55,7 +55,7 @@ returns c = let a = c .before .before .before .before .before .before .before .b
 give-partners-requires : tie.Need-give-partners-requires
 give-partners-requires c κs = let a = c .before .before .before .before .before .before .before .before .before .before .before .before .args in
     let f = a .file .now in
-    let key = numberOf (a .key) in
+    let key = idNumber (a .key) in
     let n = length (a .out .now) in
     let i = c .before .before .before .before .before .before .before .index .given .0 .0 in
     let m = c .before .before .before .before .before .before .before .index .given .0 .1 .0 in
@@ -66,12 +66,12 @@ give-partners-requires c κs = let a = c .before .before .before .before .before
 returns-2 : tie.Need-returns-2
 returns-2 c = let a = c .before .before .before .before .before .before .args in
     let f = a .file .now in
-    alone-absent _ _ (a .out .now) (look-absent false (alone (length (a .out .now))) f (a .o) (numberOf (a .key)) _ (sym (c .before .before .before .locate .ensures) ∙ c .before .compared .given .1))
+    alone-absent _ _ (a .out .now) (look-absent false (alone (length (a .out .now))) f (a .o) (idNumber (a .key)) _ (sym (c .before .before .before .locate .ensures) ∙ c .before .compared .given .1))
 
 returns-3 : tie.Need-returns-3
 returns-3 c = let a = c .before .before .before .before .before .before .before .before .before .before .args in
     let f = a .file .now in
-    let key = numberOf (a .key) in
+    let key = idNumber (a .key) in
     let n = length (a .out .now) in
     let i = c .before .before .before .before .before .index .given .0 .0 in
     let m = c .before .before .before .before .before .index .given .0 .1 .0 in
@@ -86,7 +86,7 @@ returns-4 : tie.Need-returns-4
 unfolding knownOf
 returns-4 c = let a = c .before .before .before .before .before .before .before .before .before .before .before .before .before .before .before .args in
     let f = a .file .now in
-    let key = numberOf (a .key) in
+    let key = idNumber (a .key) in
     let n = length (a .out .now) in
     let i = c .before .before .before .before .before .before .before .before .before .before .index .given .0 .0 in
     let m = c .before .before .before .before .before .before .before .before .before .before .index .given .0 .1 .0 in

@@ -2,7 +2,7 @@
 use mathlib.Core.Path.{_≡_, refl, sym, ap, _∙_}
 use lib.ListN.{length}
 use mathlib.Core.Bool.{true}
-use Rattle.codes.specs.Ids.{numberOf}
+use Rattle.codes.specs.Ids.{idNumber}
 use Rattle.frame.specs.Open.{knownOf, bytesAt}
 use Rattle.index.specs.Find.Laws.{find-sound}
 use Rattle.lookup.specs.Calls.{lent, whole-absent, whole-refused, whole-as, look-absent, look-at, look-fault}
@@ -22,7 +22,7 @@ enum-known-index c = search needs
 group-of-requires : tie.Need-group-of-requires
 group-of-requires c κs = let a = c .before .before .before .before .before .before .before .before .args in
     let f = a .file .now in
-    let key = numberOf (a .key) in
+    let key = idNumber (a .key) in
     let rooms = lent (length (a .out .now)) (length (a .logs .now)) (length (a .marks .now)) in
     let i = c .before .index .given .0 .0 in
     let m = c .before .index .given .0 .1 .0 in
@@ -38,7 +38,7 @@ enum-known-degree c = search needs
 group-edges-requires : tie.Need-group-edges-requires
 group-edges-requires c κs = let a = c .before .before .before .before .before .before .before .before .before .before .before .before .before .before .before .args in
     let f = a .file .now in
-    let key = numberOf (a .key) in
+    let key = idNumber (a .key) in
     let rooms = lent (length (a .out .now)) (length (a .logs .now)) (length (a .marks .now)) in
     let i = c .before .before .before .before .before .before .before .before .index .given .0 .0 in
     let m = c .before .before .before .before .before .before .before .before .index .given .0 .1 .0 in
@@ -50,12 +50,12 @@ returns : tie.Need-returns
 returns c = let a = c .before .before .before .before .before .before .before .before .args in
     let f = a .file .now in
     let rooms = lent (length (a .out .now)) (length (a .logs .now)) (length (a .marks .now)) in
-    whole-absent _ _ (a .out .now) (a .logs .now) (a .marks .now) (look-absent true rooms f (a .o) (numberOf (a .key)) _ (sym (c .before .before .before .locate .ensures) ∙ c .before .compared .given .1))
+    whole-absent _ _ (a .out .now) (a .logs .now) (a .marks .now) (look-absent true rooms f (a .o) (idNumber (a .key)) _ (sym (c .before .before .before .locate .ensures) ∙ c .before .compared .given .1))
 
 returns-2 : tie.Need-returns-2
 returns-2 c = let a = c .before .before .before .before .before .before .before .before .before .before .before .before .args in
     let f = a .file .now in
-    let key = numberOf (a .key) in
+    let key = idNumber (a .key) in
     let rooms = lent (length (a .out .now)) (length (a .logs .now)) (length (a .marks .now)) in
     let i = c .before .before .before .before .before .index .given .0 .0 in
     let m = c .before .before .before .before .before .index .given .0 .1 .0 in
@@ -75,7 +75,7 @@ same-length-3 c = search needs
 returns-3 : tie.Need-returns-3
 returns-3 c = let a = c .before .before .before .before .before .before .before .before .before .before .before .before .before .before .before .before .before .before .before .before .before .before .args in
     let f = a .file .now in
-    let key = numberOf (a .key) in
+    let key = idNumber (a .key) in
     let rooms = lent (length (a .out .now)) (length (a .logs .now)) (length (a .marks .now)) in
     let i = c .before .before .before .before .before .before .before .before .before .before .before .before .before .before .before .index .given .0 .0 in
     let m = c .before .before .before .before .before .before .before .before .before .before .before .before .before .before .before .index .given .0 .1 .0 in

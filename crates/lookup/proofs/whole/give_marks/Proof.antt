@@ -9,8 +9,8 @@ use borrow.Author.Needs.{needs}
 use Rattle.lookup.proofs.whole.give_marks.Statement.{statement}
 use Rattle.lookup.proofs.whole.give_marks.Tie as tie
 
-dead-of-requires : tie.Need-dead-of-requires
-dead-of-requires c κs = search needs
+tombstones-of-requires : tie.Need-tombstones-of-requires
+tombstones-of-requires c κs = search needs
 
 fill-marks-requires : tie.Need-fill-marks-requires
 fill-marks-requires c κs = let p = c .before .before .before .before .pre in let e = p .0 .edges in let h = p .1 in (omega arith, omega arith, p .2)
@@ -19,7 +19,7 @@ same-length : tie.Need-same-length
 same-length c = search needs
 
 returns : tie.Need-returns
-returns c = let a = c .before .before .before .before .before .before .before .args in c .before .before .fill-marks .ensures ∙ ap (λ (s : List ℕ). over (marksFrom (a .d) s (a .first)) (a .out .now)) (c .before .before .before .before .dead-of .ensures)
+returns c = let a = c .before .before .before .before .before .before .before .args in c .before .before .fill-marks .ensures ∙ ap (λ (s : List ℕ). over (marksFrom (a .d) s (a .first)) (a .out .now)) (c .before .before .before .before .tombstones-of .ensures)
 
 pub give-marks-spec : {M : Type 1} → statement M
-give-marks-spec = tie.close (tie.spec dead-of-requires fill-marks-requires same-length returns)
+give-marks-spec = tie.close (tie.spec tombstones-of-requires fill-marks-requires same-length returns)

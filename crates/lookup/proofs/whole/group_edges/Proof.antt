@@ -17,8 +17,8 @@ edges-of-requires c κs = search needs
 enum-told : tie.Need-enum-told
 enum-told c = search needs
 
-misplaced-requires : tie.Need-misplaced-requires
-misplaced-requires c κs = search needs
+degrees-refused-requires : tie.Need-degrees-refused-requires
+degrees-refused-requires c κs = search needs
 
 enum-known-edges : tie.Need-enum-known-edges
 enum-known-edges c = search needs
@@ -26,8 +26,8 @@ enum-known-edges c = search needs
 sub-if1 : tie.Need-sub-if1
 sub-if1 c = let s = c .before .before .edges .given .0 .0 in let m = capped-le _ _ s (sym (c .before .before .before .before .edges-of .ensures) ∙ c .before .before .edges .given .1) in m
 
-misplaced-requires-2 : tie.Need-misplaced-requires-2
-misplaced-requires-2 c κs = search needs
+degrees-refused-requires-2 : tie.Need-degrees-refused-requires-2
+degrees-refused-requires-2 c κs = search needs
 
 returns : tie.Need-returns
 returns c = let a = c .before .before .before .before .before .before .before .before .before .before .before .args in
@@ -39,7 +39,7 @@ returns c = let a = c .before .before .before .before .before .before .before .b
     let e = sym (c .before .before .before .before .before .before .edges-of .ensures) ∙ c .before .before .before .before .edges .given .1 in
     let most = capped-le (o .edgecount) _ s e in
     let h0 = c .before .if1 .taken in
-    rw (c .misplaced2 .ensures) (whole-refused _ _ (a .out .now) (a .logs .now) (a .marks .now) (whole-over f o (a .i) (a .degree) g rooms (a .compared) s e (omega arith)))
+    rw (c .degrees-refused2 .ensures) (whole-refused _ _ (a .out .now) (a .logs .now) (a .marks .now) (whole-over f o (a .i) (a .degree) g rooms (a .compared) s e (omega arith)))
 
 short-of-requires : tie.Need-short-of-requires
 short-of-requires c κs = search needs
@@ -101,7 +101,7 @@ returns-3 c = let a = c .before .before .before .before .before .before .before 
     let o = a .o in
     let g = c .before .before .before .before .before .before .before .before .pre .2 in
     let rooms = lent (length (a .out .now)) (length (a .logs .now)) (length (a .marks .now)) in
-    rw (c .misplaced .ensures) (whole-refused _ _ (a .out .now) (a .logs .now) (a .marks .now) (whole-lost f o (a .i) (a .degree) g rooms (a .compared) (sym (c .before .before .before .edges-of .ensures) ∙ c .before .enum-told .given .1)))
+    rw (c .degrees-refused .ensures) (whole-refused _ _ (a .out .now) (a .logs .now) (a .marks .now) (whole-lost f o (a .i) (a .degree) g rooms (a .compared) (sym (c .before .before .before .edges-of .ensures) ∙ c .before .enum-told .given .1)))
 
 same-length : tie.Need-same-length
 same-length c = search needs
@@ -132,10 +132,10 @@ group-edges-spec =
     (tie.spec
     edges-of-requires
     enum-told
-    misplaced-requires
+    degrees-refused-requires
     enum-known-edges
     sub-if1
-    misplaced-requires-2
+    degrees-refused-requires-2
     returns
     short-of-requires
     too-short-requires

@@ -11,7 +11,7 @@ use Rattle.readout.proofs.edges.put_all.Reads as reads
 use Rattle.readout.proofs.edges.put_all.Lts as lts
 use Rattle.index.proofs.keys.key_at.Reads as key-at-reads
 use Rattle.index.proofs.offsets.offset_at.Reads as offset-at-reads
-use Rattle.readout.proofs.group_edges.put_group.Reads as put-group-reads
+use Rattle.readout.proofs.group_edges.put_group_edges.Reads as put-group-edges-reads
 
 abbrev Inv-loop : tie.InvT-loop
 Inv-loop keys partners offs w n logs dead out₀ a₀ first₀ i₀ out a first i = Reading keys partners offs w logs dead n out₀ out i a first
@@ -42,38 +42,38 @@ key-at-requires c κs = let r = c .before .before .before .before .before .befor
     let few = r .few in
     (omega arith, omega arith)
 
-sub-put-group : tie.Need-sub-put-group Inv-loop μ-loop
-sub-put-group c = let l = c .before .before .before .loop in
+sub-put-group-edges : tie.Need-sub-put-group-edges Inv-loop μ-loop
+sub-put-group-edges c = let l = c .before .before .before .loop in
     let r = c .before .before .before .before .before .before .before .before .before .before .pre .0 .rises in
     let up = r .above (l .i) (omega arith) in
     let at = l .inv .place-is in
     let e = c .before .offset-at .ensures .0 in
     omega arith
 
-part-put-group-start : tie.Need-part-put-group-start Inv-loop μ-loop
-part-put-group-start c = let l = c .before .before .before .loop in
+part-put-group-edges-start : tie.Need-part-put-group-edges-start Inv-loop μ-loop
+part-put-group-edges-start c = let l = c .before .before .before .loop in
     let r = c .before .before .before .before .before .before .before .before .before .before .pre .0 .rises in
     let up = r .above (l .i) (omega arith) in
     let at = l .inv .place-is in
     let e = c .before .offset-at .ensures .0 in
     omega arith
 
-part-put-group-end : tie.Need-part-put-group-end Inv-loop μ-loop
-part-put-group-end c = let l = c .before .before .before .loop in
+part-put-group-edges-end : tie.Need-part-put-group-edges-end Inv-loop μ-loop
+part-put-group-edges-end c = let l = c .before .before .before .loop in
     let r = c .before .before .before .before .before .before .before .before .before .before .pre .0 .rises in
     let end = r .within (l .i + 1) (omega arith) in
     let e = c .before .offset-at .ensures .0 in
     omega arith
 
-put-group-requires : tie.Need-put-group-requires Inv-loop μ-loop
-put-group-requires c κs = let a = c .before .before .before .before .before .before .before .before .before .before .before .before .args in
+put-group-edges-requires : tie.Need-put-group-edges-requires Inv-loop μ-loop
+put-group-edges-requires c κs = let a = c .before .before .before .before .before .before .before .before .before .before .before .before .args in
     let l = c .before .before .before .before .before .loop in
     let r = c .before .before .before .before .before .before .before .before .before .before .before .before .pre .0 in
     let edges = r .edges in
     let logs = r .logbytes in
     let q = c .before .before .before .offset-at .ensures .0 in
     let few = reading-few (a .keys .now) (a .partners .now) (a .offs .now) (a .w) (a .logs .now) (a .dead .now) (a .n) (a .out .now) (l .out) (l .i) (l .a) (l .first) (l .inv) (omega arith) q in
-    (reading-good (a .keys .now) (a .partners .now) (a .offs .now) (a .w) (a .logs .now) (a .dead .now) (a .n) (a .out .now) (l .out) (l .i) (l .a) (l .first) (l .inv) (omega arith) q, omega arith, omega arith, reading-room (a .keys .now) (a .partners .now) (a .offs .now) (a .w) (a .logs .now) (a .dead .now) (a .n) (a .out .now) (l .out) (l .i) (l .a) (l .first) (l .inv) (omega arith) q (c .before .before .key-at .ensures) (c .before .before .before .before .before .before .before .before .before .before .before .before .pre .1))
+    record { good = reading-good (a .keys .now) (a .partners .now) (a .offs .now) (a .w) (a .logs .now) (a .dead .now) (a .n) (a .out .now) (l .out) (l .i) (l .a) (l .first) (l .inv) (omega arith) q; bound = omega arith; numbers = omega arith; room = reading-room (a .keys .now) (a .partners .now) (a .offs .now) (a .w) (a .logs .now) (a .dead .now) (a .n) (a .out .now) (l .out) (l .i) (l .a) (l .first) (l .inv) (omega arith) q (c .before .before .key-at .ensures) (c .before .before .before .before .before .before .before .before .before .before .before .before .pre .1) }
 
 add-i : tie.Need-add-i Inv-loop μ-loop
 add-i c = let h = c .before .before .before .before .before .before .before .before .loop .inv .most in let r = c .before .before .before .before .before .before .before .before .before .before .before .before .before .before .before .pre .0 .few in omega arith
@@ -84,7 +84,7 @@ loop-less c = let h = c .before .before .before .before .before .before .before 
 loop-again : tie.Need-loop-again Inv-loop μ-loop
 loop-again c = let a = c .before .before .before .before .before .before .before .before .before .before .before .before .before .before .before .args in
     let l = c .before .before .before .before .before .before .before .before .loop in
-    reading-on (a .keys .now) (a .partners .now) (a .offs .now) (a .w) (a .logs .now) (a .dead .now) (a .n) (a .out .now) (l .out) (l .i) (l .a) (l .first) (l .inv) (omega arith) (c .before .before .before .before .before .before .offset-at .ensures .0) (c .before .before .before .before .before .key-at .ensures) (c .before .before .put-group .ensures .0) (c .before .before .put-group .ensures .1)
+    reading-on (a .keys .now) (a .partners .now) (a .offs .now) (a .w) (a .logs .now) (a .dead .now) (a .n) (a .out .now) (l .out) (l .i) (l .a) (l .first) (l .inv) (omega arith) (c .before .before .before .before .before .before .offset-at .ensures .0) (c .before .before .before .before .before .key-at .ensures) (c .before .before .put-group-edges .ensures .0) (c .before .before .put-group-edges .ensures .1)
 
 same-length : tie.Need-same-length Inv-loop μ-loop
 same-length c = c .before .loop .inv .left .same
@@ -104,10 +104,10 @@ put-all-spec =
     add-offset-at
     offset-at-requires
     key-at-requires
-    sub-put-group
-    part-put-group-start
-    part-put-group-end
-    put-group-requires
+    sub-put-group-edges
+    part-put-group-edges-start
+    part-put-group-edges-end
+    put-group-edges-requires
     add-i
     loop-less
     loop-again

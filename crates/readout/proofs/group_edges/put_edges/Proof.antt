@@ -9,7 +9,7 @@ use Rattle.readout.proofs.group_edges.put_edges.Tie as tie
 use Rattle.readout.proofs.group_edges.put_edges.Reads as reads
 use Rattle.readout.proofs.group_edges.put_edges.Lts as lts
 use Rattle.batch.proofs.put_edge.Reads as put-edge-reads
-use Rattle.readout.proofs.group_edges.edge_of.Reads as edge-of-reads
+use Rattle.readout.proofs.group_edges.edge_with.Reads as edge-with-reads
 use Rattle.readout.proofs.group_edges.step_at.Reads as step-at-reads
 
 abbrev Inv-loop : tie.InvT-loop
@@ -19,7 +19,7 @@ abbrev μ-loop : tie.MeasureT-loop
 μ-loop dense g at d key logs dead first out₀ i₀ k₀ hi₀ out i k hi = d - k
 
 loop-holds : tie.Need-loop-holds Inv-loop μ-loop
-loop-holds c = let a = c .before .before .before .before .args in giving-start (a .dense) (a .g .now) (a .at) (a .d) (a .key) (a .logs .now) (a .dead .now) (a .first) (a .out .now) (c .before .before .before .before .pre .0)
+loop-holds c = let a = c .before .before .before .before .args in giving-start (a .dense) (a .g .now) (a .at) (a .d) (a .key) (a .logs .now) (a .dead .now) (a .first) (a .out .now) (c .before .before .before .before .pre .good)
 
 step-at-requires : tie.Need-step-at-requires Inv-loop μ-loop
 step-at-requires c κs = search needs
@@ -27,11 +27,11 @@ step-at-requires c κs = search needs
 enum-known-id : tie.Need-enum-known-id Inv-loop μ-loop
 enum-known-id c = search needs
 
-add-edge-of : tie.Need-add-edge-of Inv-loop μ-loop
-add-edge-of c = let h = c .before .before .before .before .before .loop .inv .most in omega arith
+add-edge-with : tie.Need-add-edge-with Inv-loop μ-loop
+add-edge-with c = let h = c .before .before .before .before .before .loop .inv .most in omega arith
 
-edge-of-requires : tie.Need-edge-of-requires Inv-loop μ-loop
-edge-of-requires c κs = let h = c .before .before .before .before .before .loop .inv .most in (omega arith, omega arith)
+edge-with-requires : tie.Need-edge-with-requires Inv-loop μ-loop
+edge-with-requires c κs = let h = c .before .before .before .before .before .loop .inv .most in (omega arith, omega arith)
 
 add-put-edge : tie.Need-add-put-edge Inv-loop μ-loop
 add-put-edge c = let h = c .before .before .before .before .before .before .before .loop .inv .most in omega arith
@@ -45,7 +45,7 @@ add-put-edge-2 c = let h = c .before .before .before .before .before .before .be
 put-edge-requires : tie.Need-put-edge-requires Inv-loop μ-loop
 put-edge-requires c κs = let a = c .before .before .before .before .before .before .before .before .before .before .before .before .args in
     let l = c .before .before .before .before .before .before .before .loop in
-    giving-room (a .dense) (a .g .now) (a .at) (a .d) (a .key) (a .logs .now) (a .dead .now) (a .first) (a .out .now) (l .out) (l .i) (l .k) (l .hi) (l .inv) (omega arith) _ _ (sym (c .before .before .before .before .before .step-at .ensures) ∙ c .before .before .before .id .given .1) (c .before .before .before .before .before .before .before .before .before .before .before .before .pre .3)
+    giving-room (a .dense) (a .g .now) (a .at) (a .d) (a .key) (a .logs .now) (a .dead .now) (a .first) (a .out .now) (l .out) (l .i) (l .k) (l .hi) (l .inv) (omega arith) _ _ (sym (c .before .before .before .before .before .step-at .ensures) ∙ c .before .before .before .id .given .1) (c .before .before .before .before .before .before .before .before .before .before .before .before .pre .room)
 
 add-k : tie.Need-add-k Inv-loop μ-loop
 add-k c = let h = c .before .before .before .before .before .before .before .before .before .before .loop .inv .most in omega arith
@@ -56,7 +56,7 @@ loop-less c = let h = c .before .before .before .before .before .before .before 
 loop-again : tie.Need-loop-again Inv-loop μ-loop
 loop-again c = let a = c .before .before .before .before .before .before .before .before .before .before .before .before .before .before .before .args in
     let l = c .before .before .before .before .before .before .before .before .before .before .loop in
-    giving-on (a .dense) (a .g .now) (a .at) (a .d) (a .key) (a .logs .now) (a .dead .now) (a .first) (a .out .now) (l .out) (l .i) (l .k) (l .hi) (l .inv) (omega arith) _ _ (sym (c .before .before .before .before .before .before .before .before .step-at .ensures) ∙ c .before .before .before .before .before .before .id .given .1) (c .before .before .before .before .edge-of .ensures) (c .before .before .put-edge .ensures)
+    giving-on (a .dense) (a .g .now) (a .at) (a .d) (a .key) (a .logs .now) (a .dead .now) (a .first) (a .out .now) (l .out) (l .i) (l .k) (l .hi) (l .inv) (omega arith) _ _ (sym (c .before .before .before .before .before .before .before .before .step-at .ensures) ∙ c .before .before .before .before .before .before .id .given .1) (c .before .before .before .before .edge-with .ensures) (c .before .before .put-edge .ensures)
 
 enum-told : tie.Need-enum-told Inv-loop μ-loop
 enum-told c = search needs
@@ -86,8 +86,8 @@ put-edges-spec =
     loop-holds
     step-at-requires
     enum-known-id
-    add-edge-of
-    edge-of-requires
+    add-edge-with
+    edge-with-requires
     add-put-edge
     mul-put-edge
     add-put-edge-2

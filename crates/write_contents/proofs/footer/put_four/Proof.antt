@@ -8,7 +8,7 @@ use Rattle.base.specs.Put.{Put, Left}
 use Rattle.frame.specs.Kind as kind
 use Rattle.write_frame.specs.Standing.{entryIn, entriesIn}
 use Rattle.write_plan.specs.Parts.{four}
-use Rattle.write_contents.specs.Footer.{length-entry, entry-put, four-entries}
+use Rattle.write_contents.specs.Footer.{length-entryIn, entry-put, four-entries}
 use borrow.Author.Needs.{needs}
 use Rattle.write_contents.proofs.footer.put_four.Statement.{statement}
 use Rattle.write_contents.proofs.footer.put_four.Tie as tie
@@ -43,7 +43,7 @@ module _ (o : List ℕ) (at keys w partners n : ℕ) (below : 64 + (16 * keys + 
     l₁ = P.put (P.is (four-entries o keys w partners n) (P.start o at whole)) p₁
 
     at₁ : a₁ ≡ at + 28
-    at₁ = p₁ .place ∙ ap (λ (t : ℕ). at + t) (length-entry o kind.keys 64 (16 * keys))
+    at₁ = p₁ .place ∙ ap (λ (t : ℕ). at + t) (length-entryIn o kind.keys 64 (16 * keys))
 
     room₁ : (second + size ≤ length o₁) × (a₁ + 28 ≤ length o₁) × (a₁ ≤ 4294967296)
     room₁ = let s = l₁ .same in let q = at₁ in (omega arith, omega arith, omega arith)
@@ -53,7 +53,7 @@ module _ (o : List ℕ) (at keys w partners n : ℕ) (below : 64 + (16 * keys + 
       l₂ = let q = at₁ in entry-put kind.offsets second size l₁ (omega arith) (omega arith) p₂
 
       at₂ : a₂ ≡ at + 56
-      at₂ = let q = at₁ in p₂ .place ∙ ap (λ (t : ℕ). a₁ + t) (length-entry o₁ kind.offsets second size) ∙ omega arith
+      at₂ = let q = at₁ in p₂ .place ∙ ap (λ (t : ℕ). a₁ + t) (length-entryIn o₁ kind.offsets second size) ∙ omega arith
 
       room₂ : (third + partners ≤ length o₂) × (a₂ + 28 ≤ length o₂) × (a₂ ≤ 4294967296)
       room₂ = let s = l₂ .same in let q = at₂ in (omega arith, omega arith, omega arith)
@@ -63,7 +63,7 @@ module _ (o : List ℕ) (at keys w partners n : ℕ) (below : 64 + (16 * keys + 
         l₃ = let q = at₂ in entry-put kind.partners third partners l₂ (omega arith) (omega arith) p₃
 
         at₃ : a₃ ≡ at + 84
-        at₃ = let q = at₂ in p₃ .place ∙ ap (λ (t : ℕ). a₂ + t) (length-entry o₂ kind.partners third partners) ∙ omega arith
+        at₃ = let q = at₂ in p₃ .place ∙ ap (λ (t : ℕ). a₂ + t) (length-entryIn o₂ kind.partners third partners) ∙ omega arith
 
         room₃ : (fourth + 8 * n ≤ length o₃) × (a₃ + 28 ≤ length o₃) × (a₃ ≤ 4294967296)
         room₃ = let s = l₃ .same in let q = at₃ in (omega arith, omega arith, omega arith)

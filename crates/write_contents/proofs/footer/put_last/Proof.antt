@@ -13,13 +13,13 @@ use Rattle.write_image.specs.Image.{fenced}
 use Rattle.write_frame.specs.Standing.{entryIn, entriesIn, total, part-below}
 use Rattle.write_plan.specs.Size.{tombSize, fencesSize}
 use Rattle.write_plan.specs.Parts.{lastBy, total-last}
-use Rattle.write_contents.specs.Footer.{length-entry, last-entries}
+use Rattle.write_contents.specs.Footer.{length-entryIn, last-entries}
 use borrow.Author.Needs.{needs}
 use Rattle.write_contents.proofs.footer.put_last.Statement.{statement}
 use Rattle.write_contents.proofs.footer.put_last.Tie as tie
 
 most-entry : (b : Bool) (s : List ℕ) (k start len : ℕ) → length (pick b (entryIn s k start len) []) ≤ 28
-most-entry true s k start len = let e = length-entry s k start len in omega arith
+most-entry true s k start len = let e = length-entryIn s k start len in omega arith
 most-entry false s k start len = omega arith
 
 module _ (o : List ℕ) (at start n keys : ℕ) (dead : Bool) (t f : ℕ) (et : t ≡ tombSize n dead) (ef : f ≡ fencesSize keys) (below : start + total (lastBy n dead keys) ≤ at)

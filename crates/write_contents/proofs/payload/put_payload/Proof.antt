@@ -14,7 +14,7 @@ use Rattle.batch_groups.specs.Groups.{Group, groupsOf, Grouped}
 use Rattle.write_image.specs.Image.{keysIn, keyBytes, offsetBytes, partnerBytes, logBytes, tombBytes, fencesOf, fenced, sectionsBy}
 use Rattle.write_image.specs.Image.Laws.{length-keys}
 use Rattle.write_sections.specs.Ids.{idsAt}
-use Rattle.write_source.specs.Source.{edgesIn}
+use Rattle.write_source.specs.Source.{sourceEdges}
 use Rattle.write_plan.specs.Parts.{payload-parts}
 use Rattle.write_contents.specs.Payload.{keys-stand}
 use borrow.Author.Needs.{needs}
@@ -41,89 +41,81 @@ module _ (es : List Edge) (keys w : ℕ) (dead : Bool) (o : List ℕ) (at : ℕ)
   abbrev fences : List ℕ
   fences = pick (fenced keys) (fencesOf (keysIn gs)) []
 
-  todo : Left o at (firsts ++ (logBytes es ++ (tombs ++ fences))) o at whole
-  todo = P.is (payload-parts keys w dead es gs) (P.start o at whole)
+  -- what has a part for each edge
+  abbrev marked : List ℕ
+  marked = logBytes es ++ tombs
+
+  parts : whole ≡ firsts ++ (marked ++ fences)
+  parts = payload-parts keys w dead es gs ∙ ap (λ (t : List ℕ). firsts ++ t) (sym (append-assoc (logBytes es) tombs fences))
+
+  todo : Left o at (firsts ++ (marked ++ fences)) o at whole
+  todo = P.is parts (P.start o at whole)
 
   room₀ : at + length firsts ≤ length o
-  room₀ = omega (arith, P.room firsts (logBytes es ++ (tombs ++ fences)) todo room)
+  room₀ = omega (arith, P.room firsts (marked ++ fences) todo room)
 
   module _ {o₁ : List ℕ} {a₁ : ℕ} (p₁ : Put o o₁ at a₁ firsts) where
-    l₁ : Left o₁ a₁ (logBytes es ++ (tombs ++ fences)) o at whole
+    l₁ : Left o₁ a₁ (marked ++ fences) o at whole
     l₁ = P.put todo p₁
 
-    room₁ : a₁ + length (logBytes es) ≤ length o₁
-    room₁ = omega (arith, P.room (logBytes es) (tombs ++ fences) l₁ room)
+    room₁ : a₁ + length marked ≤ length o₁
+    room₁ = omega (arith, P.room marked fences l₁ room)
 
-    module _ {o₂ : List ℕ} {a₂ : ℕ} (p₂ : Put o₁ o₂ a₁ a₂ (logBytes es)) where
-      l₂ : Left o₂ a₂ (tombs ++ fences) o at whole
+    module _ {o₂ : List ℕ} {a₂ : ℕ} (p₂ : Put o₁ o₂ a₁ a₂ marked) where
+      abbrev more : List ℕ
+      more = rest ++ marked
+
+      split : whole ≡ (keyBytes gs ++ more) ++ fences
+      split =
+          parts
+          ∙ append-assoc (keyBytes gs) rest (marked ++ fences)
+          ∙ sym (append-assoc (keyBytes gs) more fences ∙ ap (λ (t : List ℕ). keyBytes gs ++ t) (append-assoc rest marked fences))
+
+      l₂ : Left o₂ a₂ fences o at whole
       l₂ = P.put l₁ p₂
 
-      room₂ : a₂ + length tombs ≤ length o₂
-      room₂ = omega (arith, P.room tombs fences l₂ room)
+      at₂ : a₂ ≡ at + length (keyBytes gs ++ more)
+      at₂ = let q = l₂ .place in let s = ap length split ∙ length-append (keyBytes gs ++ more) fences in omega arith
 
-      module _ {o₃ : List ℕ} {a₃ : ℕ} (p₃ : Put o₂ o₃ a₂ a₃ tombs) where
-        abbrev more : List ℕ
-        more = rest ++ (logBytes es ++ tombs)
+      keys-there : idsAt keys o₂ at ≡ keysIn gs
+      keys-there = keys-stand gs more fences g split l₂ at₂ room keys ek
 
-        split : whole ≡ (keyBytes gs ++ more) ++ fences
-        split =
-            payload-parts keys w dead es gs
-            ∙ append-assoc (keyBytes gs) rest (logBytes es ++ (tombs ++ fences))
-            ∙ sym
-            (append-assoc (keyBytes gs) more fences
-            ∙ ap (λ (t : List ℕ). keyBytes gs ++ t)
-            (append-assoc rest (logBytes es ++ tombs) fences ∙ ap (λ (t : List ℕ). rest ++ t) (append-assoc (logBytes es) tombs fences)))
+      keys-below : at + 16 * keys ≤ a₂
+      keys-below = let q = at₂ in let s = length-append (keyBytes gs) more in let k = length-keys gs in omega arith
 
-        l₃ : Left o₃ a₃ fences o at whole
-        l₃ = P.put l₂ p₃
+      left : Left o₂ a₂ (pick (fenced keys) (fencesOf (idsAt keys o₂ at)) [] ++ []) o at whole
+      left =
+          P.is
+          (ap (λ (t : List Id). pick (fenced keys) (fencesOf t) []) (sym keys-there)
+          ∙ sym (append-nil (pick (fenced keys) (fencesOf (idsAt keys o₂ at)) [])))
+          l₂
 
-        at₃ : a₃ ≡ at + length (keyBytes gs ++ more)
-        at₃ = let q = l₃ .place in let s = ap length split ∙ length-append (keyBytes gs ++ more) fences in omega arith
+      room₂ : a₂ + length (pick (fenced keys) (fencesOf (idsAt keys o₂ at)) []) ≤ length o₂
+      room₂ = omega (arith, P.room (pick (fenced keys) (fencesOf (idsAt keys o₂ at)) []) [] left room)
 
-        keys-there : idsAt keys o₃ at ≡ keysIn gs
-        keys-there = keys-stand gs more fences g split l₃ at₃ room keys ek
-
-        keys-below : at + 16 * keys ≤ a₃
-        keys-below = let q = at₃ in let s = length-append (keyBytes gs) more in let k = length-keys gs in omega arith
-
-        left : Left o₃ a₃ (pick (fenced keys) (fencesOf (idsAt keys o₃ at)) [] ++ []) o at whole
-        left =
-            P.is
-            (ap (λ (t : List Id). pick (fenced keys) (fencesOf t) []) (sym keys-there)
-            ∙ sym (append-nil (pick (fenced keys) (fencesOf (idsAt keys o₃ at)) [])))
-            l₃
-
-        room₃ : a₃ + length (pick (fenced keys) (fencesOf (idsAt keys o₃ at)) []) ≤ length o₃
-        room₃ = omega (arith, P.room (pick (fenced keys) (fencesOf (idsAt keys o₃ at)) []) [] left room)
-
-        done : {o₄ : List ℕ} {a₄ : ℕ} → Put o₃ o₄ a₃ a₄ (pick (fenced keys) (fencesOf (idsAt keys o₃ at)) []) → Put o o₄ at a₄ whole
-        done p₄ = P.end refl (P.put left p₄)
+      done : {o₃ : List ℕ} {a₃ : ℕ} → Put o₂ o₃ a₂ a₃ (pick (fenced keys) (fencesOf (idsAt keys o₂ at)) []) → Put o o₃ at a₃ whole
+      done p₃ = P.end refl (P.put left p₃)
 
 put-groups-requires : tie.Need-put-groups-requires
-put-groups-requires c κs = let a = c .before .before .before .before .args in (c .before .before .before .before .pre .0, c .before .before .before .before .pre .1, c .before .before .before .before .pre .2, c .before .before .before .before .pre .3, c .before .before .before .before .pre .4, room₀ (edgesIn (a .kind) (a .a .now) (a .b .now)) (a .keys) (a .w) (a .dead) (a .out .now) (a .at) (c .before .before .before .before .pre .2) (c .before .before .before .before .pre .4) (c .before .before .before .before .pre .5))
+put-groups-requires c κs = let a = c .before .before .before .before .args in (c .before .before .before .before .pre .0, c .before .before .before .before .pre .1, c .before .before .before .before .pre .2, c .before .before .before .before .pre .3, c .before .before .before .before .pre .4, room₀ (sourceEdges (a .kind) (a .a .now) (a .b .now)) (a .keys) (a .w) (a .dead) (a .out .now) (a .at) (c .before .before .before .before .pre .2) (c .before .before .before .before .pre .4) (c .before .before .before .before .pre .5), c .before .before .before .before .pre .6)
 
-put-logs-requires : tie.Need-put-logs-requires
-put-logs-requires c κs = let a = c .before .before .before .before .before .before .before .before .args in (c .before .before .before .before .before .before .before .before .pre .0, room₁ (edgesIn (a .kind) (a .a .now) (a .b .now)) (a .keys) (a .w) (a .dead) (a .out .now) (a .at) (c .before .before .before .before .before .before .before .before .pre .2) (c .before .before .before .before .before .before .before .before .pre .4) (c .before .before .before .before .before .before .before .before .pre .5) (c .before .before .before .put-groups .ensures))
-
-put-tombs-if-requires : tie.Need-put-tombs-if-requires
-put-tombs-if-requires c κs = let a = c .before .before .before .before .before .before .before .before .before .before .before .before .args in (c .before .before .before .before .before .before .before .before .before .before .before .before .pre .0, c .before .before .before .before .before .before .before .before .before .before .before .before .pre .1, room₂ (edgesIn (a .kind) (a .a .now) (a .b .now)) (a .keys) (a .w) (a .dead) (a .out .now) (a .at) (c .before .before .before .before .before .before .before .before .before .before .before .before .pre .2) (c .before .before .before .before .before .before .before .before .before .before .before .before .pre .4) (c .before .before .before .before .before .before .before .before .before .before .before .before .pre .5) (c .before .before .before .before .before .before .before .put-groups .ensures) (c .before .before .before .put-logs .ensures))
+put-by-edge-requires : tie.Need-put-by-edge-requires
+put-by-edge-requires c κs = let a = c .before .before .before .before .before .before .before .before .args in (c .before .before .before .before .before .before .before .before .pre .0, c .before .before .before .before .before .before .before .before .pre .1, room₁ (sourceEdges (a .kind) (a .a .now) (a .b .now)) (a .keys) (a .w) (a .dead) (a .out .now) (a .at) (c .before .before .before .before .before .before .before .before .pre .2) (c .before .before .before .before .before .before .before .before .pre .4) (c .before .before .before .before .before .before .before .before .pre .5) (c .before .before .before .put-groups .ensures))
 
 put-fences-if-requires : tie.Need-put-fences-if-requires
-put-fences-if-requires c κs = let a = c .before .before .before .before .before .before .before .before .before .before .before .before .before .before .before .before .args in (c .before .before .before .before .before .before .before .before .before .before .before .before .before .before .before .before .pre .3, keys-below (edgesIn (a .kind) (a .a .now) (a .b .now)) (a .keys) (a .w) (a .dead) (a .out .now) (a .at) (c .before .before .before .before .before .before .before .before .before .before .before .before .before .before .before .before .pre .2) (c .before .before .before .before .before .before .before .before .before .before .before .before .before .before .before .before .pre .4) (c .before .before .before .before .before .before .before .before .before .before .before .before .before .before .before .before .pre .5) (c .before .before .before .before .before .before .before .before .before .before .before .put-groups .ensures) (c .before .before .before .before .before .before .before .put-logs .ensures) (c .before .before .before .put-tombs-if .ensures), room₃ (edgesIn (a .kind) (a .a .now) (a .b .now)) (a .keys) (a .w) (a .dead) (a .out .now) (a .at) (c .before .before .before .before .before .before .before .before .before .before .before .before .before .before .before .before .pre .2) (c .before .before .before .before .before .before .before .before .before .before .before .before .before .before .before .before .pre .4) (c .before .before .before .before .before .before .before .before .before .before .before .before .before .before .before .before .pre .5) (c .before .before .before .before .before .before .before .before .before .before .before .put-groups .ensures) (c .before .before .before .before .before .before .before .put-logs .ensures) (c .before .before .before .put-tombs-if .ensures))
+put-fences-if-requires c κs =
+    let a = c .before .before .before .before .before .before .before .before .before .before .before .before .args in
+    let p₁ = c .before .before .before .before .before .before .before .put-groups .ensures in
+    let p₂ = c .before .before .before .put-by-edge .ensures in
+    (c .before .before .before .before .before .before .before .before .before .before .before .before .pre .3, keys-below (sourceEdges (a .kind) (a .a .now) (a .b .now)) (a .keys) (a .w) (a .dead) (a .out .now) (a .at) (c .before .before .before .before .before .before .before .before .before .before .before .before .pre .2) (c .before .before .before .before .before .before .before .before .before .before .before .before .pre .4) (c .before .before .before .before .before .before .before .before .before .before .before .before .pre .5) p₁ p₂, room₂ (sourceEdges (a .kind) (a .a .now) (a .b .now)) (a .keys) (a .w) (a .dead) (a .out .now) (a .at) (c .before .before .before .before .before .before .before .before .before .before .before .before .pre .2) (c .before .before .before .before .before .before .before .before .before .before .before .before .pre .4) (c .before .before .before .before .before .before .before .before .before .before .before .before .pre .5) p₁ p₂)
 
 same-length : tie.Need-same-length
 same-length c = search needs
 
 returns : tie.Need-returns
-returns c = let a = c .before .before .before .before .before .before .before .before .before .before .before .before .before .before .before .before .before .before .before .args in done (edgesIn (a .kind) (a .a .now) (a .b .now)) (a .keys) (a .w) (a .dead) (a .out .now) (a .at) (c .before .before .before .before .before .before .before .before .before .before .before .before .before .before .before .before .before .before .before .pre .2) (c .before .before .before .before .before .before .before .before .before .before .before .before .before .before .before .before .before .before .before .pre .4) (c .before .before .before .before .before .before .before .before .before .before .before .before .before .before .before .before .before .before .before .pre .5) (c .before .before .before .before .before .before .before .before .before .before .before .before .before .before .put-groups .ensures) (c .before .before .before .before .before .before .before .before .before .before .put-logs .ensures) (c .before .before .before .before .before .before .put-tombs-if .ensures) (c .before .before .put-fences-if .ensures)
+returns c =
+    let a = c .before .before .before .before .before .before .before .before .before .before .before .before .before .before .before .args in
+    done (sourceEdges (a .kind) (a .a .now) (a .b .now)) (a .keys) (a .w) (a .dead) (a .out .now) (a .at) (c .before .before .before .before .before .before .before .before .before .before .before .before .before .before .before .pre .2) (c .before .before .before .before .before .before .before .before .before .before .before .before .before .before .before .pre .4) (c .before .before .before .before .before .before .before .before .before .before .before .before .before .before .before .pre .5) (c .before .before .before .before .before .before .before .before .before .before .put-groups .ensures) (c .before .before .before .before .before .before .put-by-edge .ensures) (c .before .before .put-fences-if .ensures)
 
 pub put-payload-spec : {M : Type 1} → statement M
-put-payload-spec =
-    tie.close
-    (tie.spec
-    put-groups-requires
-    put-logs-requires
-    put-tombs-if-requires
-    put-fences-if-requires
-    same-length
-    returns)
+put-payload-spec = tie.close (tie.spec put-groups-requires put-by-edge-requires put-fences-if-requires same-length returns)

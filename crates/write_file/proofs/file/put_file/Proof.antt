@@ -4,7 +4,7 @@ use native.Mathlib.Omega.{arith}
 use mathlib.Core.List.{List, [], _++_, append-nil, append-assoc}
 use lib.ListN.{length, drop, length-append}
 use lib.Seq.{sets}
-use Rattle.base.specs.Over.{over, part, sets-over}
+use Rattle.base.specs.Over.{over, part, sets-over, part-mid}
 use Rattle.base.specs.Put as P
 use Rattle.base.specs.Put.{Put, Left}
 use Rattle.batch.specs.declared.Edge.{Edge}
@@ -12,20 +12,20 @@ use Rattle.frame.specs.Layout.{Section, payload, bodyBytes, trailer, headBytes}
 use Rattle.batch.specs.Batch.{Heading}
 use Rattle.batch_groups.specs.Groups.{groupsOf}
 use Rattle.write_image.specs.Image.{flagsBy, sectionsBy, layoutBy, fileOf}
-use Rattle.write_image.specs.Image.Laws.{width-most}
-use Rattle.write_source.specs.Source.{edgesIn}
-use Rattle.write_frame.specs.Standing.{part-mid, stands}
+use Rattle.write_image.specs.Image.Laws.{width-least, width-most}
+use Rattle.write_source.specs.Source.{sourceEdges}
+use Rattle.write_frame.specs.Standing.{stands}
 use Rattle.write_frame.specs.Runs.{length-head, length-trailer}
 use Rattle.write_plan.specs.declared.Plan.{Plan}
 use Rattle.write_plan.specs.Size.{sectionsSize}
 use Rattle.write_plan.specs.Parts.{file-parts, file-is, length-file, length-payload}
-use Rattle.write_plan.specs.Bounds.{Fits, few}
+use Rattle.write_plan.specs.Bounds.{PlanFits, few}
 use Rattle.write_contents.specs.Footer.{bodyIn, body-standing}
 use borrow.Author.Needs.{needs}
 use Rattle.write_file.proofs.file.put_file.Statement.{statement}
 use Rattle.write_file.proofs.file.put_file.Tie as tie
 
-module _ (h : Heading) (es : List Edge) (p : Plan) (fits : Fits es p) (ids : length (h .ids) ≡ 48) (o : List ℕ) (enough : p .bytes ≤ length o) where
+module _ (h : Heading) (es : List Edge) (p : Plan) (fits : PlanFits es p) (ids : length (h .ids) ≡ 48) (o : List ℕ) (enough : p .bytes ≤ length o) where
   abbrev ss : List Section
   ss = sectionsBy (p .keys) (p .width) (p .dead) es (groupsOf es)
 
@@ -65,13 +65,14 @@ module _ (h : Heading) (es : List Edge) (p : Plan) (fits : Fits es p) (ids : len
   room₀ : 16 + length (h .ids) ≤ length o
   room₀ = let r = P.room head (payload ss ++ (body ++ tail)) todo room in let l = head-long in omega arith
 
-  bounds : (p .edges ≡ length es) × (p .edges ≤ 67108864) × (p .keys ≡ length (groupsOf es)) × (p .keys ≤ 67108864) × (p .width ≤ 4)
+  bounds : (p .edges ≡ length es) × (p .edges ≤ 67108864) × (p .keys ≡ length (groupsOf es)) × (p .keys ≤ 67108864) × (p .width ≤ 4) × (3 ≤ p .width)
   bounds =
       let f = fits .fitting in
       let k = fits .keys-few in
       let e = fits .edges-few in
       let w : p .width ≤ 4 = subst (λ (t : ℕ). t ≤ 4) (sym (f .width-is)) (width-most (p .partners)) in
-      (f .edges-is, e, f .keys-is, omega arith, w)
+      let v : 3 ≤ p .width = subst (λ (t : ℕ). 3 ≤ t) (sym (f .width-is)) (width-least (p .partners)) in
+      (f .edges-is, e, f .keys-is, omega arith, w, v)
 
   module _ (fl : ℕ) (same-flags : fl ≡ flags) {o₁ : List ℕ} (e : o₁ ≡ sets o 0 (headBytes 0 fl (h .ids))) where
     l₁ : Left o₁ 64 (payload ss ++ (body ++ tail)) o 0 whole
@@ -150,32 +151,32 @@ module _ (h : Heading) (es : List Edge) (p : Plan) (fits : Fits es p) (ids : len
         done : {o₄ : List ℕ} {a₄ : ℕ} → Put o₃ o₄ a₃ a₄ (trailer (part o₃ a₂ a₃)) → o₄ ≡ over whole o
         done s = P.end refl (P.put left s) .bytes ∙ sets-over whole o (omega (arith, room))
 
-flags-of-requires : tie.Need-flags-of-requires
-flags-of-requires c κs = search needs
+flags-for-requires : tie.Need-flags-for-requires
+flags-for-requires c κs = search needs
 
 put-header-requires : tie.Need-put-header-requires
-put-header-requires c κs = let a = c .before .before .before .before .before .before .args in room₀ (record { direction = a .direction; ids = a .ids .now }) (edgesIn (a .kind) (a .a .now) (a .b .now)) (a .plan) (c .before .before .before .before .before .before .pre .0) (c .before .before .before .before .before .before .pre .2) (a .out .now) (c .before .before .before .before .before .before .pre .3)
+put-header-requires c κs = let a = c .before .before .before .before .before .before .args in (room₀ (record { direction = a .direction; ids = a .ids .now }) (sourceEdges (a .kind) (a .a .now) (a .b .now)) (a .plan) (c .before .before .before .before .before .before .pre .0) (c .before .before .before .before .before .before .pre .2) (a .out .now) (c .before .before .before .before .before .before .pre .3), c .before .before .before .before .before .before .pre .2)
 
 put-payload-requires : tie.Need-put-payload-requires
-put-payload-requires c κs = let a = c .before .before .before .before .before .before .before .before .before .before .args in let b = bounds (record { direction = a .direction; ids = a .ids .now }) (edgesIn (a .kind) (a .a .now) (a .b .now)) (a .plan) (c .before .before .before .before .before .before .before .before .before .before .pre .0) (c .before .before .before .before .before .before .before .before .before .before .pre .2) (a .out .now) (c .before .before .before .before .before .before .before .before .before .before .pre .3) in (b .0, b .1, b .2, b .3, c .before .before .before .before .before .before .before .before .before .before .pre .1, room₁ (record { direction = a .direction; ids = a .ids .now }) (edgesIn (a .kind) (a .a .now) (a .b .now)) (a .plan) (c .before .before .before .before .before .before .before .before .before .before .pre .0) (c .before .before .before .before .before .before .before .before .before .before .pre .2) (a .out .now) (c .before .before .before .before .before .before .before .before .before .before .pre .3) _ (c .before .before .before .before .before .flags-of .ensures) (c .before .before .before .put-header .ensures))
+put-payload-requires c κs = let a = c .before .before .before .before .before .before .before .before .before .before .args in let b = bounds (record { direction = a .direction; ids = a .ids .now }) (sourceEdges (a .kind) (a .a .now) (a .b .now)) (a .plan) (c .before .before .before .before .before .before .before .before .before .before .pre .0) (c .before .before .before .before .before .before .before .before .before .before .pre .2) (a .out .now) (c .before .before .before .before .before .before .before .before .before .before .pre .3) in (b .0, b .1, b .2, b .3, c .before .before .before .before .before .before .before .before .before .before .pre .1, room₁ (record { direction = a .direction; ids = a .ids .now }) (sourceEdges (a .kind) (a .a .now) (a .b .now)) (a .plan) (c .before .before .before .before .before .before .before .before .before .before .pre .0) (c .before .before .before .before .before .before .before .before .before .before .pre .2) (a .out .now) (c .before .before .before .before .before .before .before .before .before .before .pre .3) _ (c .before .before .before .before .before .flags-for .ensures) (c .before .before .before .put-header .ensures), (b .5, b .4))
 
 put-body-requires : tie.Need-put-body-requires
-put-body-requires c κs = let a = c .before .before .before .before .before .before .before .before .before .before .before .before .before .before .args in let b = bounds (record { direction = a .direction; ids = a .ids .now }) (edgesIn (a .kind) (a .a .now) (a .b .now)) (a .plan) (c .before .before .before .before .before .before .before .before .before .before .before .before .before .before .pre .0) (c .before .before .before .before .before .before .before .before .before .before .before .before .before .before .pre .2) (a .out .now) (c .before .before .before .before .before .before .before .before .before .before .before .before .before .before .pre .3) in let r = room₂ (record { direction = a .direction; ids = a .ids .now }) (edgesIn (a .kind) (a .a .now) (a .b .now)) (a .plan) (c .before .before .before .before .before .before .before .before .before .before .before .before .before .before .pre .0) (c .before .before .before .before .before .before .before .before .before .before .before .before .before .before .pre .2) (a .out .now) (c .before .before .before .before .before .before .before .before .before .before .before .before .before .before .pre .3) _ (c .before .before .before .before .before .before .before .before .before .flags-of .ensures) (c .before .before .before .before .before .before .before .put-header .ensures) (c .before .before .before .put-payload .ensures) in (b .3, b .4, b .1, r .0, r .1, r .2)
+put-body-requires c κs = let a = c .before .before .before .before .before .before .before .before .before .before .before .before .before .before .args in let b = bounds (record { direction = a .direction; ids = a .ids .now }) (sourceEdges (a .kind) (a .a .now) (a .b .now)) (a .plan) (c .before .before .before .before .before .before .before .before .before .before .before .before .before .before .pre .0) (c .before .before .before .before .before .before .before .before .before .before .before .before .before .before .pre .2) (a .out .now) (c .before .before .before .before .before .before .before .before .before .before .before .before .before .before .pre .3) in let r = room₂ (record { direction = a .direction; ids = a .ids .now }) (sourceEdges (a .kind) (a .a .now) (a .b .now)) (a .plan) (c .before .before .before .before .before .before .before .before .before .before .before .before .before .before .pre .0) (c .before .before .before .before .before .before .before .before .before .before .before .before .before .before .pre .2) (a .out .now) (c .before .before .before .before .before .before .before .before .before .before .before .before .before .before .pre .3) _ (c .before .before .before .before .before .before .before .before .before .flags-for .ensures) (c .before .before .before .before .before .before .before .put-header .ensures) (c .before .before .before .put-payload .ensures) in (b .3, b .4, b .1, r .0, r .1, r .2)
 
 put-trailer-requires : tie.Need-put-trailer-requires
-put-trailer-requires c κs = let a = c .before .before .before .before .before .before .before .before .before .before .before .before .before .before .before .before .before .before .args in room₃ (record { direction = a .direction; ids = a .ids .now }) (edgesIn (a .kind) (a .a .now) (a .b .now)) (a .plan) (c .before .before .before .before .before .before .before .before .before .before .before .before .before .before .before .before .before .before .pre .0) (c .before .before .before .before .before .before .before .before .before .before .before .before .before .before .before .before .before .before .pre .2) (a .out .now) (c .before .before .before .before .before .before .before .before .before .before .before .before .before .before .before .before .before .before .pre .3) _ (c .before .before .before .before .before .before .before .before .before .before .before .before .before .flags-of .ensures) (c .before .before .before .before .before .before .before .before .before .before .before .put-header .ensures) (c .before .before .before .before .before .before .before .put-payload .ensures) (c .before .before .before .put-body .ensures)
+put-trailer-requires c κs = let a = c .before .before .before .before .before .before .before .before .before .before .before .before .before .before .before .before .before .before .args in room₃ (record { direction = a .direction; ids = a .ids .now }) (sourceEdges (a .kind) (a .a .now) (a .b .now)) (a .plan) (c .before .before .before .before .before .before .before .before .before .before .before .before .before .before .before .before .before .before .pre .0) (c .before .before .before .before .before .before .before .before .before .before .before .before .before .before .before .before .before .before .pre .2) (a .out .now) (c .before .before .before .before .before .before .before .before .before .before .before .before .before .before .before .before .before .before .pre .3) _ (c .before .before .before .before .before .before .before .before .before .before .before .before .before .flags-for .ensures) (c .before .before .before .before .before .before .before .before .before .before .before .put-header .ensures) (c .before .before .before .before .before .before .before .put-payload .ensures) (c .before .before .before .put-body .ensures)
 
 same-length : tie.Need-same-length
 same-length c = search needs
 
 returns : tie.Need-returns
-returns c = let a = c .before .before .before .before .before .before .before .before .before .before .before .before .before .before .before .before .before .before .before .before .before .args in done (record { direction = a .direction; ids = a .ids .now }) (edgesIn (a .kind) (a .a .now) (a .b .now)) (a .plan) (c .before .before .before .before .before .before .before .before .before .before .before .before .before .before .before .before .before .before .before .before .before .pre .0) (c .before .before .before .before .before .before .before .before .before .before .before .before .before .before .before .before .before .before .before .before .before .pre .2) (a .out .now) (c .before .before .before .before .before .before .before .before .before .before .before .before .before .before .before .before .before .before .before .before .before .pre .3) _ (c .before .before .before .before .before .before .before .before .before .before .before .before .before .before .before .before .flags-of .ensures) (c .before .before .before .before .before .before .before .before .before .before .before .before .before .before .put-header .ensures) (c .before .before .before .before .before .before .before .before .before .before .put-payload .ensures) (c .before .before .before .before .before .before .put-body .ensures) (c .before .before .put-trailer .ensures)
+returns c = let a = c .before .before .before .before .before .before .before .before .before .before .before .before .before .before .before .before .before .before .before .before .before .args in done (record { direction = a .direction; ids = a .ids .now }) (sourceEdges (a .kind) (a .a .now) (a .b .now)) (a .plan) (c .before .before .before .before .before .before .before .before .before .before .before .before .before .before .before .before .before .before .before .before .before .pre .0) (c .before .before .before .before .before .before .before .before .before .before .before .before .before .before .before .before .before .before .before .before .before .pre .2) (a .out .now) (c .before .before .before .before .before .before .before .before .before .before .before .before .before .before .before .before .before .before .before .before .before .pre .3) _ (c .before .before .before .before .before .before .before .before .before .before .before .before .before .before .before .before .flags-for .ensures) (c .before .before .before .before .before .before .before .before .before .before .before .before .before .before .put-header .ensures) (c .before .before .before .before .before .before .before .before .before .before .put-payload .ensures) (c .before .before .before .before .before .before .put-body .ensures) (c .before .before .put-trailer .ensures)
 
 pub put-file-spec : {M : Type 1} → statement M
 put-file-spec =
     tie.close
     (tie.spec
-    flags-of-requires
+    flags-for-requires
     put-header-requires
     put-payload-requires
     put-body-requires

@@ -5,13 +5,15 @@ use native.Mathlib.Omega.{arith}
 use mathlib.Core.List.{List}
 use mathlib.Core.Bool.{Bool, true, false, _||_}
 use lib.ListN.{length, drop, length-append}
+use Rattle.batch.specs.Batch.{partnersIn}
 use Rattle.base.specs.Over.{part}
 use Rattle.batch.specs.declared.Edge.{Edge}
 use Rattle.batch_groups.specs.Groups.{Group, groupsOf, GroupEnd, Grouped}
 use Rattle.batch_groups.specs.Groups.Laws.{grouped-step}
-use Rattle.write_image.specs.Image.{partnersIn, isDense, groupBytes, anyDense, partnerBytes}
-use Rattle.write_image.specs.Image.Laws.{rises, partners-step, partners-end, any-step, any-end}
-use Rattle.write_source.specs.Source.{edgesIn}
+use Rattle.write_image.specs.Image.{isDense, groupBytes, anyDense, partnerBytes}
+use Rattle.write_image.specs.Image.Laws.{partners-step, partners-end, any-step, any-end}
+use Rattle.write_source.specs.Source.{sourceEdges}
+use Rattle.write_group.specs.Span.{span-few, span-dense, span-size}
 use Rattle.write_sections.proofs.by_key.partners_size.Statement.{statement}
 use Rattle.write_sections.proofs.by_key.partners_size.Tie as tie
 
@@ -62,7 +64,7 @@ module _ (es : List Edge) (n keys i bytes : ℕ) (dense : Bool) (h : Head es n k
       (omega arith, sym (or-none dense) ∙ ap (λ (b : Bool). dense || b) (sym (any-end es i z keys)) ∙ h .some, omega arith)
 
 abbrev Inv-loop : tie.InvT-loop
-Inv-loop kind a b n keys i₀ bytes₀ dense₀ i bytes dense = Head (edgesIn kind a b) n keys i bytes dense
+Inv-loop kind a b n keys i₀ bytes₀ dense₀ i bytes dense = Head (sourceEdges kind a b) n keys i bytes dense
 
 abbrev μ-loop : tie.MeasureT-loop
 μ-loop kind a b n keys i₀ bytes₀ dense₀ i bytes dense = n - i
@@ -70,37 +72,44 @@ abbrev μ-loop : tie.MeasureT-loop
 loop-holds : tie.Need-loop-holds Inv-loop μ-loop
 loop-holds c = record { upto = omega arith; rest = c .before .before .pre .3; sum = zero-add _; some = refl; most = omega arith }
 
-group-end-requires : tie.Need-group-end-requires Inv-loop μ-loop
-group-end-requires c κs = omega arith
+span-at-requires : tie.Need-span-at-requires Inv-loop μ-loop
+span-at-requires c κs = (c .before .before .before .before .pre .0, c .before .before .before .before .pre .1, omega arith, c .before .loop .inv .rest)
+
+sub-block-size : tie.Need-sub-block-size Inv-loop μ-loop
+sub-block-size c = let g = c .span-at .ensures .ends in omega (arith, g .above)
 
 block-size-requires : tie.Need-block-size-requires Inv-loop μ-loop
 block-size-requires c κs =
     let a = c .before .before .before .before .before .args in
     let l = c .before .before .loop in
-    let es = edgesIn (a .kind) (a .a .now) (a .b .now) in
-    let g = c .group-end .ensures in (omega (arith, g .above), g .within, omega (arith, g .within), rises es (l .i) _ g (l .inv .rest), c .before .before .before .before .before .pre .2)
+    let es = sourceEdges (a .kind) (a .a .now) (a .b .now) in
+    let g = c .span-at .ensures in (omega (arith, g .ends .within), span-few es (l .i) _ g (a .keys), c .before .before .before .before .before .pre .2)
 
 add-bytes : tie.Need-add-bytes Inv-loop μ-loop
-add-bytes c = let z = c .before .block-size .ensures in let m = c .before .before .before .before .loop .inv .most in let g = c .before .before .group-end .ensures in omega (arith, z .2, m, g .within)
+add-bytes c = let z = c .before .block-size .ensures in let m = c .before .before .before .before .loop .inv .most in let g = c .before .before .span-at .ensures .ends in omega (arith, z .2, m, g .within)
 
 either-requires : tie.Need-either-requires Inv-loop μ-loop
 either-requires c κs = omega arith
 
 loop-less : tie.Need-loop-less Inv-loop μ-loop
-loop-less c = let g = c .before .before .before .group-end .ensures in omega (arith, g .above, g .within)
+loop-less c = let g = c .before .before .before .span-at .ensures .ends in omega (arith, g .above, g .within)
 
 loop-again : tie.Need-loop-again Inv-loop μ-loop
 loop-again c =
     let a = c .before .before .before .before .before .before .before .before .args in
     let l = c .before .before .before .before .before .loop in
-    let es = edgesIn (a .kind) (a .a .now) (a .b .now) in
-    let g = c .before .before .before .group-end .ensures in let z = c .before .before .block-size .ensures in again es (a .n) (a .keys) (l .i) (l .bytes) (l .dense) (l .inv) _ g (omega (arith, g .within)) _ _ _ (z .0) (z .1) (z .2) (c .either .ensures)
+    let es = sourceEdges (a .kind) (a .a .now) (a .b .now) in
+    let s = c .before .before .before .span-at .ensures in
+    let g = s .ends in
+    let z = c .before .before .block-size .ensures in
+    again es (a .n) (a .keys) (l .i) (l .bytes) (l .dense) (l .inv) _ g (omega (arith, g .within)) _ _ _
+    (z .0 ∙ span-dense es (l .i) _ s (a .keys)) (z .1 ∙ span-size es (l .i) _ s (a .keys)) (z .2) (c .either .ensures)
 
 returns : tie.Need-returns Inv-loop μ-loop
 returns c =
     let a = c .before .before .before .before .args in
     let l = c .before .loop in
-    let es = edgesIn (a .kind) (a .a .now) (a .b .now) in
+    let es = sourceEdges (a .kind) (a .a .now) (a .b .now) in
     let u = l .inv .upto in ended es (a .n) (a .keys) (l .i) (l .bytes) (l .dense) (l .inv) (omega arith) u
 
 pub partners-size-spec : {M : Type 1} → statement M
@@ -110,7 +119,8 @@ partners-size-spec =
     Inv-loop
     μ-loop
     loop-holds
-    group-end-requires
+    span-at-requires
+    sub-block-size
     block-size-requires
     add-bytes
     either-requires

@@ -5,6 +5,7 @@ use mathlib.Core.List.{List}
 use mathlib.Core.Bool.{Bool}
 use lib.ListN.{length}
 use lib.Seq.{sets}
+use Rattle.batch.specs.Batch.{partnersIn}
 use Rattle.base.specs.Over.{part}
 use Rattle.base.specs.Put.{Put}
 use Rattle.codes.specs.declared.ids.Id.{Id}
@@ -12,9 +13,10 @@ use Rattle.codes.specs.Little.{leBytes}
 use Rattle.codes.specs.Ids.{idBytes}
 use Rattle.batch.specs.declared.Edge.{Edge}
 use Rattle.group.specs.Written.{writtenAs}
-use Rattle.write_image.specs.Image.{partnersIn, isDense, groupBytes}
+use Rattle.write_image.specs.Image.{isDense, groupBytes}
 use Rattle.write_image.specs.Image.Laws.{group-is}
-use Rattle.write_source.specs.Source.{edgesIn}
+use Rattle.write_source.specs.Source.{sourceEdges}
+use Rattle.write_group.specs.Span.{span-dense}
 use borrow.Author.Needs.{needs}
 use Rattle.write_sections.proofs.by_key.put_group.Statement.{statement}
 use Rattle.write_sections.proofs.by_key.put_group.Tie as tie
@@ -32,27 +34,35 @@ edge-of-requires c κs = search needs
 put-id-requires : tie.Need-put-id-requires
 put-id-requires c κs = search needs
 
-put-le-requires : tie.Need-put-le-requires
-put-le-requires c κs = search needs
+put-offset-requires : tie.Need-put-offset-requires
+put-offset-requires c κs = search needs
 
-block-size-requires : tie.Need-block-size-requires
-block-size-requires c κs = (omega arith, c .before .before .before .before .before .before .before .before .before .before .before .before .before .pre .1, c .before .before .before .before .before .before .before .before .before .before .before .before .before .pre .2, c .before .before .before .before .before .before .before .before .before .before .before .before .before .pre .4, c .before .before .before .before .before .before .before .before .before .before .before .before .before .pre .3)
+sub-dense-by : tie.Need-sub-dense-by
+sub-dense-by c = search needs
+
+dense-by-requires : tie.Need-dense-by-requires
+dense-by-requires c κs = search needs
 
 put-block-requires : tie.Need-put-block-requires
-put-block-requires c κs = let a = c .before .before .before .before .before .before .before .before .before .before .before .before .before .before .before .args in let es = edgesIn (a .kind) (a .a .now) (a .b .now) in
-    let ps = partnersIn (part es (a .i) (a .j)) in
-    let w = ap length (written (a .keys) ps _ (c .before .block-size .ensures .0)) in
-    (omega arith, c .before .before .before .before .before .before .before .before .before .before .before .before .before .before .before .pre .1, c .before .before .before .before .before .before .before .before .before .before .before .before .before .before .before .pre .4, omega (arith, w, c .before .before .before .before .before .before .before .before .before .before .before .before .before .before .before .pre .7))
+put-block-requires c κs =
+    let a = c .before .before .before .before .before .before .before .before .before .before .before .before .before .before .before .args in
+    let q = c .before .before .before .before .before .before .before .before .before .before .before .before .before .before .before .pre in
+    let es = sourceEdges (a .kind) (a .a .now) (a .b .now) in
+    let ps = partnersIn (part es (a .i) (a .g .end)) in
+    let g = q .0 .ends in
+    let w = ap length (written (a .keys) ps _ (c .before .dense-by .ensures ∙ span-dense es (a .i) (a .g) (q .0) (a .keys))) in
+    (omega (arith, g .above), g .within, q .3, omega (arith, w, q .6))
 
 same-length : tie.Need-same-length
 same-length c = search needs
 
 returns : tie.Need-returns
-returns c = let a = c .before .before .before .before .before .before .before .before .before .before .before .before .before .before .before .before .before .before .args in let es = edgesIn (a .kind) (a .a .now) (a .b .now) in
-    let ps = partnersIn (part es (a .i) (a .j)) in
-    let q = done (a .keys) ps _ (c .before .before .before .before .block-size .ensures .0) (c .before .before .put-block .ensures) in
+returns c = let a = c .before .before .before .before .before .before .before .before .before .before .before .before .before .before .before .before .before .before .args in let es = sourceEdges (a .kind) (a .a .now) (a .b .now) in
+    let ps = partnersIn (part es (a .i) (a .g .end)) in
+    let d = c .before .before .before .before .dense-by .ensures ∙ span-dense es (a .i) (a .g) (c .before .before .before .before .before .before .before .before .before .before .before .before .before .before .before .before .before .before .pre .0) (a .keys) in
+    let q = done (a .keys) ps _ d (c .before .before .put-block .ensures) in
     let key = ap (λ (t : Edge). idBytes (t .key)) (c .before .before .before .before .before .before .before .before .before .before .before .before .before .before .edge-of .ensures) in
-    let stored = c .before .before .before .before .before .before .before .put-le .ensures ∙ ap (λ (t : List ℕ). sets t (a .o) (leBytes (a .w) (a .start))) (c .before .before .before .before .before .before .before .before .before .before .before .put-id .ensures ∙ ap (sets (a .out .now) (a .k)) key) in
+    let stored = c .before .before .before .before .before .before .before .put-offset .ensures ∙ ap (λ (t : List ℕ). sets t (a .o) (leBytes (a .w) (a .start))) (c .before .before .before .before .before .before .before .before .before .before .before .put-id .ensures ∙ ap (sets (a .out .now) (a .k)) key) in
     (q .0, q .1 ∙ ap (λ (t : List ℕ). sets t (a .p) (groupBytes (a .keys) ps)) stored)
 
 pub put-group-spec : {M : Type 1} → statement M
@@ -61,8 +71,9 @@ put-group-spec =
     (tie.spec
     edge-of-requires
     put-id-requires
-    put-le-requires
-    block-size-requires
+    put-offset-requires
+    sub-dense-by
+    dense-by-requires
     put-block-requires
     same-length
     returns)

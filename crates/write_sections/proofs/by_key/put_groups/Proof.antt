@@ -4,6 +4,7 @@ use native.Mathlib.Omega.{arith}
 use mathlib.Core.List.{List, [], _++_}
 use lib.ListN.{length, getD, drop, length-append}
 use lib.Seq.{sets}
+use Rattle.batch.specs.Batch.{partnersIn}
 use Rattle.base.specs.Over.{part}
 use Rattle.base.specs.Put.{Put}
 use Rattle.codes.specs.Little.{leBytes}
@@ -13,9 +14,9 @@ use Rattle.codes.specs.Ids.Laws.{length-idBytes}
 use Rattle.batch.specs.declared.Edge.{Edge}
 use Rattle.batch_groups.specs.Groups.{none, Group, groupsOf, GroupEnd, Grouped}
 use Rattle.batch_groups.specs.Groups.Laws.{grouped-step}
-use Rattle.write_image.specs.Image.{partnersIn, groupBytes, keyBytes, offsetBytes, partnerBytes}
+use Rattle.write_image.specs.Image.{groupBytes, keyBytes, offsetBytes, partnerBytes}
 use Rattle.write_image.specs.Image.Laws.{rises, keys-step, keys-end, partners-step, partners-end, offsets-step, offsets-end, length-keys, length-offsets}
-use Rattle.write_source.specs.Source.{edgesIn}
+use Rattle.write_source.specs.Source.{sourceEdges}
 use Rattle.write_sections.specs.Three as T
 use Rattle.write_sections.specs.Three.{Three}
 use Rattle.write_sections.proofs.by_key.put_groups.Statement.{statement}
@@ -83,7 +84,7 @@ module _ (es : List Edge) (n keys w : ℕ) (start : List ℕ) (at base : ℕ) wh
           omega arith
 
       done : {out′ : List ℕ} → out′ ≡ sets out o (leBytes w (p - base)) → Put start out′ at p all
-      done f = T.last ended f
+      done f = T.last-of-three ended f
 
 module _ (es : List Edge) (n keys w : ℕ) (start : List ℕ) (at o base : ℕ) (k : keys ≡ length (groupsOf es)) where
   lengths : (length (keyBytes (groupsOf es)) ≡ 16 * keys) × (length (offsetBytes w keys 0 (groupsOf es)) ≡ (keys + 1) * w)
@@ -107,7 +108,7 @@ module _ (es : List Edge) (n keys w : ℕ) (start : List ℕ) (at o base : ℕ) 
       record { upto = omega arith; above = omega arith; rest = g; three = T.are refl (ap (λ (x : ℕ). offsetBytes w keys x (groupsOf es)) (sym z)) refl t }
 
 abbrev Inv-loop : tie.InvT-loop
-Inv-loop kind a b n keys w out₀ at i₀ k₀ o₀ base p₀ out i k o p = Head (edgesIn kind a b) n keys w out₀ at base out i k o p
+Inv-loop kind a b n keys w out₀ at i₀ k₀ o₀ base p₀ out i k o p = Head (sourceEdges kind a b) n keys w out₀ at base out i k o p
 
 abbrev μ-loop : tie.MeasureT-loop
 μ-loop kind a b n keys w out₀ at i₀ k₀ o₀ base p₀ out i k o p = n - i
@@ -116,22 +117,22 @@ mul-o : tie.Need-mul-o Inv-loop μ-loop
 mul-o c = omega arith
 
 add-o : tie.Need-add-o Inv-loop μ-loop
-add-o c = let a = c .before .before .before .args in let es = edgesIn (a .kind) (a .a .now) (a .b .now) in let f = fits es (a .n) (a .keys) (a .w) (a .out .now) (a .at) 0 0 (c .before .before .before .pre .2) in omega (arith, c .before .before .before .pre .5)
+add-o c = let a = c .before .before .before .args in let es = sourceEdges (a .kind) (a .a .now) (a .b .now) in let f = fits es (a .n) (a .keys) (a .w) (a .out .now) (a .at) 0 0 (c .before .before .before .pre .2) in omega (arith, c .before .before .before .pre .5)
 
 add-base : tie.Need-add-base Inv-loop μ-loop
-add-base c = let a = c .before .before .before .args in let es = edgesIn (a .kind) (a .a .now) (a .b .now) in let f = fits es (a .n) (a .keys) (a .w) (a .out .now) (a .at) 0 0 (c .before .before .before .pre .2) in omega (arith, c .before .before .before .pre .5)
+add-base c = let a = c .before .before .before .args in let es = sourceEdges (a .kind) (a .a .now) (a .b .now) in let f = fits es (a .n) (a .keys) (a .w) (a .out .now) (a .at) 0 0 (c .before .before .before .pre .2) in omega (arith, c .before .before .before .pre .5)
 
 mul-base : tie.Need-mul-base Inv-loop μ-loop
-mul-base c = let a = c .before .before .before .args in let es = edgesIn (a .kind) (a .a .now) (a .b .now) in let f = fits es (a .n) (a .keys) (a .w) (a .out .now) (a .at) 0 0 (c .before .before .before .pre .2) in omega (arith, c .before .before .before .pre .5)
+mul-base c = let a = c .before .before .before .args in let es = sourceEdges (a .kind) (a .a .now) (a .b .now) in let f = fits es (a .n) (a .keys) (a .w) (a .out .now) (a .at) 0 0 (c .before .before .before .pre .2) in omega (arith, c .before .before .before .pre .5)
 
 add-base-2 : tie.Need-add-base-2 Inv-loop μ-loop
-add-base-2 c = let a = c .before .before .before .args in let es = edgesIn (a .kind) (a .a .now) (a .b .now) in let f = fits es (a .n) (a .keys) (a .w) (a .out .now) (a .at) 0 0 (c .before .before .before .pre .2) in omega (arith, c .before .before .before .pre .5)
+add-base-2 c = let a = c .before .before .before .args in let es = sourceEdges (a .kind) (a .a .now) (a .b .now) in let f = fits es (a .n) (a .keys) (a .w) (a .out .now) (a .at) 0 0 (c .before .before .before .pre .2) in omega (arith, c .before .before .before .pre .5)
 
 loop-holds : tie.Need-loop-holds Inv-loop μ-loop
-loop-holds c = let a = c .before .before .before .args in let es = edgesIn (a .kind) (a .a .now) (a .b .now) in begins es (a .n) (a .keys) (a .w) (a .out .now) (a .at) _ _ (c .before .before .before .pre .2) refl refl (c .before .before .before .pre .4)
+loop-holds c = let a = c .before .before .before .args in let es = sourceEdges (a .kind) (a .a .now) (a .b .now) in begins es (a .n) (a .keys) (a .w) (a .out .now) (a .at) _ _ (c .before .before .before .pre .2) refl refl (c .before .before .before .pre .4)
 
-group-end-requires : tie.Need-group-end-requires Inv-loop μ-loop
-group-end-requires c κs = omega arith
+span-at-requires : tie.Need-span-at-requires Inv-loop μ-loop
+span-at-requires c κs = (c .before .before .before .before .before .pre .0, c .before .before .before .before .before .pre .1, omega arith, c .before .loop .inv .rest)
 
 sub-start : tie.Need-sub-start Inv-loop μ-loop
 sub-start c = let u = c .before .before .loop .inv .above in omega arith
@@ -140,44 +141,44 @@ put-group-requires : tie.Need-put-group-requires Inv-loop μ-loop
 put-group-requires c κs =
     let a = c .before .before .before .before .before .before .before .args in
     let l = c .before .before .before .loop in
-    let es = edgesIn (a .kind) (a .a .now) (a .b .now) in
-    let g = c .before .group-end .ensures in
+    let es = sourceEdges (a .kind) (a .a .now) (a .b .now) in
+    let g = c .before .span-at .ensures .ends in
     let r = room es (a .n) (a .keys) (a .w) (a .out .now) (a .at) _ (l .out) (l .i) (l .k) (l .o) (l .p) (l .inv) _ g (c .before .before .before .before .before .before .before .pre .5) in
-    (g .above, g .within, omega (arith, g .within), c .before .before .before .before .before .before .before .pre .3, rises es (l .i) _ g (l .inv .rest), r .0, r .1, r .2)
+    (c .before .span-at .ensures, omega (arith, g .within), c .before .before .before .before .before .before .before .pre .3, rises es (l .i) _ g (l .inv .rest), r .0, r .1, r .2, c .before .before .before .before .before .before .before .pre .6)
 
 add-k : tie.Need-add-k Inv-loop μ-loop
 add-k c =
     let a = c .before .before .before .before .before .before .before .before .before .before .args in
     let l = c .before .before .before .before .before .before .loop in
-    let es = edgesIn (a .kind) (a .a .now) (a .b .now) in
-    let g = c .before .before .before .before .group-end .ensures in let r = room es (a .n) (a .keys) (a .w) (a .out .now) (a .at) _ (l .out) (l .i) (l .k) (l .o) (l .p) (l .inv) _ g (c .before .before .before .before .before .before .before .before .before .before .pre .5) in omega (arith, r .0)
+    let es = sourceEdges (a .kind) (a .a .now) (a .b .now) in
+    let g = c .before .before .before .before .span-at .ensures .ends in let r = room es (a .n) (a .keys) (a .w) (a .out .now) (a .at) _ (l .out) (l .i) (l .k) (l .o) (l .p) (l .inv) _ g (c .before .before .before .before .before .before .before .before .before .before .pre .5) in omega (arith, r .0)
 
 add-o-2 : tie.Need-add-o-2 Inv-loop μ-loop
 add-o-2 c =
     let a = c .before .before .before .before .before .before .before .before .before .before .args in
     let l = c .before .before .before .before .before .before .loop in
-    let es = edgesIn (a .kind) (a .a .now) (a .b .now) in
-    let g = c .before .before .before .before .group-end .ensures in let r = room es (a .n) (a .keys) (a .w) (a .out .now) (a .at) _ (l .out) (l .i) (l .k) (l .o) (l .p) (l .inv) _ g (c .before .before .before .before .before .before .before .before .before .before .pre .5) in omega (arith, r .1)
+    let es = sourceEdges (a .kind) (a .a .now) (a .b .now) in
+    let g = c .before .before .before .before .span-at .ensures .ends in let r = room es (a .n) (a .keys) (a .w) (a .out .now) (a .at) _ (l .out) (l .i) (l .k) (l .o) (l .p) (l .inv) _ g (c .before .before .before .before .before .before .before .before .before .before .pre .5) in omega (arith, r .1)
 
 loop-less : tie.Need-loop-less Inv-loop μ-loop
-loop-less c = let g = c .before .before .before .before .group-end .ensures in omega (arith, g .above, g .within)
+loop-less c = let g = c .before .before .before .before .span-at .ensures .ends in omega (arith, g .above, g .within)
 
 loop-again : tie.Need-loop-again Inv-loop μ-loop
 loop-again c =
     let a = c .before .before .before .before .before .before .before .before .before .before .args in
     let l = c .before .before .before .before .before .before .loop in
-    let es = edgesIn (a .kind) (a .a .now) (a .b .now) in
-    let g = c .before .before .before .before .group-end .ensures in let q = c .before .before .put-group .ensures in again es (a .n) (a .keys) (a .w) (a .out .now) (a .at) _ (l .out) (l .i) (l .k) (l .o) (l .p) (l .inv) _ g _ _ (omega (arith, g .within)) (q .0) (q .1)
+    let es = sourceEdges (a .kind) (a .a .now) (a .b .now) in
+    let g = c .before .before .before .before .span-at .ensures .ends in let q = c .before .before .put-group .ensures in again es (a .n) (a .keys) (a .w) (a .out .now) (a .at) _ (l .out) (l .i) (l .k) (l .o) (l .p) (l .inv) _ g _ _ (omega (arith, g .within)) (q .0) (q .1)
 
 sub-start-2 : tie.Need-sub-start-2 Inv-loop μ-loop
 sub-start-2 c = let u = c .before .loop .inv .above in omega arith
 
-put-le-requires : tie.Need-put-le-requires Inv-loop μ-loop
-put-le-requires c κs =
+put-offset-requires : tie.Need-put-offset-requires Inv-loop μ-loop
+put-offset-requires c κs =
     let a = c .before .before .before .before .before .before .args in
     let l = c .before .before .loop in
-    let es = edgesIn (a .kind) (a .a .now) (a .b .now) in
-    let u = l .inv .upto in room-last es (a .n) (a .keys) (a .w) (a .out .now) (a .at) _ (l .out) (l .i) (l .k) (l .o) (l .p) (l .inv) (omega arith) (c .before .before .before .before .before .before .pre .5)
+    let es = sourceEdges (a .kind) (a .a .now) (a .b .now) in
+    let u = l .inv .upto in (room-last es (a .n) (a .keys) (a .w) (a .out .now) (a .at) _ (l .out) (l .i) (l .k) (l .o) (l .p) (l .inv) (omega arith) (c .before .before .before .before .before .before .pre .5), c .before .before .before .before .before .before .pre .6)
 
 same-length : tie.Need-same-length Inv-loop μ-loop
 same-length c = omega arith
@@ -186,8 +187,8 @@ returns : tie.Need-returns Inv-loop μ-loop
 returns c =
     let a = c .before .before .before .before .before .before .before .before .before .args in
     let l = c .before .before .before .before .before .loop in
-    let es = edgesIn (a .kind) (a .a .now) (a .b .now) in
-    let u = l .inv .upto in done es (a .n) (a .keys) (a .w) (a .out .now) (a .at) _ (l .out) (l .i) (l .k) (l .o) (l .p) (l .inv) (omega arith) (c .before .before .put-le .ensures)
+    let es = sourceEdges (a .kind) (a .a .now) (a .b .now) in
+    let u = l .inv .upto in done es (a .n) (a .keys) (a .w) (a .out .now) (a .at) _ (l .out) (l .i) (l .k) (l .o) (l .p) (l .inv) (omega arith) (c .before .before .put-offset .ensures)
 
 pub put-groups-spec : {M : Type 1} → statement M
 put-groups-spec =
@@ -201,7 +202,7 @@ put-groups-spec =
     mul-base
     add-base-2
     loop-holds
-    group-end-requires
+    span-at-requires
     sub-start
     put-group-requires
     add-k
@@ -209,6 +210,6 @@ put-groups-spec =
     loop-less
     loop-again
     sub-start-2
-    put-le-requires
+    put-offset-requires
     same-length
     returns)

@@ -9,7 +9,7 @@ use Rattle.base.specs.Put.{Put, Left}
 use Rattle.codes.specs.declared.ids.Id.{Id}
 use Rattle.codes.specs.Little.{leBytes}
 use Rattle.codes.specs.Little.Laws.{length-leBytes}
-use Rattle.write_image.specs.Image.{fencesFrom, fenceCount, fencesOf}
+use Rattle.write_image.specs.Image.{fenceKeysFrom, fenceCount, fencesOf}
 use Rattle.write_image.specs.Image.Laws.{fences-are}
 use Rattle.write_sections.specs.Ids.{idsAt, length-ids, ids-below}
 use borrow.Author.Needs.{needs}
@@ -21,7 +21,7 @@ module _ (o : List ℕ) (first keys at : ℕ) (below : first + 16 * keys ≤ at)
   ids = idsAt keys o first
 
   abbrev rows : List Id → List ℕ
-  rows ks = fencesFrom (fenceCount keys) ks 0
+  rows ks = fenceKeysFrom (fenceCount keys) ks 0
 
   abbrev count : List ℕ
   count = leBytes 4 (fenceCount keys)
@@ -30,7 +30,7 @@ module _ (o : List ℕ) (first keys at : ℕ) (below : first + 16 * keys ≤ at)
   todo =
       P.is
       (fences-are ids
-      ∙ ap (λ (n : ℕ). leBytes 4 256 ++ (leBytes 4 (fenceCount n) ++ fencesFrom (fenceCount n) ids 0)) (length-ids keys o first))
+      ∙ ap (λ (n : ℕ). leBytes 4 256 ++ (leBytes 4 (fenceCount n) ++ fenceKeysFrom (fenceCount n) ids 0)) (length-ids keys o first))
       (P.start o at (fencesOf ids))
 
   module _ (room : at + length (fencesOf ids) ≤ length o) where

@@ -9,7 +9,7 @@ use Rattle.base.specs.Put.{Put, Left}
 use Rattle.codes.specs.declared.ids.Id.{Id}
 use Rattle.codes.specs.Ids.{halvesAt}
 use Rattle.batch_groups.specs.Groups.{none}
-use Rattle.write_image.specs.Image.{fenceBytes, fencesFrom, fenceCount}
+use Rattle.write_image.specs.Image.{fenceBytes, fenceKeysFrom, fenceCount}
 use Rattle.write_image.specs.Image.Laws.{length-fence, fences-step, fences-end}
 use Rattle.write_sections.specs.Ids.{idsAt, ids-at, id-below}
 use Rattle.write_sections.proofs.fences.put_rows.Statement.{statement}
@@ -22,7 +22,7 @@ module _ (o : List ℕ) (first keys at m : ℕ) where
   record Head (out : List ℕ) (i to : ℕ) : Type 0 where
     upto : i ≤ m
     above : at ≤ to
-    left : Left out to (fencesFrom (m - i) ids i) o at (fencesFrom m ids 0)
+    left : Left out to (fenceKeysFrom (m - i) ids i) o at (fenceKeysFrom m ids 0)
 
   module _ (out : List ℕ) (i to : ℕ) (h : Head out i to) (lt : i < m) (c : m ≡ fenceCount keys) where
     inside : i * 256 < keys
@@ -35,11 +35,11 @@ module _ (o : List ℕ) (first keys at m : ℕ) where
           ∙ id-below (h .left) (first + 16 * (i * 256)) (omega (arith, inside)) (h .above)
           ∙ sym (ids-at keys o first (i * 256) (none .key) inside)
 
-      todo : Left out to (fenceBytes key i ++ fencesFrom (m - (i + 1)) ids (i + 1)) o at (fencesFrom m ids 0)
-      todo = P.is (fences-step ids m i lt ∙ ap (λ (t : Id). fenceBytes t i ++ fencesFrom (m - (i + 1)) ids (i + 1)) (sym is)) (h .left)
+      todo : Left out to (fenceBytes key i ++ fenceKeysFrom (m - (i + 1)) ids (i + 1)) o at (fenceKeysFrom m ids 0)
+      todo = P.is (fences-step ids m i lt ∙ ap (λ (t : Id). fenceBytes t i ++ fenceKeysFrom (m - (i + 1)) ids (i + 1)) (sym is)) (h .left)
 
-      room : at + length (fencesFrom m ids 0) ≤ length o → to + 24 ≤ length out
-      room g = omega (arith, P.room (fenceBytes key i) (fencesFrom (m - (i + 1)) ids (i + 1)) todo g, length-fence key i)
+      room : at + length (fenceKeysFrom m ids 0) ≤ length o → to + 24 ≤ length out
+      room g = omega (arith, P.room (fenceBytes key i) (fenceKeysFrom (m - (i + 1)) ids (i + 1)) todo g, length-fence key i)
 
       again : {o₁ : List ℕ} {r : ℕ} → Put out o₁ to r (fenceBytes key i) → Head o₁ (i + 1) r
       again p = let u = h .above in let q = p .place in record { upto = omega arith; above = omega arith; left = P.put todo p }
@@ -49,10 +49,10 @@ module _ (o : List ℕ) (first keys at m : ℕ) where
       record {
         upto = omega arith;
         above = omega arith;
-        left = P.is (ap (λ (t : ℕ). fencesFrom t ids 0) (sym (sub-zero m))) (P.start o at (fencesFrom m ids 0));
+        left = P.is (ap (λ (t : ℕ). fenceKeysFrom t ids 0) (sym (sub-zero m))) (P.start o at (fenceKeysFrom m ids 0));
       }
 
-  done : (out : List ℕ) (i to : ℕ) → Head out i to → i ≡ m → Put o out at to (fencesFrom m ids 0)
+  done : (out : List ℕ) (i to : ℕ) → Head out i to → i ≡ m → Put o out at to (fenceKeysFrom m ids 0)
   done out i to h z = P.end (fences-end ids m i (omega arith)) (h .left)
 
 abbrev Inv-loop : tie.InvT-loop

@@ -1,6 +1,6 @@
 use borrow.Author.Needs.{needs}
 use Rattle.xxh3_above240.proofs.State.{ended}
-use Rattle.xxh3_spec.specs.Xxh3.{start}
+use Rattle.xxh3_spec.specs.Xxh3.{startLanes}
 use Rattle.xxh3_above240.proofs.large.large.Statement.{statement}
 use Rattle.xxh3_above240.proofs.large.large.Tie as tie
 
@@ -20,7 +20,7 @@ merge-requires : tie.Need-merge-requires
 merge-requires c κs = search needs
 
 returns : tie.Need-returns
-unfolding start
+unfolding startLanes
 returns c = ended _ _ (c .before .before .run .ensures) (c .before .accumulate .ensures) (c .merge .ensures)
 
 pub large-spec : {M : Type 1} → statement M
