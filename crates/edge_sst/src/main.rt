@@ -1,12 +1,10 @@
 // Prints a file of at most 65,536 bytes from standard input; for more it prints `too long`. A file of that size has at most
 // 3,855 edges (17 bytes each at least), so its batch has room in 262,144 bytes.
 use printing::print_file;
+use streams::LONGEST;
 use streams::read_input;
 use streams::say;
 use streams::wrote;
-
-// The most bytes of a file that is printed.
-const LONGEST: usize = 65536;
 
 // Prints the input; false where a write failed.
 fn printed(file: &[u8]) -> bool {

@@ -1,10 +1,11 @@
 -- "The printed form": what the program prints of a file, line by line, from its batch, minor version and key count.
-use Prim.Native.Nat.{ℕ, zero, suc, _+_}
+use Prim.Native.Nat.{ℕ, zero, suc, _+_, _-_, _≤_, _<_}
 use mathlib.Core.Bool.{Bool}
 use mathlib.Core.List.{List, [], _∷_, _++_}
-use lib.ListN.{getD}
+use lib.ListN.{length, getD}
 use lib.Dec.{ltb, eqb}
 use Rattle.base.specs.Pick.{pick}
+use Rattle.base.specs.Put.{Put}
 use Rattle.codes.specs.declared.ids.Id.{Id}
 use Rattle.batch.specs.declared.Edge.{Edge}
 use Rattle.batch.specs.Batch.{edgeAt, edgesOf, recordCount, place}
@@ -103,6 +104,17 @@ module _ (minor keys : ℕ) (batch : List ℕ) where
   linesFrom zero k = []
   linesFrom (suc n) k = lineAt k ++ linesFrom n (suc k)
 
+-- the most bytes that a line takes, and a few more: the first line's words and four numbers of 20 digits make 123
+abbrev pub lineRoom : ℕ
+lineRoom = 128
+
 -- the first line, the edges, `ok`
 abbrev pub lineCount : List ℕ → ℕ
 lineCount batch = recordCount batch + 2
+
+-- a page of out, which was o: at least one line, from line `from` up to the next one, in so many bytes
+pub record PagePut (minor keys : ℕ) (batch o out : List ℕ) (from next bytes : ℕ) : Type 0 where
+  pub more : from < next
+  pub upto : next ≤ lineCount batch
+  pub within : bytes ≤ length out
+  pub lines : Put o out 0 bytes (linesFrom minor keys batch (next - from) from)

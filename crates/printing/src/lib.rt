@@ -1,12 +1,13 @@
 // Prints a file: a line for it, a line for each edge, `ok`; or its refusal. Lines are collected in a lent output, which is
 // written when the next line might not fit; the first write that fails ends the print.
 ghost use mathlib.Core.Path.{_≡_};
-ghost use Prim.Native.Nat.{_+_, _-_, _≤_, _<_};
+ghost use Prim.Native.Nat.{_+_, _≤_, _<_};
 ghost use lib.ListN.{length};
 ghost use Rattle.base.specs.Pick.{pick};
 ghost use Rattle.base.specs.Put.{Put};
-ghost use Rattle.batch.specs.Batch.{recordCount, edgesOf};
-ghost use Rattle.printing.specs.Printed.{idText, lifeEnd, edgeLine, directionWord, firstLine, deadIn, lineAt, linesFrom, lineCount};
+ghost use Rattle.batch.specs.Batch.{headingSize, recordCount, edgesOf};
+ghost use Rattle.frame.specs.Kind as kind;
+ghost use Rattle.printing.specs.Printed.{idText, lifeEnd, edgeLine, directionWord, firstLine, deadIn, lineAt, lineRoom, lineCount, PagePut};
 ghost use Rattle.text.specs.Text.{decimal};
 ghost use mathlib.Core.List.{_++_};
 use batch::Edge;
@@ -14,6 +15,7 @@ use batch::edge_at;
 use codes::ids::Id;
 use codes::little::byte;
 use frame::Opening;
+use frame::ends::Header;
 use reader::open::open;
 use readout::ReadOut;
 use readout::read_out;
@@ -23,12 +25,10 @@ use text::put_labelled;
 use text::put_refused;
 use text::put_word;
 
-// The most bytes that a line takes: the first line's words and four numbers of 20 digits.
+// Room for any line (`lineRoom`).
 const LINE: usize = 128;
 
-// Where the minor version stands in the header, and the direction in a batch's heading.
-const MINOR: usize = 9;
-
+// Where the direction stands in a batch's heading.
 const DIRECTION: usize = 1;
 
 // ---- lines
@@ -96,7 +96,7 @@ fn put_first_line(
 // ---- a batch
 
 fn edge_count(batch: &[u8]) -> usize
-    requires { ⌜ 50 ≤ length (now batch) ⌝ }
+    requires { ⌜ headingSize ≤ length (now batch) ⌝ }
     ensures { λ r. ⌜ r ≡ recordCount (now (batch .entry)) ⌝ }
 {
     (batch.len() - Edge::HEAD) / Edge::RECORD
@@ -113,7 +113,7 @@ fn one_if(dead: bool) -> u64
 
 // How many of a batch's edges are dead.
 fn dead_in(batch: &[u8]) -> u64
-    requires { ⌜ 50 ≤ length (now batch) ⌝ }
+    requires { ⌜ headingSize ≤ length (now batch) ⌝ }
     ensures { λ r. ⌜ r ≡ deadIn (edgesOf (now (batch .entry))) ⌝ }
 {
     let edges = edge_count(batch);
@@ -129,7 +129,7 @@ fn dead_in(batch: &[u8]) -> u64
 
 // Line k of what is printed of a batch.
 fn put_line(out: &mut [u8], at: usize, minor: u64, keys: u64, batch: &[u8], k: usize) -> usize
-    requires { ⌜ (50 ≤ length (now batch)) × (at + 128 ≤ length (now out)) ⌝ }
+    requires { ⌜ (headingSize ≤ length (now batch)) × (at + lineRoom ≤ length (now out)) ⌝ }
     ensures { λ r. ⌜ Put (now (out .entry)) (now (out .exit)) at r (lineAt minor keys (now (batch .entry)) k) ⌝ }
 {
     let edges = edge_count(batch);
@@ -159,8 +159,8 @@ struct Page {
 
 // As many lines as fit for sure, from line `from` on.
 fn put_page(out: &mut [u8], minor: u64, keys: u64, batch: &[u8], from: usize) -> Page
-    requires { ⌜ (50 ≤ length (now batch)) × (128 ≤ length (now out)) × (from < lineCount (now batch)) ⌝ }
-    ensures { λ r. ⌜ (from < r .next) × (r .next ≤ lineCount (now (batch .entry))) × (r .bytes ≤ length (now (out .exit))) × Put (now (out .entry)) (now (out .exit)) 0 (r .bytes) (linesFrom minor keys (now (batch .entry)) (r .next - from) from) ⌝ }
+    requires { ⌜ (headingSize ≤ length (now batch)) × (lineRoom ≤ length (now out)) × (from < lineCount (now batch)) ⌝ }
+    ensures { λ r. ⌜ PagePut minor keys (now (batch .entry)) (now (out .entry)) (now (out .exit)) from (r .next) (r .bytes) ⌝ }
 {
     let lines = edge_count(batch) + 2;
     let mut next = from;
@@ -186,7 +186,7 @@ fn wrote_front(out: &[u8], n: usize) -> bool
 
 // Prints a batch, page by page.
 fn print_batch(minor: u64, keys: u64, batch: &[u8], out: &mut [u8]) -> bool
-    requires { ⌜ (50 ≤ length (now batch)) × (128 ≤ length (now out)) ⌝ }
+    requires { ⌜ (headingSize ≤ length (now batch)) × (lineRoom ≤ length (now out)) ⌝ }
 {
     let lines = edge_count(batch) + 2;
     let mut next: usize = 0;
@@ -201,7 +201,7 @@ fn print_batch(minor: u64, keys: u64, batch: &[u8], out: &mut [u8]) -> bool
 }
 
 fn print_refusal(refusal: Refusal, out: &mut [u8]) -> bool
-    requires { ⌜ 128 ≤ length (now out) ⌝ }
+    requires { ⌜ lineRoom ≤ length (now out) ⌝ }
 {
     let mid = put_refused(out, 0, refusal);
     let end = put_word(out, mid, b"\n");
@@ -210,13 +210,13 @@ fn print_refusal(refusal: Refusal, out: &mut [u8]) -> bool
 
 // A file that opens, with so many keys.
 fn print_opened(file: &[u8], keys: u64, room: &mut [u8], out: &mut [u8]) -> bool
-    requires { ⌜ (84 ≤ length (now file)) × (128 ≤ length (now out)) ⌝ }
+    requires { ⌜ (kind.headerSize ≤ length (now file)) × (lineRoom ≤ length (now out)) ⌝ }
 {
     match read_out(file, room) {
         ReadOut::Refused { refusal } => print_refusal(refusal, out),
         ReadOut::Done { bytes } => {
             let n = bytes as usize;
-            print_batch(byte(file, MINOR), keys, &room[0..n], out)
+            print_batch(byte(file, Header::MINOR), keys, &room[0..n], out)
         }
     }
 }
@@ -224,7 +224,7 @@ fn print_opened(file: &[u8], keys: u64, room: &mut [u8], out: &mut [u8]) -> bool
 // Prints a file to standard output; false where a write failed, and then nothing is written after it. `room` is lent for its
 // batch, `out` for lines.
 pub fn print_file(file: &[u8], room: &mut [u8], out: &mut [u8]) -> bool
-    requires { ⌜ 128 ≤ length (now out) ⌝ }
+    requires { ⌜ lineRoom ≤ length (now out) ⌝ }
 {
     match open(file) {
         Opening::Refused { refusal } => print_refusal(refusal, out),

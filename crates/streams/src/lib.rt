@@ -2,6 +2,9 @@
 ghost use Prim.Native.Nat.{_+_, _≤_};
 ghost use lib.ListN.{length};
 
+// The most bytes that a program here takes from standard input; with room for one more it sees that there are more.
+pub const LONGEST: usize = 65536;
+
 // What reading gave: so many bytes at the front of the space, and whether it ended in a read that failed.
 pub struct Input {
     pub bytes: usize,

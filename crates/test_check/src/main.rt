@@ -3,46 +3,22 @@
 use full_check::check;
 use readout::ReadOut;
 use readout::read_out;
-use refusal::Check;
-use test_verdict::pattern;
-use test_verdict::read_byte;
-use test_verdict::read_front;
-use test_verdict::read_number;
-use test_verdict::refused;
-use xxh3::xxh3;
-
-const OUT: i32 = 1;
-
-fn line(name: &[u8], word: &[u8]) {
-    io::write_all(OUT, name);
-    io::write_all(OUT, word);
-}
-
-fn checked(name: &[u8], file: &[u8]) {
-    line(name, b": check ");
-    match check(file) {
-        Check::Fine => {
-            io::write_all(OUT, b"fine\n");
-        }
-        Check::Bad { refusal } => {
-            refused(refusal);
-            io::write_all(OUT, b"\n");
-        }
-    }
-}
-
-fn sum(s: &[u8]) {
-    io::write_all(OUT, b" sum ");
-    io::print_hex(OUT, xxh3(s), 16);
-    io::write_all(OUT, b"\n");
-}
+use test_corpus::MOST;
+use test_corpus::check_line;
+use test_corpus::decimal;
+use test_corpus::line;
+use test_corpus::next_entry;
+use test_corpus::pattern;
+use test_corpus::refused;
+use test_corpus::sum;
+use test_corpus::word;
 
 // The bytes that a read-out wrote, 0 where it was refused.
 fn answered(r: ReadOut) -> u64 {
     match r {
         ReadOut::Done { bytes } => {
-            io::print_decimal(OUT, bytes);
-            io::write_all(OUT, b" bytes");
+            decimal(bytes);
+            word(b" bytes");
             bytes
         }
         ReadOut::Refused { refusal } => {
@@ -52,11 +28,12 @@ fn answered(r: ReadOut) -> u64 {
     }
 }
 
-fn read_into(name: &[u8], word: &[u8], file: &[u8], out: &mut [u8]) -> u64 {
+fn read_into(name: &[u8], said: &[u8], file: &[u8], out: &mut [u8]) -> u64 {
     pattern(out);
-    line(name, word);
+    line(name, said);
     let n = answered(read_out(file, out));
-    sum(out);
+    sum(b" sum ", out);
+    word(b"\n");
     n
 }
 
@@ -70,40 +47,27 @@ fn short(name: &[u8], file: &[u8], out: &mut [u8], bytes: usize) {
 }
 
 fn all(name: &[u8], file: &[u8], out: &mut [u8]) {
-    checked(name, file);
+    check_line(name, check(file));
     let n = read_into(name, b": read-out ", file, out);
     short(name, file, out, n as usize);
 }
 
-fn front(name: &[u8], n: usize, space: &[u8], size: usize, out: &mut [u8]) {
-    if n <= name.len() {
-        if size <= space.len() {
-            all(&name[0..n], &space[0..size], out);
-        }
+// The next entry; false where there is none.
+fn entry(name: &mut [u8], space: &mut [u8], out: &mut [u8]) -> bool {
+    let e = next_entry(name, space);
+    let n = e.name;
+    let size = e.size;
+    if e.more {
+        all(&name[0..n], &space[0..size], out);
+        return true;
     }
+    false
 }
 
-// The next file. False at the end of the input, or where the file does not fit.
-fn next_file(space: &mut [u8], out: &mut [u8]) -> bool {
-    let n = read_byte();
-    if n > 255 {
-        return false;
-    }
-    let mut name = [0u8; 256];
-    let m = read_front(&mut name, n);
-    let size = read_number();
-    let got = read_front(space, size);
-    if got < size {
-        return false;
-    }
-    front(&name, m, space, got, out);
-    true
-}
-
-fn corpus(space: &mut [u8], out: &mut [u8]) {
-    let mut left: usize = 100000;
+fn corpus(name: &mut [u8], space: &mut [u8], out: &mut [u8]) {
+    let mut left = MOST;
     while 0 < left {
-        if !next_file(space, out) {
+        if !entry(name, space, out) {
             return;
         }
         left -= 1;
@@ -111,7 +75,8 @@ fn corpus(space: &mut [u8], out: &mut [u8]) {
 }
 
 fn main() {
+    let mut name = [0u8; 256];
     let mut space = [0u8; 65536];
     let mut out = [0u8; 262144];
-    corpus(&mut space, &mut out);
+    corpus(&mut name, &mut space, &mut out);
 }

@@ -21,39 +21,21 @@ use codes::varint::Varint;
 use codes::varint::put_varint;
 use codes::varint::varint_at;
 use codes::varint::varint_len;
-
-const OUT: i32 = 1;
-
-fn number(x: u64) {
-    io::print_decimal(OUT, x);
-    io::write_all(OUT, b" ");
-}
-
-fn hex(s: &[u8]) {
-    let mut i: usize = 0;
-    while i < s.len() {
-        io::print_hex(OUT, byte(s, i), 2);
-        i += 1;
-    }
-}
-
-fn hex_front(s: &[u8], n: usize) {
-    if n <= s.len() {
-        hex(&s[0..n]);
-    }
-}
+use test_corpus::hex_bytes;
+use test_corpus::number;
+use test_corpus::word;
 
 // Why no number is read.
 fn unread(why: Unread) {
     match why {
         Unread::Cut => {
-            io::write_all(OUT, b"cut");
+            word(b"cut");
         }
         Unread::Long => {
-            io::write_all(OUT, b"long");
+            word(b"long");
         }
         Unread::Large => {
-            io::write_all(OUT, b"large");
+            word(b"large");
         }
     }
 }
@@ -62,14 +44,14 @@ fn unread(why: Unread) {
 fn varint_line(v: &[u8]) {
     match varint_at(v, 0) {
         Varint::Value { value, next } => {
-            io::write_all(OUT, b"value ");
-            io::print_decimal(OUT, value);
-            io::write_all(OUT, b" next ");
-            io::print_decimal(OUT, next as u64);
+            word(b"value");
+            number(value);
+            word(b" next");
+            number(next as u64);
         }
         Varint::Bad { why } => unread(why),
     }
-    io::write_all(OUT, b"\n");
+    word(b"\n");
 }
 
 // The varint of a number.
@@ -79,10 +61,11 @@ fn written_line(b: &[u8])
     let x = le64(b, 0);
     let mut out = [0u8; 10];
     let n = put_varint(&mut out, 0, x);
-    io::write_all(OUT, b"bytes ");
+    word(b"bytes");
     number(varint_len(x) as u64);
-    hex_front(&out, n);
-    io::write_all(OUT, b"\n");
+    word(b" ");
+    hex_bytes(&out[0..n]);
+    word(b"\n");
 }
 
 // One id against another.
@@ -92,13 +75,13 @@ fn order_line(b: &[u8])
     let order = compare(id_at(b, 0), id_at(b, 16));
     match order {
         Order::Less => {
-            io::write_all(OUT, b"less\n");
+            word(b"less\n");
         }
         Order::Equal => {
-            io::write_all(OUT, b"equal\n");
+            word(b"equal\n");
         }
         Order::Greater => {
-            io::write_all(OUT, b"greater\n");
+            word(b"greater\n");
         }
     }
 }
@@ -107,16 +90,16 @@ fn order_line(b: &[u8])
 fn widths_line(b: &[u8])
     requires { ⌜ 8 ≤ length (now b) ⌝ }
 {
-    io::write_all(OUT, b"le ");
+    word(b"le");
     number(le16(b, 0));
     number(le24(b, 0));
     number(le32(b, 0));
     number(le40(b, 0));
     number(le48(b, 0));
     number(le64(b, 0));
-    io::write_all(OUT, b"be ");
-    io::print_decimal(OUT, be64(b, 0));
-    io::write_all(OUT, b"\n");
+    word(b" be");
+    number(be64(b, 0));
+    word(b"\n");
 }
 
 // The n low bytes of a number, written both ways.
@@ -128,11 +111,11 @@ fn put_line(n: usize, b: &[u8])
     let mut big = [0u8; 8];
     put_le(&mut little, 0, n, x);
     put_be(&mut big, 0, n, x);
-    io::write_all(OUT, b"put ");
-    hex(&little[0..n]);
-    io::write_all(OUT, b" ");
-    hex(&big[0..n]);
-    io::write_all(OUT, b"\n");
+    word(b"put ");
+    hex_bytes(&little[0..n]);
+    word(b" ");
+    hex_bytes(&big[0..n]);
+    word(b"\n");
 }
 
 // An id, read and written back.
@@ -142,11 +125,12 @@ fn id_line(b: &[u8])
     let id = id_at(b, 0);
     let mut out = [0u8; 16];
     put_id(&mut out, 0, id);
-    io::write_all(OUT, b"id ");
+    word(b"id");
     number(id.hi);
     number(id.lo);
-    hex(&out);
-    io::write_all(OUT, b"\n");
+    word(b" ");
+    hex_bytes(&out);
+    word(b"\n");
 }
 
 // A record of a fixed body, or none where its bytes are not all there.

@@ -5,13 +5,13 @@ use frame::Row;
 use listing::Listed;
 use listing::plan_for;
 use listing::table_of;
-use test_verdict::read_byte;
-use test_verdict::read_front;
-use test_verdict::read_number;
-use test_verdict::refused;
-use test_verdict::row;
-
-const OUT: i32 = 1;
+use test_corpus::MOST;
+use test_corpus::decimal;
+use test_corpus::line;
+use test_corpus::next_entry;
+use test_corpus::refused;
+use test_corpus::word;
+use test_opening::row;
 
 const ROOM: usize = 64;
 
@@ -72,22 +72,22 @@ fn left_of(t: [Row; 64], n: usize) -> u64 {
 }
 
 fn left(t: [Row; 64], n: usize) {
-    io::write_all(OUT, b"  left ");
-    io::print_decimal(OUT, left_of(t, n));
-    io::write_all(OUT, b"\n");
+    word(b"  left ");
+    decimal(left_of(t, n));
+    word(b"\n");
 }
 
 // The answer in words, and the rows that are written.
 fn answered(a: Listed) -> u64 {
     match a {
         Listed::Done { rows } => {
-            io::print_decimal(OUT, rows);
-            io::write_all(OUT, b" sections\n");
+            decimal(rows);
+            word(b" sections\n");
             rows
         }
         Listed::Refused { refusal } => {
             refused(refusal);
-            io::write_all(OUT, b"\n");
+            word(b"\n");
             0
         }
     }
@@ -102,14 +102,13 @@ fn answer_for(file: &[u8], room: usize) -> u64 {
 // Once more, with one row too little.
 fn short(file: &[u8], n: usize) {
     if 0 < n {
-        io::write_all(OUT, b"  short ");
+        word(b"  short ");
         answer_for(file, n - 1);
     }
 }
 
 fn all(name: &[u8], file: &[u8]) {
-    io::write_all(OUT, name);
-    io::write_all(OUT, b": ");
+    line(name, b": ");
     let n = answer_for(file, ROOM) as usize;
     let b = blank();
     let t = table_of(file, [b; 64]);
@@ -118,35 +117,22 @@ fn all(name: &[u8], file: &[u8]) {
     short(file, n);
 }
 
-fn front(name: &[u8], n: usize, space: &[u8], size: usize) {
-    if n <= name.len() {
-        if size <= space.len() {
-            all(&name[0..n], &space[0..size]);
-        }
+// The next entry; false where there is none.
+fn entry(name: &mut [u8], space: &mut [u8]) -> bool {
+    let e = next_entry(name, space);
+    let n = e.name;
+    let size = e.size;
+    if e.more {
+        all(&name[0..n], &space[0..size]);
+        return true;
     }
+    false
 }
 
-// The next file. False at the end of the input, or where the file does not fit.
-fn next_file(space: &mut [u8]) -> bool {
-    let n = read_byte();
-    if n > 255 {
-        return false;
-    }
-    let mut name = [0u8; 256];
-    let m = read_front(&mut name, n);
-    let size = read_number();
-    let got = read_front(space, size);
-    if got < size {
-        return false;
-    }
-    front(&name, m, space, got);
-    true
-}
-
-fn corpus(space: &mut [u8]) {
-    let mut left: usize = 100000;
+fn corpus(name: &mut [u8], space: &mut [u8]) {
+    let mut left = MOST;
     while 0 < left {
-        if !next_file(space) {
+        if !entry(name, space) {
             return;
         }
         left -= 1;
@@ -154,6 +140,7 @@ fn corpus(space: &mut [u8]) {
 }
 
 fn main() {
+    let mut name = [0u8; 256];
     let mut space = [0u8; 65536];
-    corpus(&mut space);
+    corpus(&mut name, &mut space);
 }

@@ -11,14 +11,17 @@ use reader::look::lookup;
 use reader::look::lookup_with;
 use reader::look::partners;
 use reader::look::partners_with;
-use test_verdict::number;
-use test_verdict::pattern;
-use test_verdict::read_byte;
-use test_verdict::read_front;
-use test_verdict::read_number;
-use xxh3::xxh3;
-
-const OUT: i32 = 1;
+use test_corpus::hex;
+use test_corpus::line;
+use test_corpus::number;
+use test_corpus::pattern;
+use test_corpus::read_byte;
+use test_corpus::read_front;
+use test_corpus::read_number;
+use test_corpus::refused;
+use test_corpus::sum;
+use test_corpus::sum_front;
+use test_corpus::word;
 
 // ---- what stands in the outputs before a call
 
@@ -42,11 +45,6 @@ fn pattern_logs(out: &mut [u64]) {
 
 // ---- what is printed
 
-fn sum(s: &[u8]) {
-    io::write_all(OUT, b" ");
-    io::print_hex(OUT, xxh3(s), 16);
-}
-
 // Number i of the log numbers, as eight bytes.
 fn put_log(logs: &[u64], i: usize, bytes: &mut [u8]) {
     if i < logs.len() {
@@ -66,17 +64,11 @@ fn put_logs(logs: &[u64], bytes: &mut [u8]) {
     }
 }
 
-fn sum_front(s: &[u8], n: usize) {
-    if n <= s.len() {
-        sum(&s[0..n]);
-    }
-}
-
 fn sum_logs(logs: &[u64]) {
     let mut bytes = [0u8; 32768];
     put_logs(logs, &mut bytes);
     if logs.len() <= 4096 {
-        sum_front(&bytes, 8 * logs.len());
+        sum_front(b" ", &bytes, 8 * logs.len());
     }
 }
 
@@ -87,19 +79,19 @@ fn answer(looked: Looked) {
             index,
             compared,
         } => {
-            io::write_all(OUT, b"found");
+            word(b"found");
             number(degree);
-            io::write_all(OUT, b" at");
+            word(b" at");
             number(index);
-            io::write_all(OUT, b" compared");
+            word(b" compared");
             number(compared);
         }
         Looked::Absent { compared } => {
-            io::write_all(OUT, b"absent compared");
+            word(b"absent compared");
             number(compared);
         }
         Looked::Refused { refusal } => {
-            test_verdict::refused(refusal);
+            refused(refusal);
         }
     }
 }
@@ -107,20 +99,20 @@ fn answer(looked: Looked) {
 fn partner(out: &[u8], at: usize) {
     if at <= 1000 {
         if at + 16 <= out.len() {
-            io::write_all(OUT, b"  partner ");
-            io::print_hex(OUT, be64(out, at), 16);
-            io::print_hex(OUT, be64(out, at + 8), 16);
+            word(b"  partner ");
+            hex(be64(out, at));
+            hex(be64(out, at + 8));
         }
     }
 }
 
 fn log_and_mark(logs: &[u64], marks: &[u8], j: usize) {
     if j < logs.len() {
-        io::write_all(OUT, b" log");
+        word(b" log");
         number(logs[j]);
     }
     if j < marks.len() {
-        io::write_all(OUT, b" mark");
+        word(b" mark");
         number(byte(marks, j));
     }
 }
@@ -132,7 +124,7 @@ fn edge(full: bool, out: &[u8], logs: &[u64], marks: &[u8], j: usize) {
     if full {
         log_and_mark(logs, marks, j);
     }
-    io::write_all(OUT, b"\n");
+    word(b"\n");
 }
 
 fn edges(full: bool, out: &[u8], logs: &[u64], marks: &[u8], degree: u64) {
@@ -192,11 +184,11 @@ fn look(
 
 fn told(looked: Looked, full: bool, out: &[u8], logs: &[u64], marks: &[u8]) {
     answer(looked);
-    io::write_all(OUT, b" sums");
-    sum(out);
+    word(b" sums");
+    sum(b" ", out);
     sum_logs(logs);
-    sum(marks);
-    io::write_all(OUT, b"\n");
+    sum(b" ", marks);
+    word(b"\n");
     found_edges(looked, full, out, logs, marks);
 }
 
@@ -344,18 +336,11 @@ fn nothing() -> Opened {
     }
 }
 
-fn print_front(s: &[u8], n: usize) {
-    if n <= s.len() {
-        io::write_all(OUT, &s[0..n]);
-        io::write_all(OUT, b": ");
-    }
-}
-
 fn print_name() {
     let mut name = [0u8; 256];
     let n = read_byte();
-    let m = read_front(&mut name, n);
-    print_front(&name, m);
+    let came = read_front(&mut name, n);
+    line(&name[0..came], b": ");
 }
 
 fn call_item(file: &[u8], by: bool) {

@@ -10,6 +10,7 @@ fn room() -> [u8; 4194304]
 }
 
 fn main() {
+    let mut name = [0u8; 256];
     let mut space = room();
-    test_verdict::corpus(&mut space);
+    test_opening::corpus(&mut name, &mut space);
 }

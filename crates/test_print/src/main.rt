@@ -1,46 +1,35 @@
 // Prints every file of a corpus as the program `edge_sst` does. Corpus and expected lines are made by second/.
-use test_verdict::read_byte;
-use test_verdict::read_front;
-use test_verdict::read_number;
+ghost use Prim.Native.Nat.{_≤_};
+ghost use lib.ListN.{length};
+ghost use Rattle.printing.specs.Printed.{lineRoom};
+use printing::print_file;
+use test_corpus::MOST;
+use test_corpus::line;
+use test_corpus::next_entry;
+use test_corpus::word;
 
-const OUT: i32 = 1;
-
-fn named(name: &[u8], n: usize) {
-    if n <= name.len() {
-        io::write_all(OUT, b"== ");
-        io::write_all(OUT, &name[0..n]);
-        io::write_all(OUT, b"\n");
+// The next entry; false where there is none.
+fn entry(name: &mut [u8], space: &mut [u8], room: &mut [u8], out: &mut [u8]) -> bool
+    requires { ⌜ lineRoom ≤ length (now out) ⌝ }
+{
+    let e = next_entry(name, space);
+    let n = e.name;
+    let size = e.size;
+    if e.more {
+        line(b"== ", &name[0..n]);
+        word(b"\n");
+        print_file(&space[0..size], room, out);
+        return true;
     }
+    false
 }
 
-fn print_front(space: &[u8], size: usize, room: &mut [u8]) {
-    if size <= space.len() {
-        printing::print_file(&space[0..size], room);
-    }
-}
-
-// The next file. False at the end of the input, or where the file does not fit.
-fn next_file(space: &mut [u8], room: &mut [u8]) -> bool {
-    let n = read_byte();
-    if n > 255 {
-        return false;
-    }
-    let mut name = [0u8; 256];
-    let m = read_front(&mut name, n);
-    let size = read_number();
-    let got = read_front(space, size);
-    if got < size {
-        return false;
-    }
-    named(&name, m);
-    print_front(space, got, room);
-    true
-}
-
-fn corpus(space: &mut [u8], room: &mut [u8]) {
-    let mut left: usize = 100000;
+fn corpus(name: &mut [u8], space: &mut [u8], room: &mut [u8], out: &mut [u8])
+    requires { ⌜ lineRoom ≤ length (now out) ⌝ }
+{
+    let mut left = MOST;
     while 0 < left {
-        if !next_file(space, room) {
+        if !entry(name, space, room, out) {
             return;
         }
         left -= 1;
@@ -48,7 +37,9 @@ fn corpus(space: &mut [u8], room: &mut [u8]) {
 }
 
 fn main() {
+    let mut name = [0u8; 256];
     let mut space = [0u8; 65536];
     let mut room = [0u8; 262144];
-    corpus(&mut space, &mut room);
+    let mut out = io::large_buffer();
+    corpus(&mut name, &mut space, &mut room, &mut out);
 }

@@ -10,7 +10,8 @@ fn room() -> [u8; 3145728]
 }
 
 fn main() {
+    let mut name = [0u8; 256];
     let mut space = room();
     let mut out = room();
-    test_writing::corpus_large(&mut space, &mut out);
+    test_writing::corpus_large(&mut name, &mut space, &mut out);
 }

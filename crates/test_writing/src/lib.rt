@@ -1,38 +1,23 @@
 // Prints what the writer makes of a batch, for the programs over corpora: its size, the file's sum with that of all the output
 // after the call, and that the file passes the full check and reads back.
-use codes::little::byte;
 use full_check::check;
 use readout::ReadOut;
 use readout::read_out;
-use refusal::Check;
-use test_verdict::number;
-use test_verdict::pattern;
-use test_verdict::read_byte;
-use test_verdict::read_front;
-use test_verdict::read_number;
-use test_verdict::refused;
+use test_corpus::MOST;
+use test_corpus::check_line;
+use test_corpus::hex_bytes;
+use test_corpus::line;
+use test_corpus::next_entry;
+use test_corpus::number;
+use test_corpus::pattern;
+use test_corpus::refused;
+use test_corpus::sum;
+use test_corpus::sum_front;
+use test_corpus::word;
 use write_file::Written;
 use write_file::needed;
 use write_file::write;
 use xxh3::xxh3;
-
-const OUT: i32 = 1;
-
-fn line(name: &[u8], word: &[u8]) {
-    io::write_all(OUT, name);
-    io::write_all(OUT, word);
-}
-
-fn sum(word: &[u8], s: &[u8]) {
-    io::write_all(OUT, word);
-    io::print_hex(OUT, xxh3(s), 16);
-}
-
-fn sum_front(s: &[u8], n: usize) {
-    if n <= s.len() {
-        sum(b" sum ", &s[0..n]);
-    }
-}
 
 fn size(name: &[u8], batch: &[u8]) {
     line(name, b": needed");
@@ -41,36 +26,36 @@ fn size(name: &[u8], batch: &[u8]) {
             number(bytes);
         }
         Written::Refused { refusal } => {
-            io::write_all(OUT, b" ");
+            word(b" ");
             refused(refusal);
         }
     }
-    io::write_all(OUT, b"\n");
+    word(b"\n");
 }
 
 // The bytes of the file, 0 where it was refused.
-fn answered(name: &[u8], word: &[u8], r: Written, out: &[u8]) -> u64 {
+fn answered(name: &[u8], said: &[u8], r: Written, out: &[u8]) -> u64 {
     match r {
         Written::Done { bytes } => {
             line(name, b": wrote");
             number(bytes);
-            sum_front(out, bytes as usize);
+            sum_front(b" sum ", out, bytes as usize);
             bytes
         }
         Written::Refused { refusal } => {
-            line(name, word);
+            line(name, said);
             refused(refusal);
             0
         }
     }
 }
 
-fn write_into(name: &[u8], word: &[u8], batch: &[u8], out: &mut [u8]) -> u64 {
+fn write_into(name: &[u8], said: &[u8], batch: &[u8], out: &mut [u8]) -> u64 {
     pattern(out);
     let r = write(batch, out);
-    let bytes = answered(name, word, r, out);
+    let bytes = answered(name, said, r, out);
     sum(b" all ", out);
-    io::write_all(OUT, b"\n");
+    word(b"\n");
     bytes
 }
 
@@ -83,20 +68,12 @@ fn short(name: &[u8], batch: &[u8], less: &mut [u8], bytes: usize) {
     }
 }
 
-fn hex(s: &[u8]) {
-    let mut i: usize = 0;
-    while i < s.len() {
-        io::print_hex(OUT, byte(s, i), 2);
-        i += 1;
-    }
-}
-
 // The file of a small batch.
 fn small(name: &[u8], file: &[u8]) {
     if file.len() <= 300 {
         line(name, b": bytes ");
-        hex(file);
-        io::write_all(OUT, b"\n");
+        hex_bytes(file);
+        word(b"\n");
     }
 }
 
@@ -119,36 +96,23 @@ fn same(a: &[u8], b: &[u8]) -> bool {
 fn compared(batch: &[u8], out: &[u8], n: usize) {
     if n <= out.len() {
         if same(batch, &out[0..n]) {
-            io::write_all(OUT, b": reads back\n");
+            word(b": reads back\n");
             return;
         }
     }
-    io::write_all(OUT, b": reads another batch\n");
+    word(b": reads another batch\n");
 }
 
 fn back(name: &[u8], batch: &[u8], file: &[u8], out: &mut [u8]) {
-    io::write_all(OUT, name);
+    word(name);
     match read_out(file, out) {
         ReadOut::Done { bytes } => {
             compared(batch, out, bytes as usize);
         }
         ReadOut::Refused { refusal } => {
-            io::write_all(OUT, b": read-out ");
+            word(b": read-out ");
             refused(refusal);
-            io::write_all(OUT, b"\n");
-        }
-    }
-}
-
-fn checked(name: &[u8], file: &[u8]) {
-    line(name, b": check ");
-    match check(file) {
-        Check::Fine => {
-            io::write_all(OUT, b"fine\n");
-        }
-        Check::Bad { refusal } => {
-            refused(refusal);
-            io::write_all(OUT, b"\n");
+            word(b"\n");
         }
     }
 }
@@ -163,7 +127,7 @@ fn more(name: &[u8], batch: &[u8], file: &[u8], whole: bool, less: &mut [u8]) {
 // What a file is good for that was written.
 fn held(name: &[u8], batch: &[u8], file: &[u8], whole: bool, less: &mut [u8]) {
     more(name, batch, file, whole, less);
-    checked(name, file);
+    check_line(name, check(file));
     back(name, batch, file, less);
 }
 
@@ -177,46 +141,25 @@ fn all(name: &[u8], batch: &[u8], whole: bool, out: &mut [u8], less: &mut [u8]) 
     }
 }
 
-fn front(
-    name: &[u8],
-    n: usize,
-    space: &[u8],
-    size: usize,
-    whole: bool,
-    out: &mut [u8],
-    less: &mut [u8],
-) {
-    if n <= name.len() {
-        if size <= space.len() {
-            all(&name[0..n], &space[0..size], whole, out, less);
-        }
+// The next entry; false where there is none.
+fn entry(name: &mut [u8], space: &mut [u8], whole: bool, out: &mut [u8], less: &mut [u8]) -> bool {
+    let e = next_entry(name, space);
+    let n = e.name;
+    let size = e.size;
+    if e.more {
+        all(&name[0..n], &space[0..size], whole, out, less);
+        return true;
     }
-}
-
-// The next batch of the corpus. False at the end of the input, or where the batch does not fit.
-fn next_batch(space: &mut [u8], whole: bool, out: &mut [u8], less: &mut [u8]) -> bool {
-    let n = read_byte();
-    if n > 255 {
-        return false;
-    }
-    let mut name = [0u8; 256];
-    let m = read_front(&mut name, n);
-    let size = read_number();
-    let got = read_front(space, size);
-    if got < size {
-        return false;
-    }
-    front(&name, m, space, got, whole, out, less);
-    true
+    false
 }
 
 // All batches on standard input, framed as files are: one byte and its name, four bytes and its bytes. The batch is read into
 // the first space, written to the second and read back to the third. `whole` asks for the lines with too little room and of
 // the bytes.
-pub fn corpus(space: &mut [u8], whole: bool, out: &mut [u8], less: &mut [u8]) {
-    let mut left: usize = 100000;
+pub fn corpus(name: &mut [u8], space: &mut [u8], whole: bool, out: &mut [u8], less: &mut [u8]) {
+    let mut left = MOST;
     while 0 < left {
-        if !next_batch(space, whole, out, less) {
+        if !entry(name, space, whole, out, less) {
             return;
         }
         left -= 1;
@@ -229,24 +172,24 @@ fn over(space: &[u8], n: usize, size: usize, batch: u64) {
     if n == size {
         if n <= space.len() {
             if xxh3(&space[0..n]) == batch {
-                io::write_all(OUT, b": reads back\n");
+                word(b": reads back\n");
                 return;
             }
         }
     }
-    io::write_all(OUT, b": reads another batch\n");
+    word(b": reads another batch\n");
 }
 
 fn back_over(name: &[u8], file: &[u8], space: &mut [u8], size: usize, batch: u64) {
-    io::write_all(OUT, name);
+    word(name);
     match read_out(file, space) {
         ReadOut::Done { bytes } => {
             over(space, bytes as usize, size, batch);
         }
         ReadOut::Refused { refusal } => {
-            io::write_all(OUT, b": read-out ");
+            word(b": read-out ");
             refused(refusal);
-            io::write_all(OUT, b"\n");
+            word(b"\n");
         }
     }
 }
@@ -254,7 +197,7 @@ fn back_over(name: &[u8], file: &[u8], space: &mut [u8], size: usize, batch: u64
 fn held_over(name: &[u8], out: &[u8], bytes: usize, space: &mut [u8], size: usize, batch: u64) {
     if 0 < bytes {
         if bytes <= out.len() {
-            checked(name, &out[0..bytes]);
+            check_line(name, check(&out[0..bytes]));
             back_over(name, &out[0..bytes], space, size, batch);
         }
     }
@@ -273,33 +216,23 @@ fn large(name: &[u8], space: &mut [u8], size: usize, out: &mut [u8]) {
     }
 }
 
-fn large_front(name: &[u8], n: usize, space: &mut [u8], size: usize, out: &mut [u8]) {
-    if n <= name.len() {
+// The next entry; false where there is none.
+fn large_entry(name: &mut [u8], space: &mut [u8], out: &mut [u8]) -> bool {
+    let e = next_entry(name, space);
+    let n = e.name;
+    let size = e.size;
+    if e.more {
         large(&name[0..n], space, size, out);
+        return true;
     }
-}
-
-fn next_large(space: &mut [u8], out: &mut [u8]) -> bool {
-    let n = read_byte();
-    if n > 255 {
-        return false;
-    }
-    let mut name = [0u8; 256];
-    let m = read_front(&mut name, n);
-    let size = read_number();
-    let got = read_front(space, size);
-    if got < size {
-        return false;
-    }
-    large_front(&name, m, space, got, out);
-    true
+    false
 }
 
 // The same with two spaces, for batches too large for three.
-pub fn corpus_large(space: &mut [u8], out: &mut [u8]) {
-    let mut left: usize = 100;
+pub fn corpus_large(name: &mut [u8], space: &mut [u8], out: &mut [u8]) {
+    let mut left = MOST;
     while 0 < left {
-        if !next_large(space, out) {
+        if !large_entry(name, space, out) {
             return;
         }
         left -= 1;

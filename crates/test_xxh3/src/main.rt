@@ -1,6 +1,8 @@
 // Prints the XXH3-64 of the byte family's first n bytes, for n from 0 to 1,100 and around each multiple of a block of
 // 1,024 bytes up to 65,536. The expected output is made by second/.
-const OUT: i32 = 1;
+use test_corpus::decimal;
+use test_corpus::sum;
+use test_corpus::word;
 
 // The byte family: a fixed run of bytes, the same on every machine.
 fn fill(out: &mut [u8]) {
@@ -14,10 +16,9 @@ fn fill(out: &mut [u8]) {
 }
 
 fn line(s: &[u8]) {
-    io::print_decimal(OUT, s.len() as u64);
-    io::write_all(OUT, b" ");
-    io::print_hex(OUT, xxh3::xxh3(s), 16);
-    io::write_all(OUT, b"\n");
+    decimal(s.len() as u64);
+    sum(b" ", s);
+    word(b"\n");
 }
 
 // The line of the first n bytes, or none where there are fewer.

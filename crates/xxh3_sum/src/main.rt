@@ -1,10 +1,8 @@
 // Prints the XXH3-64 of at most 65,536 bytes of standard input as 16 hex digits; for more it prints `too long`.
+use streams::LONGEST;
 use streams::read_input;
 use streams::say;
 use streams::wrote;
-
-// The most bytes that are summed.
-const LONGEST: usize = 65536;
 
 // Prints the sum; false where a write failed.
 fn printed(bytes: &[u8]) -> bool {

@@ -27,7 +27,7 @@ put-page-requires : tie.Need-put-page-requires Inv-loop μ-loop
 put-page-requires c κs = let e = c .before .before .before .edge-count .ensures in let s = c .before .before .loop .inv .1 in (c .before .before .before .before .before .before .pre .0, omega arith, omega arith)
 
 wrote-front-requires : tie.Need-wrote-front-requires Inv-loop μ-loop
-wrote-front-requires c κs = c .before .before .before .put-page .ensures .2
+wrote-front-requires c κs = c .before .before .before .put-page .ensures .within
 
 same-length : tie.Need-same-length Inv-loop μ-loop
 same-length c = search needs
@@ -36,10 +36,10 @@ returns : tie.Need-returns Inv-loop μ-loop
 returns c = search needs
 
 loop-less : tie.Need-loop-less Inv-loop μ-loop
-loop-less c = let p = c .before .before .before .before .before .put-page .ensures in let e = c .before .before .before .before .before .before .before .before .before .edge-count .ensures in let n = p .0 in let m = p .1 in omega arith
+loop-less c = let p = c .before .before .before .before .before .put-page .ensures in let e = c .before .before .before .before .before .before .before .before .before .edge-count .ensures in let n = p .more in let m = p .upto in omega arith
 
 loop-again : tie.Need-loop-again Inv-loop μ-loop
-loop-again c = let p = c .before .before .before .before .before .put-page .ensures in let e = c .before .before .before .before .before .before .before .before .before .edge-count .ensures in let m = p .1 in (omega arith, put-length (p .3) ∙ c .before .before .before .before .before .before .before .before .loop .inv .1)
+loop-again c = let p = c .before .before .before .before .before .put-page .ensures in let e = c .before .before .before .before .before .before .before .before .before .edge-count .ensures in let m = p .upto in (omega arith, put-length (p .lines) ∙ c .before .before .before .before .before .before .before .before .loop .inv .1)
 
 same-length-2 : tie.Need-same-length-2 Inv-loop μ-loop
 same-length-2 c = search needs

@@ -23,7 +23,8 @@ print-opened-requires : tie.Need-print-opened-requires
 print-opened-requires c κs =
     let o = c .before .before .before .opened .given in
     let f = c .before .before .before .before .before .before .before .before .before .args .file .now in
-    (size-parts (length f) (opens-parts f (o .0 .0) (sym (c .before .before .before .before .before .«open» .ensures) ∙ o .1) .frames .size) .0, omega arith)
+    let s = size-parts (length f) (opens-parts f (o .0 .0) (sym (c .before .before .before .before .before .«open» .ensures) ∙ o .1) .frames .size) .0 in
+    (omega arith, omega arith)
 
 same-length : tie.Need-same-length
 same-length c = search needs

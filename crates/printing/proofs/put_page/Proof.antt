@@ -1,4 +1,4 @@
--- `printing::put_page` meets its contract. Invariant: the lines before `next` are put, and none takes more than 128 bytes.
+-- `printing::put_page` meets its contract. Invariant: the lines before `next` are put, and none takes more than its room.
 use mathlib.Core.Path.{_≡_, refl, sym, ap, _∙_}
 use Prim.Native.Nat.{ℕ, suc, _+_, _-_, _*_, _≤_, _<_}
 use native.Mathlib.Omega.{arith}
@@ -6,7 +6,7 @@ use mathlib.Core.List.{List, _++_}
 use lib.ListN.{length}
 use Rattle.base.specs.Put.{Put}
 use Rattle.text.specs.Text.Laws.{is, both, put-length, put-none}
-use Rattle.printing.specs.Printed.{lineAt, linesFrom, lineCount}
+use Rattle.printing.specs.Printed.{lineAt, linesFrom, lineRoom, lineCount}
 use Rattle.printing.specs.Printed.Laws.{line-room, lines-none, lines-more}
 use borrow.Author.Needs.{needs}
 use Rattle.printing.proofs.put_page.Statement.{statement}
@@ -17,7 +17,7 @@ record Head (minor keys : ℕ) (s o : List ℕ) (from : ℕ) (out : List ℕ) (n
   upto : next ≤ lineCount s
   same : length out ≡ length o
   within : at ≤ length o
-  few : at ≤ 128 * (next - from)
+  few : at ≤ lineRoom * (next - from)
   lines : Put o out 0 at (linesFrom minor keys s (next - from) from)
 
 module _ (minor keys : ℕ) (s o : List ℕ) (from : ℕ) where
@@ -33,7 +33,7 @@ module _ (minor keys : ℕ) (s o : List ℕ) (from : ℕ) where
         lines = is (sym (ap (λ (n : ℕ). linesFrom minor keys s n from) none ∙ lines-none minor keys s from)) (put-none o 0);
       }
 
-  again : {out out′ : List ℕ} {next at r : ℕ} → Head minor keys s o from out next at → next < lineCount s → at + 128 ≤ length o
+  again : {out out′ : List ℕ} {next at r : ℕ} → Head minor keys s o from out next at → next < lineCount s → at + lineRoom ≤ length o
       → Put out out′ at r (lineAt minor keys s next) → Head minor keys s o from out′ (next + 1) r
   again {next = next} h below room p =
       let b = h .begun in
@@ -85,7 +85,7 @@ returns c =
     let s = h .same in
     let few = h .few in
     let u = h .upto in
-    (omega arith, h .upto, rw (h .same) (h .within), h .lines)
+    record { more = omega arith; upto = h .upto; within = rw (h .same) (h .within); lines = h .lines }
 
 put-line-requires : tie.Need-put-line-requires Inv-loop μ-loop
 put-line-requires c κs = let h = c .before .before .before .loop .inv in let s = h .same in (c .before .before .before .before .before .before .before .pre .0, omega arith)
@@ -111,7 +111,7 @@ returns-2 : tie.Need-returns-2 Inv-loop μ-loop
 returns-2 c =
     let h = c .before .loop .inv in
     let e = c .before .before .edge-count .ensures in
-    (omega arith, h .upto, rw (h .same) (h .within), h .lines)
+    record { more = omega arith; upto = h .upto; within = rw (h .same) (h .within); lines = h .lines }
 
 pub put-page-spec : {M : Type 1} → statement M
 put-page-spec =

@@ -13,9 +13,9 @@ use Rattle.base.specs.Pick.{pick}
 use Rattle.batch.specs.declared.Edge.{Edge}
 use Rattle.batch.specs.Batch.{edgeAt, edgesAt, edgesOf, recordCount, place}
 use Rattle.text.specs.Text.Laws.{length-decimal, length-hex}
-use Rattle.printing.specs.Printed.{lifeEnd, edgeLine, edgeLines, forwardWord, inverseWord, firstLine, deadIn, okLine, printed, lineAt, linesFrom, lineCount}
+use Rattle.printing.specs.Printed.{lifeEnd, edgeLine, edgeLines, forwardWord, inverseWord, firstLine, deadIn, okLine, printed, lineAt, linesFrom, lineRoom, lineCount}
 
--- ---- 128 bytes are room for any line
+-- ---- there is room for any line
 
 length-life : (dead : Bool) → length (lifeEnd dead) ≡ 6
 length-life true = refl
@@ -25,7 +25,7 @@ length-direction : (t : Bool) → length (pick t inverseWord forwardWord) ≡ 23
 length-direction true = refl
 length-direction false = refl
 
-pub edge-room : (e : Edge) → length (edgeLine e) ≤ 128
+pub edge-room : (e : Edge) → length (edgeLine e) ≤ lineRoom
 unfolding edgeLine
 edge-room e =
     let a = length-hex (e .key .hi) in
@@ -36,7 +36,7 @@ edge-room e =
     let z = length-life (e .dead) in
     simp length-append (omega arith)
 
-pub first-room : (direction minor keys edges dead : ℕ) → length (firstLine direction minor keys edges dead) ≤ 128
+pub first-room : (direction minor keys edges dead : ℕ) → length (firstLine direction minor keys edges dead) ≤ lineRoom
 unfolding firstLine
 first-room direction minor keys edges dead =
     let a = length-direction (eqb direction 1) in
@@ -76,12 +76,12 @@ module _ (minor keys : ℕ) (s : List ℕ) where
   unfolding lineAt
   line-ok e h = rw (le-ltb e (recordCount s) h)
 
-  pub line-room : (k : ℕ) → length (lineAt minor keys s k) ≤ 128
+  pub line-room : (k : ℕ) → length (lineAt minor keys s k) ≤ lineRoom
   unfolding lineAt
   line-room zero = first-room (getD s 1 0) minor keys (recordCount s) (deadIn (edgesOf s))
   line-room (suc e) = go (ltb e (recordCount s))
     where
-      go : (t : Bool) → length (pick t (edgeLine (edgeAt s (place e))) okLine) ≤ 128
+      go : (t : Bool) → length (pick t (edgeLine (edgeAt s (place e))) okLine) ≤ lineRoom
       go true = edge-room (edgeAt s (place e))
       go false = omega arith
 

@@ -3,9 +3,6 @@ use Prim.Native.Nat.{_-_, _≤_}
 use borrow.Author.Needs.{needs}
 use Rattle.test_list.proofs.left_of.Statement.{statement}
 use Rattle.test_list.proofs.left_of.Tie as tie
-use Rattle.test_list.proofs.left_of.Reads as reads
-use Rattle.test_list.proofs.left_of.Lts as lts
-use Rattle.test_list.proofs.counted.Reads as counted-reads
 
 abbrev Inv-loop : tie.InvT-loop
 Inv-loop n t count₀ i₀ count i = (i ≤ 64) × (count ≤ i)

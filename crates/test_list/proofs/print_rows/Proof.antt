@@ -3,9 +3,6 @@ use Prim.Native.Nat.{_-_, _≤_}
 use borrow.Author.Needs.{needs}
 use Rattle.test_list.proofs.print_rows.Statement.{statement}
 use Rattle.test_list.proofs.print_rows.Tie as tie
-use Rattle.test_list.proofs.print_rows.Reads as reads
-use Rattle.test_list.proofs.print_rows.Lts as lts
-use Rattle.test_verdict.proofs.row.Reads as row-reads
 
 abbrev Inv-loop : tie.InvT-loop
 Inv-loop n t i₀ i = i ≤ 64

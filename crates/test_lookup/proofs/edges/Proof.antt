@@ -1,5 +1,5 @@
 -- `test_lookup::edges` meets its contract.
-use Prim.Native.Nat.{_-_, _≤_, _<_}
+use Prim.Native.Nat.{_-_, _≤_}
 use borrow.Author.Needs.{needs}
 use Rattle.test_lookup.proofs.edges.Statement.{statement}
 use Rattle.test_lookup.proofs.edges.Tie as tie

@@ -1,5 +1,5 @@
 -- `test_lookup::pattern_marks` meets its contract.
-use Prim.Native.Nat.{_-_, _≤_, _<_}
+use Prim.Native.Nat.{_-_, _≤_}
 use lib.ListN.{length, length-set}
 use mathlib.Core.Path.{_≡_}
 use borrow.Author.Needs.{needs}

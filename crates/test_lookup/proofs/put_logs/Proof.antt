@@ -1,6 +1,6 @@
 -- `test_lookup::put_logs` meets its contract.
-use Prim.Native.Nat.{_-_, _≤_, _<_}
-use lib.ListN.{length, length-set}
+use Prim.Native.Nat.{_-_, _≤_}
+use lib.ListN.{length}
 use mathlib.Core.Path.{_≡_}
 use borrow.Author.Needs.{needs}
 use Rattle.test_lookup.proofs.put_logs.Statement.{statement}

@@ -2,30 +2,32 @@
 use mathlib.Core.Path.{_≡_}
 use lib.ListN.{length}
 use borrow.Author.Needs.{needs}
-use native.Mathlib.Omega.{arith}
 use Rattle.test_print.proofs.corpus.Statement.{statement}
 use Rattle.test_print.proofs.corpus.Tie as tie
-use Rattle.test_print.proofs.corpus.Reads as reads
-use Rattle.test_print.proofs.corpus.Lts as lts
-use Rattle.test_print.proofs.next_file.Reads as next-file-reads
 
 abbrev Inv-loop : tie.InvT-loop
-Inv-loop space₀ room₀ left₀ space room left = (length space ≡ length space₀) × (length room ≡ length room₀)
+Inv-loop name₀ space₀ room₀ out₀ left₀ name space room out left = (length name ≡ length name₀) × (length space ≡ length space₀) × (length room ≡ length room₀) × (length out ≡ length out₀)
 
 abbrev μ-loop : tie.MeasureT-loop
-μ-loop space₀ room₀ left₀ space room left = left
+μ-loop name₀ space₀ room₀ out₀ left₀ name space room out left = left
 
 loop-holds : tie.Need-loop-holds Inv-loop μ-loop
 loop-holds c = search needs
 
-next-file-requires : tie.Need-next-file-requires Inv-loop μ-loop
-next-file-requires c κs = search needs
+entry-requires : tie.Need-entry-requires Inv-loop μ-loop
+entry-requires c κs = search needs
 
 same-length : tie.Need-same-length Inv-loop μ-loop
 same-length c = search needs
 
 same-length-2 : tie.Need-same-length-2 Inv-loop μ-loop
 same-length-2 c = search needs
+
+same-length-3 : tie.Need-same-length-3 Inv-loop μ-loop
+same-length-3 c = search needs
+
+same-length-4 : tie.Need-same-length-4 Inv-loop μ-loop
+same-length-4 c = search needs
 
 returns : tie.Need-returns Inv-loop μ-loop
 returns c = search needs
@@ -39,11 +41,17 @@ loop-less c = search needs
 loop-again : tie.Need-loop-again Inv-loop μ-loop
 loop-again c = search needs
 
-same-length-3 : tie.Need-same-length-3 Inv-loop μ-loop
-same-length-3 c = search needs
+same-length-5 : tie.Need-same-length-5 Inv-loop μ-loop
+same-length-5 c = search needs
 
-same-length-4 : tie.Need-same-length-4 Inv-loop μ-loop
-same-length-4 c = search needs
+same-length-6 : tie.Need-same-length-6 Inv-loop μ-loop
+same-length-6 c = search needs
+
+same-length-7 : tie.Need-same-length-7 Inv-loop μ-loop
+same-length-7 c = search needs
+
+same-length-8 : tie.Need-same-length-8 Inv-loop μ-loop
+same-length-8 c = search needs
 
 returns-2 : tie.Need-returns-2 Inv-loop μ-loop
 returns-2 c = search needs
@@ -55,13 +63,17 @@ corpus-spec =
     Inv-loop
     μ-loop
     loop-holds
-    next-file-requires
+    entry-requires
     same-length
     same-length-2
+    same-length-3
+    same-length-4
     returns
     sub-left
     loop-less
     loop-again
-    same-length-3
-    same-length-4
+    same-length-5
+    same-length-6
+    same-length-7
+    same-length-8
     returns-2)

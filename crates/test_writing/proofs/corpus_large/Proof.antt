@@ -1,26 +1,30 @@
-use lib.ListN.{length}
+-- `test_writing::corpus_large` meets its contract.
 use mathlib.Core.Path.{_≡_}
+use lib.ListN.{length}
 use borrow.Author.Needs.{needs}
 use Rattle.test_writing.proofs.corpus_large.Statement.{statement}
 use Rattle.test_writing.proofs.corpus_large.Tie as tie
 
 abbrev Inv-loop : tie.InvT-loop
-Inv-loop space₀ out₀ left₀ space out left = (length space ≡ length space₀) × (length out ≡ length out₀)
+Inv-loop name₀ space₀ out₀ left₀ name space out left = (length name ≡ length name₀) × (length space ≡ length space₀) × (length out ≡ length out₀)
 
 abbrev μ-loop : tie.MeasureT-loop
-μ-loop space₀ out₀ left₀ space out left = left
+μ-loop name₀ space₀ out₀ left₀ name space out left = left
 
 loop-holds : tie.Need-loop-holds Inv-loop μ-loop
 loop-holds c = search needs
 
-next-large-requires : tie.Need-next-large-requires Inv-loop μ-loop
-next-large-requires c κs = search needs
+large-entry-requires : tie.Need-large-entry-requires Inv-loop μ-loop
+large-entry-requires c κs = search needs
 
 same-length : tie.Need-same-length Inv-loop μ-loop
 same-length c = search needs
 
 same-length-2 : tie.Need-same-length-2 Inv-loop μ-loop
 same-length-2 c = search needs
+
+same-length-3 : tie.Need-same-length-3 Inv-loop μ-loop
+same-length-3 c = search needs
 
 returns : tie.Need-returns Inv-loop μ-loop
 returns c = search needs
@@ -34,11 +38,14 @@ loop-less c = search needs
 loop-again : tie.Need-loop-again Inv-loop μ-loop
 loop-again c = search needs
 
-same-length-3 : tie.Need-same-length-3 Inv-loop μ-loop
-same-length-3 c = search needs
-
 same-length-4 : tie.Need-same-length-4 Inv-loop μ-loop
 same-length-4 c = search needs
+
+same-length-5 : tie.Need-same-length-5 Inv-loop μ-loop
+same-length-5 c = search needs
+
+same-length-6 : tie.Need-same-length-6 Inv-loop μ-loop
+same-length-6 c = search needs
 
 returns-2 : tie.Need-returns-2 Inv-loop μ-loop
 returns-2 c = search needs
@@ -50,13 +57,15 @@ corpus-large-spec =
     Inv-loop
     μ-loop
     loop-holds
-    next-large-requires
+    large-entry-requires
     same-length
     same-length-2
+    same-length-3
     returns
     sub-left
     loop-less
     loop-again
-    same-length-3
     same-length-4
+    same-length-5
+    same-length-6
     returns-2)

@@ -1,24 +1,27 @@
--- `verdict::corpus` meets its contract.
-use lib.ListN.{length}
+-- `test_opening::corpus` meets its contract.
 use mathlib.Core.Path.{_≡_}
+use lib.ListN.{length}
 use borrow.Author.Needs.{needs}
-use Rattle.test_verdict.proofs.corpus.Statement.{statement}
-use Rattle.test_verdict.proofs.corpus.Tie as tie
+use Rattle.test_opening.proofs.corpus.Statement.{statement}
+use Rattle.test_opening.proofs.corpus.Tie as tie
 
 abbrev Inv-loop : tie.InvT-loop
-Inv-loop space₀ left₀ space left = length space ≡ length space₀
+Inv-loop name₀ space₀ left₀ name space left = (length name ≡ length name₀) × (length space ≡ length space₀)
 
 abbrev μ-loop : tie.MeasureT-loop
-μ-loop space₀ left₀ space left = left
+μ-loop name₀ space₀ left₀ name space left = left
 
 loop-holds : tie.Need-loop-holds Inv-loop μ-loop
 loop-holds c = search needs
 
-next-file-requires : tie.Need-next-file-requires Inv-loop μ-loop
-next-file-requires c κs = search needs
+entry-requires : tie.Need-entry-requires Inv-loop μ-loop
+entry-requires c κs = search needs
 
 same-length : tie.Need-same-length Inv-loop μ-loop
 same-length c = search needs
+
+same-length-2 : tie.Need-same-length-2 Inv-loop μ-loop
+same-length-2 c = search needs
 
 returns : tie.Need-returns Inv-loop μ-loop
 returns c = search needs
@@ -32,8 +35,11 @@ loop-less c = search needs
 loop-again : tie.Need-loop-again Inv-loop μ-loop
 loop-again c = search needs
 
-same-length-2 : tie.Need-same-length-2 Inv-loop μ-loop
-same-length-2 c = search needs
+same-length-3 : tie.Need-same-length-3 Inv-loop μ-loop
+same-length-3 c = search needs
+
+same-length-4 : tie.Need-same-length-4 Inv-loop μ-loop
+same-length-4 c = search needs
 
 returns-2 : tie.Need-returns-2 Inv-loop μ-loop
 returns-2 c = search needs
@@ -45,11 +51,13 @@ corpus-spec =
     Inv-loop
     μ-loop
     loop-holds
-    next-file-requires
+    entry-requires
     same-length
+    same-length-2
     returns
     sub-left
     loop-less
     loop-again
-    same-length-2
+    same-length-3
+    same-length-4
     returns-2)

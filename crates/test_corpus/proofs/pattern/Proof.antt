@@ -1,11 +1,11 @@
--- `verdict::pattern` meets its contract.
+-- `test_corpus::pattern` meets its contract.
 use Prim.Native.Nat.{_-_, _≤_, _<_}
 use lib.ListN.{length, length-set}
 use mathlib.Core.Path.{_≡_}
 use borrow.Author.Needs.{needs}
 use native.Mathlib.Omega.{arith}
-use Rattle.test_verdict.proofs.pattern.Statement.{statement}
-use Rattle.test_verdict.proofs.pattern.Tie as tie
+use Rattle.test_corpus.proofs.pattern.Statement.{statement}
+use Rattle.test_corpus.proofs.pattern.Tie as tie
 
 abbrev Inv-loop : tie.InvT-loop
 Inv-loop out₀ x₀ i₀ out x i = (i ≤ length out₀) × (length out ≡ length out₀) × (x < 256)

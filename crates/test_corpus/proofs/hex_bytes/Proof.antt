@@ -1,9 +1,9 @@
--- `test_codes::hex` meets its contract.
+-- `test_corpus::hex_bytes` meets its contract.
 use Prim.Native.Nat.{_-_, _≤_}
 use lib.ListN.{length}
 use borrow.Author.Needs.{needs}
-use Rattle.test_codes.proofs.hex.Statement.{statement}
-use Rattle.test_codes.proofs.hex.Tie as tie
+use Rattle.test_corpus.proofs.hex_bytes.Statement.{statement}
+use Rattle.test_corpus.proofs.hex_bytes.Tie as tie
 
 abbrev Inv-loop : tie.InvT-loop
 Inv-loop s i₀ i = i ≤ length s
@@ -32,8 +32,8 @@ loop-again c = search needs
 returns : tie.Need-returns Inv-loop μ-loop
 returns c = search needs
 
-pub hex-spec : {M : Type 1} → statement M
-hex-spec =
+pub hex-bytes-spec : {M : Type 1} → statement M
+hex-bytes-spec =
     tie.close
     (tie.spec
     Inv-loop

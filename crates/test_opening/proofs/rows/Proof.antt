@@ -1,8 +1,8 @@
--- `verdict::rows` meets its contract.
+-- `test_opening::rows` meets its contract.
 use Prim.Native.Nat.{_-_, _≤_}
 use borrow.Author.Needs.{needs}
-use Rattle.test_verdict.proofs.rows.Statement.{statement}
-use Rattle.test_verdict.proofs.rows.Tie as tie
+use Rattle.test_opening.proofs.rows.Statement.{statement}
+use Rattle.test_opening.proofs.rows.Tie as tie
 
 abbrev Inv-loop : tie.InvT-loop
 Inv-loop file i₀ i = i ≤ 64
