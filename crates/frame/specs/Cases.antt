@@ -124,7 +124,7 @@ pub headers : (headerIn headingOnly ≡ headerWith 0 0 0) × (headerIn oneEdge �
 unfolding headingOnly oneEdge leAt leBytes beAt halvesAt headBytes headerIn
 headers = (refl, refl, refl)
 
--- ---- places of 10 and 11: "entry index", counted from 0 at the first such entry
+-- ---- places of 10 and 11: the first such entry, counted from 0
 
 -- an entry of keys of one byte at `start`, by its codec
 abbrev entryOf : ℕ → ℕ → Row
