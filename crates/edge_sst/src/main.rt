@@ -1,5 +1,5 @@
-// Prints a file of at most 65,536 bytes from standard input; for more it prints `too long`. A file of that size has at most
-// 3,855 edges (17 bytes each at least), so its batch has room in 262,144 bytes.
+// Prints a file of at most 65,536 bytes from standard input; for more it prints `too long`.
+use printing::BATCH;
 use printing::print_file;
 use streams::LONGEST;
 use streams::read_input;
@@ -11,7 +11,7 @@ fn printed(file: &[u8]) -> bool {
     if LONGEST < file.len() {
         return wrote(b"too long\n");
     }
-    let mut room = [0u8; 262144];
+    let mut room = [0u8; BATCH];
     let mut out = io::large_buffer();
     print_file(file, &mut room, &mut out)
 }

@@ -1,5 +1,6 @@
 -- "The printed form": what the program prints of a file, line by line, from its batch, minor version and key count.
-use Prim.Native.Nat.{ℕ, zero, suc, _+_, _-_, _≤_, _<_}
+use mathlib.Core.Path.{_≡_}
+use Prim.Native.Nat.{ℕ, zero, suc, _+_, _-_, _/_, _≤_, _<_}
 use mathlib.Core.Bool.{Bool}
 use mathlib.Core.List.{List, [], _∷_, _++_}
 use lib.ListN.{length, getD}
@@ -7,9 +8,13 @@ use lib.Dec.{ltb, eqb}
 use Rattle.base.specs.Pick.{pick}
 use Rattle.base.specs.Put.{Put}
 use Rattle.codes.specs.declared.ids.Id.{Id}
+use Rattle.refusal.specs.declared.Check.{Check}
+use Rattle.frame.specs.Frame.{headerIn, recordOf}
 use Rattle.batch.specs.declared.Edge.{Edge}
 use Rattle.batch.specs.Batch.{edgeAt, edgesOf, recordCount, place}
-use Rattle.text.specs.Text.{decimal, hex}
+use Rattle.full_check.specs.Full.{fullCheck}
+use Rattle.readout.specs.ReadOut.{batchIn, neededFor}
+use Rattle.text.specs.Text.{decimal, hex, refusedText}
 pub mod Laws
 
 -- ---- the line of an edge: key, partner, log number, live or dead
@@ -118,3 +123,37 @@ pub record PagePut (minor keys : ℕ) (batch o out : List ℕ) (from next bytes 
   pub upto : next ≤ lineCount batch
   pub within : bytes ≤ length out
   pub lines : Put o out 0 bytes (linesFrom minor keys batch (next - from) from)
+
+-- ---- a file
+
+-- "A file that the full check refuses prints only `refused N at P`."
+unfoldable pub printedBy : Check → List ℕ → List ℕ
+printedBy Check.Fine f = printed (headerIn f .minor) (recordOf f .keycount) (batchIn f)
+printedBy (Check.Bad r) f = refusedText r ++ newline
+
+-- what is printed of a file
+unfoldable pub printedOf : List ℕ → List ℕ
+printedOf f = printedBy (fullCheck f) f
+
+-- xs is a part of the text
+pub record PartOf (text xs : List ℕ) : Type 0 where
+  pub before : List ℕ
+  pub after : List ℕ
+  pub whole : text ≡ before ++ (xs ++ after)
+
+-- a file that the full check passes, its key count and its batch
+pub record Passed (f : List ℕ) (keys : ℕ) (batch : List ℕ) : Type 0 where
+  pub fine : fullCheck f ≡ Check.Fine
+  pub count : keys ≡ recordOf f .keycount
+  pub read : batch ≡ batchIn f
+
+-- room for the batch of a file that passes
+abbrev pub Enough : List ℕ → ℕ → Type 0
+Enough f room = fullCheck f ≡ Check.Fine → neededFor f ≤ room
+
+-- of a file that is printed, and for its batch: eight bytes of it are an edge's log number
+abbrev pub longest : ℕ
+longest = 65536
+
+abbrev pub batchRoom : ℕ
+batchRoom = place (longest / 8)

@@ -2,12 +2,14 @@
 // written when the next line might not fit; the first write that fails ends the print.
 ghost use mathlib.Core.Path.{_≡_};
 ghost use Prim.Native.Nat.{_+_, _≤_, _<_};
-ghost use lib.ListN.{length};
+ghost use lib.ListN.{length, take};
 ghost use Rattle.base.specs.Pick.{pick};
 ghost use Rattle.base.specs.Put.{Put};
 ghost use Rattle.batch.specs.Batch.{headingSize, recordCount, edgesOf};
-ghost use Rattle.frame.specs.Kind as kind;
-ghost use Rattle.printing.specs.Printed.{idText, lifeEnd, edgeLine, directionWord, firstLine, deadIn, lineAt, lineRoom, lineCount, PagePut};
+ghost use Rattle.printing.specs.Printed.{idText, lifeEnd, edgeLine, directionWord, firstLine, deadIn, lineAt, lineRoom, lineCount, PagePut, printedOf, PartOf, Passed, Enough};
+ghost use Rattle.refusal.specs.declared.Check.{Check};
+ghost use Rattle.frame.specs.Frame.{recordOf};
+ghost use Rattle.full_check.specs.Full.{fullCheck};
 ghost use Rattle.text.specs.Text.{decimal};
 ghost use mathlib.Core.List.{_++_};
 use batch::Edge;
@@ -24,6 +26,9 @@ use text::put_hex;
 use text::put_labelled;
 use text::put_refused;
 use text::put_word;
+
+// Room for the batch of a file of 65,536 bytes (`batchRoom`): each edge has a log number of eight bytes there.
+pub const BATCH: usize = 335922;
 
 // Room for any line (`lineRoom`).
 const LINE: usize = 128;
@@ -177,22 +182,23 @@ fn put_page(out: &mut [u8], minor: u64, keys: u64, batch: &[u8], from: usize) ->
 
 // ---- and written
 
-// Writes the first n bytes of `out`; false where a write fails.
-fn wrote_front(out: &[u8], n: usize) -> bool
-    requires { ⌜ n ≤ length (now out) ⌝ }
+// Writes the first n bytes of `out`, a part of what is printed of the file; false where a write fails.
+fn wrote_part(file: &[u8], out: &[u8], n: usize) -> bool
+    requires { ⌜ (n ≤ length (now out)) × PartOf (printedOf (now file)) (take n (now out)) ⌝ }
 {
     streams::wrote(&out[0..n])
 }
 
-// Prints a batch, page by page.
-fn print_batch(minor: u64, keys: u64, batch: &[u8], out: &mut [u8]) -> bool
-    requires { ⌜ (headingSize ≤ length (now batch)) × (lineRoom ≤ length (now out)) ⌝ }
+// Prints a file that passes, page by page.
+fn print_batch(file: &[u8], keys: u64, batch: &[u8], out: &mut [u8]) -> bool
+    requires { ⌜ Passed (now file) keys (now batch) × (lineRoom ≤ length (now out)) ⌝ }
 {
+    let minor = byte(file, Header::MINOR);
     let lines = edge_count(batch) + 2;
     let mut next: usize = 0;
     while next < lines {
         let page = put_page(out, minor, keys, batch, next);
-        if !wrote_front(out, page.bytes) {
+        if !wrote_part(file, out, page.bytes) {
             return false;
         }
         next = page.next;
@@ -200,23 +206,24 @@ fn print_batch(minor: u64, keys: u64, batch: &[u8], out: &mut [u8]) -> bool
     true
 }
 
-fn print_refusal(refusal: Refusal, out: &mut [u8]) -> bool
-    requires { ⌜ lineRoom ≤ length (now out) ⌝ }
+// Prints the refusal of a file.
+fn print_refusal(file: &[u8], refusal: Refusal, out: &mut [u8]) -> bool
+    requires { ⌜ (fullCheck (now file) ≡ Check.Bad refusal) × (lineRoom ≤ length (now out)) ⌝ }
 {
     let mid = put_refused(out, 0, refusal);
     let end = put_word(out, mid, b"\n");
-    wrote_front(out, end)
+    wrote_part(file, out, end)
 }
 
 // A file that opens, with so many keys.
 fn print_opened(file: &[u8], keys: u64, room: &mut [u8], out: &mut [u8]) -> bool
-    requires { ⌜ (kind.headerSize ≤ length (now file)) × (lineRoom ≤ length (now out)) ⌝ }
+    requires { ⌜ (keys ≡ recordOf (now file) .keycount) × Enough (now file) (length (now room)) × (lineRoom ≤ length (now out)) ⌝ }
 {
     match read_out(file, room) {
-        ReadOut::Refused { refusal } => print_refusal(refusal, out),
+        ReadOut::Refused { refusal } => print_refusal(file, refusal, out),
         ReadOut::Done { bytes } => {
             let n = bytes as usize;
-            print_batch(byte(file, Header::MINOR), keys, &room[0..n], out)
+            print_batch(file, keys, &room[0..n], out)
         }
     }
 }
@@ -224,10 +231,10 @@ fn print_opened(file: &[u8], keys: u64, room: &mut [u8], out: &mut [u8]) -> bool
 // Prints a file to standard output; false where a write failed, and then nothing is written after it. `room` is lent for its
 // batch, `out` for lines.
 pub fn print_file(file: &[u8], room: &mut [u8], out: &mut [u8]) -> bool
-    requires { ⌜ lineRoom ≤ length (now out) ⌝ }
+    requires { ⌜ Enough (now file) (length (now room)) × (lineRoom ≤ length (now out)) ⌝ }
 {
     match open(file) {
-        Opening::Refused { refusal } => print_refusal(refusal, out),
+        Opening::Refused { refusal } => print_refusal(file, refusal, out),
         Opening::Good { opened } => print_opened(file, opened.keycount, room, out),
     }
 }

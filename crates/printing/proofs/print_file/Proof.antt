@@ -1,8 +1,9 @@
--- `printing::print_file` meets its contract: a file that opens has a header.
-use mathlib.Core.Path.{sym, _∙_}
+-- `printing::print_file` meets its contract: opening's refusal is the full check's, and its record the file's.
+use mathlib.Core.Path.{sym, ap, _∙_}
 use native.Mathlib.Omega.{arith}
-use lib.ListN.{length}
-use Rattle.frame.specs.Open.Laws.{opens-parts, size-parts}
+use Rattle.frame.specs.declared.Opened.{Opened}
+use Rattle.frame.specs.Open.Laws.{opens-record}
+use Rattle.full_check.specs.Checked.{full-unopened}
 use borrow.Author.Needs.{needs}
 use Rattle.printing.proofs.print_file.Statement.{statement}
 use Rattle.printing.proofs.print_file.Tie as tie
@@ -14,7 +15,9 @@ enum-known-refusal : tie.Need-enum-known-refusal
 enum-known-refusal c = search needs
 
 print-refusal-requires : tie.Need-print-refusal-requires
-print-refusal-requires c κs = search needs
+print-refusal-requires c κs =
+    let r = c .before .before .refusal .given in
+    (full-unopened (c .before .before .before .before .before .before .before .before .args .file .now) (r .0 .0) (sym (c .before .before .before .before .«open» .ensures) ∙ r .1), omega arith)
 
 enum-known-opened : tie.Need-enum-known-opened
 enum-known-opened c = search needs
@@ -22,9 +25,8 @@ enum-known-opened c = search needs
 print-opened-requires : tie.Need-print-opened-requires
 print-opened-requires c κs =
     let o = c .before .before .before .opened .given in
-    let f = c .before .before .before .before .before .before .before .before .before .args .file .now in
-    let s = size-parts (length f) (opens-parts f (o .0 .0) (sym (c .before .before .before .before .before .«open» .ensures) ∙ o .1) .frames .size) .0 in
-    (omega arith, omega arith)
+    let same = opens-record (c .before .before .before .before .before .before .before .before .before .args .file .now) (o .0 .0) (sym (c .before .before .before .before .before .«open» .ensures) ∙ o .1) in
+    (ap (λ (x : Opened). x .keycount) (sym same), c .before .before .before .before .before .before .before .before .before .pre .0, omega arith)
 
 same-length : tie.Need-same-length
 same-length c = search needs

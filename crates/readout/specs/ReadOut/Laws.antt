@@ -30,7 +30,7 @@ use Rattle.batch.specs.declared.Edge.{Edge}
 use Rattle.batch.specs.Batch.{Heading, headingBytes, recordsOf, batchBytes}
 use Rattle.batch.specs.Batch.Laws.{length-records}
 use Rattle.full_check.specs.Full.{sumsFrom, groupsFrom, degreesFrom, denseFrom, dataGood, edgesCheck, fullCheck, checkedOf}
-use Rattle.full_check.specs.Checked.{checked-opened, checked-fine, full-opened}
+use Rattle.full_check.specs.Checked.{checked-opened, checked-fine, fine-checked, full-opened}
 use Rattle.readout.specs.declared.ReadOut.{ReadOut}
 use Rattle.readout.specs.Edges.{readFrom, edgesIn}
 use Rattle.readout.specs.Edges.Laws.{length-read, Readable}
@@ -166,17 +166,56 @@ read-out-refused-leaves f o q = go (readCheck f (length o))
     go Check.Fine e = let z : _≡_ {A = ℕ} 0 1 = cc in absurd (omega arith)
     go (Check.Bad r) e = refl
 
--- a read-out that is done wrote what it needs, within the room
-pub done-room : (f : List ℕ) (room n : ℕ) → readOutOf f room ≡ ReadOut.Done n → (n ≡ neededFor f) × (n ≤ room)
-unfolding readOutOf readCheck readAnswer
-done-room f room n = go (readCheck f room) refl
+-- a read-out that is done: the file passes, and its batch stands at the front of the output
+pub record DoneBy (f o : List ℕ) (n : ℕ) : Type 0 where
+  pub fine : fullCheck f ≡ Check.Fine
+  pub size : n ≡ neededFor f
+  pub room : n ≤ length o
+  pub batch : length (batchIn f) ≡ n
+  pub output : readOutLeaves f o ≡ over (batchIn f) o
+
+-- the batch of a file that passes has the bytes that are needed
+pub length-batch : (f : List ℕ) → fullCheck f ≡ Check.Fine → length (batchIn f) ≡ neededFor f
+unfolding batchIn batchBytes
+length-batch f e =
+    let good = fine-checked f e in
+    let head = length-heading f (omega (arith, checked-size f (recordOf f) good)) in
+    let records = checked-records f (recordOf f) good in
+    length-append (headingBytes (headingIn f)) (recordsOf (edgesIn (knownOf f (recordOf f)))) ∙ omega arith
+
+pub done-by : (f o : List ℕ) (n : ℕ) → readOutOf f (length o) ≡ ReadOut.Done n → DoneBy f o n
+unfolding readOutOf readOutLeaves readCheck readAnswer readLeaves
+done-by f o n = go (readCheck f (length o)) refl
   where
-    go : (c : Check) → readCheck f room ≡ c → readAnswer c (neededFor f) ≡ ReadOut.Done n → (n ≡ neededFor f) × (n ≤ room)
+    go : (c : Check) → readCheck f (length o) ≡ c → readAnswer c (neededFor f) ≡ ReadOut.Done n → DoneBy f o n
     go Check.Fine p e =
         let same : n ≡ neededFor f = cc in
-        let fits = ltb-false room (neededFor f) (refuse-fine (Refusal.Room (neededFor f)) _ .0 (fine-parts (fullCheck f) _ p .1)) in
-        (same, rw same fits)
+        let parts = fine-parts (fullCheck f) _ p in
+        let fits = ltb-false (length o) (neededFor f) (refuse-fine (Refusal.Room (neededFor f)) _ .0 (parts .1)) in
+        record {
+          fine = parts .0;
+          size = same;
+          room = rw same fits;
+          batch = length-batch f (parts .0) ∙ sym same;
+          output = ap (λ (c : Check). readLeaves c (batchIn f) o) p;
+        }
     go (Check.Bad r) p e = let z : _≡_ {A = ℕ} 0 1 = cc in absurd (omega arith)
+
+-- with room for what a good file needs, its refusal is the full check's
+pub refused-check : (f : List ℕ) (room : ℕ) (r : Refusal) → (fullCheck f ≡ Check.Fine → neededFor f ≤ room) → readOutOf f room ≡ ReadOut.Refused r → fullCheck f ≡ Check.Bad r
+unfolding readOutOf readCheck readAnswer
+refused-check f room r enough = go (fullCheck f) refl
+  where
+    go : (c : Check) → fullCheck f ≡ c → readAnswer (fullCheck f ⊳ refuse (Refusal.Room (neededFor f)) (ltb room (neededFor f))) (neededFor f) ≡ ReadOut.Refused r → fullCheck f ≡ Check.Bad r
+    go Check.Fine p e =
+        let fine : fullCheck f ⊳ refuse (Refusal.Room (neededFor f)) (ltb room (neededFor f)) ≡ Check.Fine
+        = fine-then _ p ∙ ap (refuse (Refusal.Room (neededFor f))) (le-ltb room (neededFor f) (enough p)) in
+        let done : ReadOut.Refused r ≡ ReadOut.Done (neededFor f) = sym e ∙ ap (λ (c : Check). readAnswer c (neededFor f)) fine in
+        let z : _≡_ {A = ℕ} 0 1 = cc in absurd (omega arith)
+    go (Check.Bad q) p e =
+        let told : ReadOut.Refused q ≡ ReadOut.Refused r = sym (ap (λ (c : Check). readAnswer c (neededFor f)) (bad-then _ p)) ∙ e in
+        let same : q ≡ r = cc in
+        p ∙ ap Check.Bad same
 
 -- a refusal other than 20 is the read-out's exactly if it is the full check's
 pub read-full : (f : List ℕ) (room : ℕ) (r : Refusal) → (numberOf r ≡ 20 → ⊥) → (readOutOf f room ≡ ReadOut.Refused r) ↔ (fullCheck f ≡ Check.Bad r)

@@ -12,7 +12,7 @@ use lib.Dec.{ltb}
 use borrow.Author.Tests.{lt-ltb, le-ltb}
 use Rattle.io.specs.Digits.{glyph, digits, Fewest}
 use Rattle.base.specs.Pick.{pick}
-use Rattle.base.specs.Over.{sets-append}
+use Rattle.base.specs.Over.{sets-append, part-sets}
 use Rattle.base.specs.Put.{Put}
 use Rattle.refusal.specs.declared.Refusal.{Refusal}
 use Rattle.refusal.specs.Refusal.{numberOf, placeOf}
@@ -36,6 +36,14 @@ both {o} {at = at} {xs = xs} {ys = ys} p q =
       place = omega (arith, p .place, q .place, length-append xs ys);
       bytes = q .bytes ∙ ap₂ (λ (t : List ℕ) (m : ℕ). sets t m ys) (p .bytes) (p .place) ∙ sym (sets-append xs ys o at);
     }
+
+-- a run that was put at the front is there
+pub put-front : {o out : List ℕ} {r : ℕ} {xs : List ℕ} → Put o out 0 r xs → r ≤ length out → take r out ≡ xs
+put-front {o} {out} {r} {xs} p h =
+    let e = p .place in
+    let s = put-length p in
+    let here : r ≡ 0 + length xs - 0 = omega arith in
+    ap₂ take here (p .bytes) ∙ part-sets xs o 0 (omega arith)
 
 -- room for two runs is room for the first, and after it for the second
 pub first : (xs ys o : List ℕ) (at : ℕ) → at + length (xs ++ ys) ≤ length o → at + length xs ≤ length o
