@@ -34,7 +34,8 @@ pub fn split_step(g: &[u8], i: usize, hi: u64) -> Step
                     fault: Fault::Shape,
                 };
             }
-            if g.len() - next < 8 {
+            let after = next + 8;
+            if g.len() < after {
                 return Step::Bad {
                     fault: Fault::Shape,
                 };
@@ -42,7 +43,7 @@ pub fn split_step(g: &[u8], i: usize, hi: u64) -> Step
             let lo = le64(g, next);
             Step::Partner {
                 id: Id { hi: hi + value, lo },
-                next: next + 8,
+                next: after,
             }
         }
         Varint::Bad { why } => Step::Bad {
