@@ -7,9 +7,13 @@ use lib.Dec.{ltb, eqb}
 use Rattle.base.specs.Pick.{pick}
 use Rattle.base.specs.Put.{Put}
 use Rattle.codes.specs.declared.ids.Id.{Id}
+use Rattle.refusal.specs.declared.Check.{Check}
+use Rattle.frame.specs.Frame.{headerIn, recordOf}
 use Rattle.batch.specs.declared.Edge.{Edge}
 use Rattle.batch.specs.Batch.{edgeAt, edgesOf, recordCount, place}
-use Rattle.text.specs.Text.{decimal, hex}
+use Rattle.full_check.specs.Full.{fullCheck}
+use Rattle.readout.specs.ReadOut.{batchIn}
+use Rattle.text.specs.Text.{decimal, hex, refusedText}
 pub mod Laws
 
 -- ---- the line of an edge: key, partner, log number, live or dead
@@ -103,6 +107,17 @@ module _ (minor keys : ℕ) (batch : List ℕ) where
   unfoldable pub linesFrom : ℕ → ℕ → List ℕ
   linesFrom zero k = []
   linesFrom (suc n) k = lineAt k ++ linesFrom n (suc k)
+
+-- ---- a file: its lines where it passes the full check, otherwise its refusal
+
+unfoldable pub printedBy : Check → List ℕ → List ℕ
+printedBy Check.Fine f = printed (headerIn f .minor) (recordOf f .keycount) (batchIn f)
+printedBy (Check.Bad r) f = refusedText r ++ newline
+
+abbrev pub printedOf : List ℕ → List ℕ
+printedOf f = printedBy (fullCheck f) f
+
+-- ---- pages
 
 -- the most bytes that a line takes, and a few more: the first line's words and four numbers of 20 digits make 123
 abbrev pub lineRoom : ℕ
