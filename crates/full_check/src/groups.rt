@@ -3,6 +3,7 @@ ghost use mathlib.Core.Path.{_≡_};
 ghost use mathlib.Core.Bool.{_||_};
 ghost use Prim.Native.Nat.{_+_, _*_, _≤_};
 ghost use lib.ListN.{length};
+ghost use Rattle.frame.specs.Kind.{mostKeys};
 ghost use Rattle.index.specs.Order.{OffsetsRise};
 ghost use Rattle.full_check.specs.declared.groups.Groups.{Groups};
 ghost use Rattle.full_check.specs.Full.{groupsSeen};
@@ -27,7 +28,7 @@ fn refused(refusal: Refusal) -> Groups
 
 // Checks n groups by their offsets of w bytes, which rise from 0 to the partners' length.
 pub fn groups_of(partners: &[u8], offs: &[u8], w: usize, n: usize) -> Groups
-    requires { ⌜ (3 ≤ w) × (w ≤ 6) × (n ≤ 16777216) × ((n + 1) * w ≤ length (now offs)) × OffsetsRise (now offs) w n (length (now partners)) ⌝ }
+    requires { ⌜ (3 ≤ w) × (w ≤ 6) × (n ≤ mostKeys) × ((n + 1) * w ≤ length (now offs)) × OffsetsRise (now offs) w n (length (now partners)) ⌝ }
     ensures { λ r. ⌜ r ≡ groupsSeen (now (partners .entry)) (now (offs .entry)) w n ⌝ }
 {
     let mut edges: u64 = 0;

@@ -2,6 +2,7 @@
 ghost use mathlib.Core.Path.{_≡_};
 ghost use Prim.Native.Nat.{_+_, _*_, _/_, _≤_};
 ghost use lib.ListN.{length};
+ghost use Rattle.frame.specs.Kind.{mostEdges};
 ghost use Rattle.full_check.specs.Full.{deadFrom, marksOf};
 use lookup::known::mark_at;
 
@@ -13,7 +14,7 @@ pub struct Marks {
 
 // Is one of d edges from edge e on dead? Mark by mark.
 fn some_dead(s: &[u8], e: usize, d: usize) -> bool
-    requires { ⌜ (e ≤ 67108864) × (d ≤ 67108864) ⌝ }
+    requires { ⌜ (e ≤ mostEdges) × (d ≤ mostEdges) ⌝ }
     ensures { λ r. ⌜ r ≡ deadFrom d (now (s .entry)) e ⌝ }
 {
     let mut j: usize = 0;
@@ -43,7 +44,7 @@ fn bytes_dead(s: &[u8], m: usize) -> bool
 
 // Is one of the first n edges dead?
 fn edges_dead(s: &[u8], n: usize) -> bool
-    requires { ⌜ (n ≤ 67108864) × (n / 8 ≤ length (now s)) ⌝ }
+    requires { ⌜ (n ≤ mostEdges) × (n / 8 ≤ length (now s)) ⌝ }
     ensures { λ r. ⌜ r ≡ deadFrom n (now (s .entry)) 0 ⌝ }
 {
     if bytes_dead(s, n / 8) {
@@ -54,7 +55,7 @@ fn edges_dead(s: &[u8], n: usize) -> bool
 
 // The marks of n edges, which fill s but for unused bits.
 pub fn marks_of(s: &[u8], n: usize) -> Marks
-    requires { ⌜ (n ≤ 67108864) × (length (now s) ≡ (n + 7) / 8) ⌝ }
+    requires { ⌜ (n ≤ mostEdges) × (length (now s) ≡ (n + 7) / 8) ⌝ }
     ensures { λ r. ⌜ r ≡ marksOf (now (s .entry)) n ⌝ }
 {
     let dead = edges_dead(s, n);

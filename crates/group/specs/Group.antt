@@ -30,6 +30,19 @@ onVarint (Varint.Bad why) unread go = unread why
 
 -- ---- one partner, at i
 
+-- bytes of a dense partner, and of a split one's lower half; the tags
+abbrev pub denseSize : ℕ
+denseSize = 16
+
+abbrev pub lowerSize : ℕ
+lowerSize = 8
+
+abbrev pub splitTag : ℕ
+splitTag = 0x01
+
+abbrev pub denseTag : ℕ
+denseTag = 0x10
+
 -- "the upper half's difference as a varint and the lower half as u64": hi is the upper half before, 0 for the first;
 -- "An upper half never passes 2^64 − 1"
 unfoldable pub splitStep : List ℕ → ℕ → ℕ → Step
@@ -37,12 +50,12 @@ splitStep g i hi =
     onVarint (varintAt g i) (λ why. Step.Bad (Fault.Number why))
     (λ v n.
     pick (ltb (hi + v) (2 ^ 64))
-    (pick (leb (n + 8) (length g)) (Step.Partner (record { hi = hi + v; lo = leAt g n 8 }) (n + 8)) (Step.Bad Fault.Shape))
+    (pick (leb (n + lowerSize) (length g)) (Step.Partner (record { hi = hi + v; lo = leAt g n lowerSize }) (n + lowerSize)) (Step.Bad Fault.Shape))
     (Step.Bad Fault.Shape))
 
 -- "16 bytes for each partner"
 unfoldable pub denseStep : List ℕ → ℕ → Step
-denseStep g i = pick (leb (i + 16) (length g)) (Step.Partner (halvesAt g i) (i + 16)) (Step.Bad Fault.Shape)
+denseStep g i = pick (leb (i + denseSize) (length g)) (Step.Partner (halvesAt g i) (i + denseSize)) (Step.Bad Fault.Shape)
 
 unfoldable pub stepAt : Bool → List ℕ → ℕ → ℕ → Step
 stepAt dense g i hi = pick dense (denseStep g i) (splitStep g i hi)
@@ -83,8 +96,8 @@ headOf g =
     (λ d n.
     pick (eqb d 0) (Head.Bad Fault.Shape)
     (pick (leb (length g) n) (Head.Bad Fault.Shape)
-    (pick (eqb (getD g n 0) 0x01) (Head.Split d (n + 1))
-    (pick (eqb (getD g n 0) 0x10) (Head.Dense d (n + 1)) (Head.Bad Fault.Tag)))))
+    (pick (eqb (getD g n 0) splitTag) (Head.Split d (n + 1))
+    (pick (eqb (getD g n 0) denseTag) (Head.Dense d (n + 1)) (Head.Bad Fault.Tag)))))
 
 unfoldable pub onHead : Head → (Bool → ℕ → ℕ → Decoded) → Decoded
 onHead (Head.Split d i) go = go false d i

@@ -18,7 +18,7 @@ use Rattle.codes.specs.Ids.Laws.{length-idBytes, halves-back}
 use Rattle.codes.specs.Varint.{varintAt, varBytes}
 use Rattle.codes.specs.Varint.Laws.{read-back}
 use Rattle.group.specs.declared.split.Step.{Step}
-use Rattle.group.specs.Group.{Decoded, good, splitStep, stepAt, cons, walkFrom, headOf, groupOf, bytesOf}
+use Rattle.group.specs.Group.{splitTag, denseTag, Decoded, good, splitStep, stepAt, cons, walkFrom, headOf, groupOf, bytesOf}
 use Rattle.group.specs.Group.Laws.{split-good, dense-good, step-split, step-dense, walk-end, walk-more, headIs, tagOf, head-split, head-dense, group-walk}
 
 -- ---- what can be written
@@ -59,10 +59,10 @@ splitFrom hi [] = []
 splitFrom hi (p ∷ ps) = varBytes (p .hi - hi) ++ (leBytes 8 (p .lo) ++ splitFrom (p .hi) ps)
 
 unfoldable pub splitBytes : List Id → List ℕ
-splitBytes ps = varBytes (length ps) ++ (0x01 ∷ splitFrom 0 ps)
+splitBytes ps = varBytes (length ps) ++ (splitTag ∷ splitFrom 0 ps)
 
 unfoldable pub denseBytes : List Id → List ℕ
-denseBytes ps = varBytes (length ps) ++ (0x10 ∷ bytesOf ps)
+denseBytes ps = varBytes (length ps) ++ (denseTag ∷ bytesOf ps)
 
 -- ---- both at once: a partner and a payload, after the upper half hi
 

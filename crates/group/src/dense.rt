@@ -6,6 +6,7 @@ ghost use lib.ListN.{length, drop};
 ghost use Rattle.base.specs.Over.{over};
 ghost use Rattle.group.specs.Group.{walkFrom, verdictOf};
 use super::GroupVerdict;
+use super::Partner;
 use super::fault::Fault;
 use codes::ids::be64;
 use codes::ids::precedes;
@@ -17,28 +18,28 @@ pub fn check_dense(g: &[u8], at: usize, degree: u64) -> GroupVerdict
     ensures { λ r. ⌜ r ≡ verdictOf (walkFrom true degree (now (g .entry)) at 0 0) ⌝ }
 {
     let rest = g.len() - at;
-    if rest % 16 != 0 {
+    if rest % Partner::DENSE != 0 {
         return GroupVerdict::Bad {
             fault: Fault::Shape,
         };
     }
-    let count = (rest / 16) as u64;
+    let count = (rest / Partner::DENSE) as u64;
     if count != degree {
         return GroupVerdict::Bad {
             fault: Fault::Shape,
         };
     }
     let mut last = be64(g, at);
-    let mut i = at + 16;
+    let mut i = at + Partner::DENSE;
     while i < g.len() {
         let hi = be64(g, i);
-        if !precedes(g, i - 16, i, last, hi) {
+        if !precedes(g, i - Partner::DENSE, i, last, hi) {
             return GroupVerdict::Bad {
                 fault: Fault::Shape,
             };
         }
         last = hi;
-        i = i + 16;
+        i = i + Partner::DENSE;
     }
     GroupVerdict::Good {
         degree,

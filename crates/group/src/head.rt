@@ -5,6 +5,15 @@ use super::fault::Fault;
 use codes::varint::Varint;
 use codes::varint::short_at;
 
+// The two tags.
+pub struct Tag {}
+
+impl Tag {
+    pub const SPLIT: u8 = 0x01;
+
+    pub const DENSE: u8 = 0x10;
+}
+
 // The degree and where the payload begins, by the tag.
 pub enum Head {
     Split { degree: u64, at: usize },
@@ -29,13 +38,13 @@ pub fn head_of(g: &[u8]) -> Head
                 };
             }
             let tag = g[next];
-            if tag == 0x01 {
+            if tag == Tag::SPLIT {
                 return Head::Split {
                     degree: value,
                     at: next + 1,
                 };
             }
-            if tag == 0x10 {
+            if tag == Tag::DENSE {
                 return Head::Dense {
                     degree: value,
                     at: next + 1,

@@ -7,7 +7,7 @@ ghost use lib.ListN.{length};
 ghost use lib.Dec.{ltb};
 ghost use Rattle.base.specs.Over.{over};
 ghost use Rattle.codes.specs.Ids.{idNumber};
-ghost use Rattle.group.specs.Group.{groupOf, verdictOf, isGood, partnersOf, bytesOf};
+ghost use Rattle.group.specs.Group.{denseSize, groupOf, verdictOf, isGood, partnersOf, bytesOf};
 
 pub mod dense;
 pub mod fault;
@@ -22,6 +22,15 @@ use head::Head;
 use head::head_of;
 use split::check_split;
 use split::fill_split;
+
+// A partner's bytes in a dense group, and those of its lower half in a split one.
+pub struct Partner {}
+
+impl Partner {
+    pub const DENSE: usize = 16;
+
+    pub const LOWER: usize = 8;
+}
 
 // A group's partners are good, or its first fault in reading order.
 pub enum GroupVerdict {
@@ -55,7 +64,7 @@ pub fn check_group(g: &[u8]) -> GroupVerdict
 
 // Writes the partners of a good group, 16 bytes each, over the start of `out`.
 pub fn fill_group(g: &[u8], out: &mut [u8])
-    requires { ⌜ (isGood (groupOf (now g)) ≡ true) × (16 * length (partnersOf (groupOf (now g))) ≤ length (now out)) ⌝ }
+    requires { ⌜ (isGood (groupOf (now g)) ≡ true) × (denseSize * length (partnersOf (groupOf (now g))) ≤ length (now out)) ⌝ }
     ensures { λ _. ⌜ now (out .exit) ≡ over (bytesOf (partnersOf (groupOf (now (g .entry))))) (now (out .entry)) ⌝ }
 {
     match head_of(g) {

@@ -7,8 +7,9 @@ ghost use lib.ListN.{length};
 ghost use lib.Dec.{leb};
 ghost use Rattle.base.specs.Over.{over};
 ghost use Rattle.codes.specs.Ids.{idNumber};
-ghost use Rattle.group.specs.Group.{splitStep, floorOf, walkFrom, verdictOf, isGood, partnersOf, bytesOf};
+ghost use Rattle.group.specs.Group.{denseSize, splitStep, floorOf, walkFrom, verdictOf, isGood, partnersOf, bytesOf};
 use super::GroupVerdict;
+use super::Partner;
 use super::fault::Fault;
 use super::rises;
 use codes::ids::Id;
@@ -34,7 +35,8 @@ pub fn split_step(g: &[u8], i: usize, hi: u64) -> Step
                     fault: Fault::Shape,
                 };
             }
-            if g.len() - next < 8 {
+            let after = next + Partner::LOWER;
+            if g.len() < after {
                 return Step::Bad {
                     fault: Fault::Shape,
                 };
@@ -42,7 +44,7 @@ pub fn split_step(g: &[u8], i: usize, hi: u64) -> Step
             let lo = le64(g, next);
             Step::Partner {
                 id: Id { hi: hi + value, lo },
-                next: next + 8,
+                next: after,
             }
         }
         Varint::Bad { why } => Step::Bad {
@@ -98,7 +100,7 @@ pub fn check_split(g: &[u8], at: usize, degree: u64) -> GroupVerdict
 
 // Writes the partners from `at` on, which were checked.
 pub fn fill_split(g: &[u8], at: usize, degree: u64, out: &mut [u8])
-    requires { ⌜ (isGood (walkFrom false degree (now g) at 0 0) ≡ true) × (16 * degree ≤ length (now out)) ⌝ }
+    requires { ⌜ (isGood (walkFrom false degree (now g) at 0 0) ≡ true) × (denseSize * degree ≤ length (now out)) ⌝ }
     ensures { λ _. ⌜ now (out .exit) ≡ over (bytesOf (partnersOf (walkFrom false degree (now (g .entry)) at 0 0))) (now (out .entry)) ⌝ }
 {
     let mut i = at;
@@ -111,9 +113,9 @@ pub fn fill_split(g: &[u8], at: usize, degree: u64, out: &mut [u8])
                 hi = hi + value;
                 put_be64(out, to, hi);
                 let lower = le64(g, next);
-                put_be64(out, to + 8, lower);
-                i = next + 8;
-                to = to + 16;
+                put_be64(out, to + Partner::LOWER, lower);
+                i = next + Partner::LOWER;
+                to = to + Partner::DENSE;
                 k = k + 1;
             }
             Varint::Bad { why: _ } => {

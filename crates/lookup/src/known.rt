@@ -4,6 +4,7 @@ ghost use Prim.Native.Nat.{_+_, _*_, _/_, _≤_, _<_};
 ghost use lib.ListN.{length};
 ghost use Rattle.base.specs.Over.{over};
 ghost use Rattle.codes.specs.Ids.{idNumber};
+ghost use Rattle.frame.specs.Kind.{logSize, mostEdges};
 ghost use Rattle.frame.specs.Open.{bytesAt, offsetAt};
 ghost use Rattle.index.specs.Find.{findIn};
 ghost use Rattle.degrees.specs.Degrees.{edgesBefore, capped};
@@ -16,6 +17,7 @@ use degrees::edges_before;
 use frame::Opened;
 use frame::Row;
 use frame::bytes_of;
+use frame::kind::Logs;
 use index::keys::Found;
 use index::keys::find;
 use index::offsets::offset_at;
@@ -56,12 +58,12 @@ pub fn edges_of(file: &[u8], o: Opened, i: u64) -> Sum
 
 // Writes the log numbers of d edges from edge `first` on over the start of `out`.
 pub fn fill_logs(s: &[u8], first: usize, d: usize, out: &mut [u64])
-    requires { ⌜ (first ≤ 67108864) × (d ≤ 67108864) × (8 * (first + d) ≤ length (now s)) × (d ≤ length (now out)) ⌝ }
+    requires { ⌜ (first ≤ mostEdges) × (d ≤ mostEdges) × (logSize * (first + d) ≤ length (now s)) × (d ≤ length (now out)) ⌝ }
     ensures { λ _. ⌜ now (out .exit) ≡ over (logsFrom d (now (s .entry)) first) (now (out .entry)) ⌝ }
 {
     let mut j: usize = 0;
     while j < d {
-        out[j] = le64(s, 8 * (first + j));
+        out[j] = le64(s, (Logs::ROW as usize) * (first + j));
         j = j + 1;
     }
 }
@@ -79,7 +81,7 @@ pub fn mark_at(s: &[u8], e: usize) -> u8
 
 // Writes the dead marks of d edges from edge `first` on over the start of `out`.
 pub fn fill_marks(s: &[u8], first: usize, d: usize, out: &mut [u8])
-    requires { ⌜ (first ≤ 67108864) × (d ≤ 67108864) × (d ≤ length (now out)) ⌝ }
+    requires { ⌜ (first ≤ mostEdges) × (d ≤ mostEdges) × (d ≤ length (now out)) ⌝ }
     ensures { λ _. ⌜ now (out .exit) ≡ over (marksFrom d (now (s .entry)) first) (now (out .entry)) ⌝ }
 {
     let mut j: usize = 0;

@@ -16,6 +16,7 @@ use super::groups::group_of;
 use super::known::locate;
 use codes::ids::Id;
 use frame::Opened;
+use group::Partner;
 use index::keys::Found;
 use refusal::Refusal;
 
@@ -38,7 +39,7 @@ pub fn partners_of(file: &[u8], o: Opened, key: Id, out: &mut [u8]) -> Looked
         Found::At { index, compared } => match group_of(file, o, index) {
             GroupSeen::Refused { refusal } => Looked::Refused { refusal },
             GroupSeen::Good { degree } => {
-                let room = (out.len() / 16) as u64;
+                let room = (out.len() / Partner::DENSE) as u64;
                 if room < degree {
                     return too_short(degree);
                 }

@@ -29,6 +29,7 @@ use codes::ids::Id;
 use degrees::Sum;
 use frame::Opened;
 use frame::bytes_of;
+use group::Partner;
 use index::keys::Found;
 use refusal::Refusal;
 
@@ -74,7 +75,7 @@ fn degrees_refused(i: u64) -> Looked
 fn short_of(n: usize, l: usize, m: usize, d: u64) -> bool
     ensures { λ r. ⌜ r ≡ short true (lent n l m) d ⌝ }
 {
-    if ((n / 16) as u64) < d {
+    if ((n / Partner::DENSE) as u64) < d {
         return true;
     }
     if (l as u64) < d {

@@ -109,6 +109,17 @@ module _ (minor keys : ℕ) (batch : List ℕ) where
   linesFrom zero k = []
   linesFrom (suc n) k = lineAt k ++ linesFrom n (suc k)
 
+-- ---- a file: its lines where it passes the full check; "a file that the full check refuses prints only `refused N at P`"
+
+unfoldable pub printedBy : Check → List ℕ → List ℕ
+printedBy Check.Fine f = printed (headerIn f .minor) (recordOf f .keycount) (batchIn f)
+printedBy (Check.Bad r) f = refusedText r ++ newline
+
+abbrev pub printedOf : List ℕ → List ℕ
+printedOf f = printedBy (fullCheck f) f
+
+-- ---- pages
+
 -- the most bytes that a line takes, and a few more: the first line's words and four numbers of 20 digits make 123
 abbrev pub lineRoom : ℕ
 lineRoom = 128
@@ -123,17 +134,6 @@ pub record PagePut (minor keys : ℕ) (batch o out : List ℕ) (from next bytes 
   pub upto : next ≤ lineCount batch
   pub within : bytes ≤ length out
   pub lines : Put o out 0 bytes (linesFrom minor keys batch (next - from) from)
-
--- ---- a file
-
--- "A file that the full check refuses prints only `refused N at P`."
-unfoldable pub printedBy : Check → List ℕ → List ℕ
-printedBy Check.Fine f = printed (headerIn f .minor) (recordOf f .keycount) (batchIn f)
-printedBy (Check.Bad r) f = refusedText r ++ newline
-
--- what is printed of a file
-unfoldable pub printedOf : List ℕ → List ℕ
-printedOf f = printedBy (fullCheck f) f
 
 -- xs is a part of the text
 pub record PartOf (text xs : List ℕ) : Type 0 where

@@ -4,7 +4,7 @@ ghost use Prim.Native.Nat.{_+_, _*_, _≤_};
 ghost use lib.ListN.{length};
 ghost use lib.Seq.{sets};
 ghost use Rattle.batch.specs.Batch.{place, recordsOf};
-ghost use Rattle.frame.specs.Kind.{mostEdges};
+ghost use Rattle.frame.specs.Kind.{logSize, mostEdges};
 ghost use Rattle.group.specs.Group.{stepAt, denseStep, walkFrom, groupOf, partnersOf};
 ghost use Rattle.readout.specs.Edges.{edgeOf, edgesFrom, Writable};
 use batch::Edge;
@@ -12,6 +12,8 @@ use batch::put_edge;
 use codes::ids::Id;
 use codes::ids::id_at;
 use codes::little::le64;
+use frame::kind::Logs;
+use group::Partner;
 use group::fault::Fault;
 use group::head::Head;
 use group::head::head_of;
@@ -23,19 +25,19 @@ use lookup::known::mark_at;
 fn dense_step(g: &[u8], i: usize) -> Step
     ensures { λ r. ⌜ r ≡ denseStep (now (g .entry)) i ⌝ }
 {
-    if g.len() < 16 {
+    if g.len() < Partner::DENSE {
         return Step::Bad {
             fault: Fault::Shape,
         };
     }
-    if g.len() - 16 < i {
+    if g.len() - Partner::DENSE < i {
         return Step::Bad {
             fault: Fault::Shape,
         };
     }
     Step::Partner {
         id: id_at(g, i),
-        next: i + 16,
+        next: i + Partner::DENSE,
     }
 }
 
@@ -51,10 +53,10 @@ fn step_at(dense: bool, g: &[u8], i: usize, hi: u64) -> Step
 
 // Edge e of a file: a key and a partner, with its log number and dead mark.
 fn edge_with(logs: &[u8], dead: &[u8], key: Id, partner: Id, e: usize) -> Edge
-    requires { ⌜ (e ≤ mostEdges) × (8 * e + 8 ≤ length (now logs)) ⌝ }
+    requires { ⌜ (e ≤ mostEdges) × (logSize * e + logSize ≤ length (now logs)) ⌝ }
     ensures { λ r. ⌜ r ≡ edgeOf (now (logs .entry)) (now (dead .entry)) key partner e ⌝ }
 {
-    let log = le64(logs, 8 * e);
+    let log = le64(logs, (Logs::ROW as usize) * e);
     let mark = mark_at(dead, e);
     Edge {
         key,

@@ -39,10 +39,10 @@ pub fn put_header(out: &mut [u8], flags: u64, ids: &[u8])
 {
     put_le(out, 0, 8, Header::MAGIC);
     put_le(out, 8, 1, 1);
-    put_le(out, 9, 1, 0);
+    put_le(out, Header::MINOR, 1, 0);
     put_le(out, 10, 2, Header::SIZE as u64);
-    put_le(out, 12, 4, flags);
-    put_words(out, 16, ids);
+    put_le(out, Header::FLAGS, 4, flags);
+    put_words(out, Header::EDGE_TYPE, ids);
 }
 
 // Writes a table entry without a name.

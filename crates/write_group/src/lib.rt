@@ -21,6 +21,8 @@ use codes::ids::same_id;
 use codes::little::put_le;
 use codes::varint::put_varint;
 use codes::varint::varint_len;
+use group::Partner;
+use group::head::Tag;
 use write_source::edge_of;
 
 // A group: the edge after its last, and its split cost.
@@ -33,7 +35,7 @@ pub struct Span {
 fn partner_cost(up: u64) -> usize
     ensures { λ r. ⌜ (r ≡ length (varBytes up) + 8) × (r ≤ 18) ⌝ }
 {
-    varint_len(up) + 8
+    varint_len(up) + Partner::LOWER
 }
 
 // The group that begins at edge i, of n edges.
@@ -66,7 +68,7 @@ pub fn dense_by(keys: usize, degree: usize, cost: usize) -> bool
     requires { ⌜ (keys ≤ mostEdges) × (degree ≤ mostEdges) ⌝ }
     ensures { λ r. ⌜ r ≡ denseBy keys degree cost ⌝ }
 {
-    if 16 * degree <= cost {
+    if Partner::DENSE * degree <= cost {
         return true;
     }
     if degree <= 1024 {
@@ -89,7 +91,7 @@ pub fn block_size(degree: usize, cost: usize, keys: usize) -> Size
     let head = varint_len(degree as u64) + 1;
     if dense_by(keys, degree, cost) {
         return Size {
-            bytes: head + 16 * degree,
+            bytes: head + Partner::DENSE * degree,
             dense: true,
         };
     }
@@ -105,8 +107,8 @@ fn put_partner(out: &mut [u8], at: usize, up: u64, lo: u64) -> usize
     ensures { λ r. ⌜ Put (now (out .entry)) (now (out .exit)) at r (varBytes up ++ leBytes 8 lo) ⌝ }
 {
     let mid = put_varint(out, at, up);
-    put_le(out, mid, 8, lo);
-    mid + 8
+    put_le(out, mid, Partner::LOWER, lo);
+    mid + Partner::LOWER
 }
 
 // Writes the partners, split.
@@ -139,7 +141,7 @@ fn put_dense(kind: u8, a: &[u8], b: &[u8], i: usize, j: usize, out: &mut [u8], a
         let e = edge_of(kind, a, b, k);
         let p = e.partner;
         put_id(out, to, p);
-        to = to + 16;
+        to = to + Partner::DENSE;
         k = k + 1;
     }
     to
@@ -170,9 +172,9 @@ pub fn put_block(
     ensures { λ r. ⌜ Put (now (out .entry)) (now (out .exit)) at r (writtenAs dense (partnersIn (part (sourceEdges kind (now (a .entry)) (now (b .entry))) i j))) ⌝ }
 {
     if dense {
-        let mid = put_head(out, at, (j - i) as u64, 16);
+        let mid = put_head(out, at, (j - i) as u64, Tag::DENSE);
         return put_dense(kind, a, b, i, j, out, mid);
     }
-    let mid = put_head(out, at, (j - i) as u64, 1);
+    let mid = put_head(out, at, (j - i) as u64, Tag::SPLIT);
     put_split(kind, a, b, i, j, out, mid)
 }

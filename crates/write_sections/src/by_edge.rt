@@ -12,6 +12,7 @@ ghost use Rattle.batch_groups.specs.Groups.{none};
 ghost use Rattle.write_image.specs.Image.{logBytes, bit, octet, tombBytes};
 ghost use Rattle.write_source.specs.Source.{sourceEdges};
 use codes::little::put_le;
+use frame::kind::Logs;
 use write_source::dead_of;
 use write_source::log_of;
 
@@ -32,8 +33,8 @@ pub fn put_logs(
     let mut to = at;
     while k < j {
         let log = log_of(kind, a, b, k);
-        put_le(out, to, 8, log);
-        to = to + 8;
+        put_le(out, to, Logs::ROW as usize, log);
+        to = to + (Logs::ROW as usize);
         k = k + 1;
     }
     to
@@ -82,7 +83,7 @@ pub fn put_logs_tombs(kind: u8, a: &[u8], b: &[u8], n: usize, out: &mut [u8], at
     let full = n / 8;
     let mut q: usize = 0;
     let mut p = at;
-    let mut t = at + 8 * n;
+    let mut t = at + (Logs::ROW as usize) * n;
     while q < full {
         put_octet(kind, a, b, 8 * q, 8 * q + 8, out, p, t);
         p = p + 64;

@@ -23,7 +23,7 @@ use Rattle.group.specs.declared.fault.Fault.{Fault}
 use Rattle.group.specs.declared.head.Head.{Head}
 use Rattle.group.specs.declared.split.Step.{Step}
 use Rattle.group.specs.declared.GroupVerdict.{GroupVerdict}
-use Rattle.group.specs.Group.{Decoded, good, bad, onVarint, splitStep, denseStep, stepAt, onStep, cons, walkFrom, floorOf, degreeOf, headOf, onHead, groupOf, isGood, partnersOf, bytesOf, verdictOf}
+use Rattle.group.specs.Group.{splitTag, denseTag, Decoded, good, bad, onVarint, splitStep, denseStep, stepAt, onStep, cons, walkFrom, floorOf, degreeOf, headOf, onHead, groupOf, isGood, partnersOf, bytesOf, verdictOf}
 
 -- ---- a partner of a split group
 
@@ -172,7 +172,7 @@ abbrev pub headIs : Bool → ℕ → ℕ → Head
 headIs dense d i = pick dense (Head.Dense d i) (Head.Split d i)
 
 abbrev pub tagOf : Bool → ℕ
-tagOf dense = pick dense 0x10 0x01
+tagOf dense = pick dense denseTag splitTag
 
 pub record Headed (g : List ℕ) (dense : Bool) (d i : ℕ) : Type 0 where
   pub some : 1 ≤ d

@@ -155,11 +155,11 @@ module _ (minor keys : ℕ) (s : List ℕ) where
 -- ---- a file
 
 pub refused-printed : (f : List ℕ) (r : Refusal) → fullCheck f ≡ Check.Bad r → printedOf f ≡ refusedText r ++ newline
-unfolding printedOf printedBy
+unfolding printedBy
 refused-printed f r e = ap (λ (c : Check). printedBy c f) e
 
 pub passed-printed : (f : List ℕ) (keys : ℕ) (batch : List ℕ) (minor : ℕ) → Passed f keys batch → minor ≡ getD f 9 0 → printedOf f ≡ printed minor keys batch
-unfolding printedOf printedBy headerIn
+unfolding printedBy headerIn
 passed-printed f keys batch minor p m =
     ap (λ (c : Check). printedBy c f) (p .fine) ∙ (λ i. printed (sym m i) (sym (p .count) i) (sym (p .read) i))
 

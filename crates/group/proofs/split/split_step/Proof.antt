@@ -11,18 +11,12 @@ use borrow.Author.Needs.{needs}
 use Rattle.group.proofs.split.split_step.Statement.{statement}
 use Rattle.group.proofs.split.split_step.Tie as tie
 
--- whether a sum fits, and whether eight bytes are left
+-- whether a sum fits
 passes : (hi v : ℕ) → hi < 2 ^ 64 → 18446744073709551615 - hi < v → 2 ^ 64 ≤ hi + v
 passes hi v b h = omega arith
 
 keeps : (hi v : ℕ) → hi < 2 ^ 64 → v ≤ 18446744073709551615 - hi → hi + v < 2 ^ 64
 keeps hi v b h = omega arith
-
-short : (len n : ℕ) → n ≤ len → len - n < 8 → len < n + 8
-short len n b h = omega arith
-
-long : (len n : ℕ) → n ≤ len → 8 ≤ len - n → n + 8 ≤ len
-long len n b h = omega arith
 
 -- the difference that was read
 got : (p : tie.After-known-told) → varintAt (p .before .before .before .before .before .args .g .now) (p .before .before .before .before .before .args .i) ≡ Value (p .before .value .given .0 .0) (p .before .value .given .0 .1 .0)
@@ -45,13 +39,14 @@ returns c =
     let n = p .before .value .given .0 .1 .0 in
     sym (split-over (a .g .now) (a .i) (a .hi) v n (got p) (passes (a .hi) v (p .before .before .before .before .before .fits .hi .fits) (c .if1 .taken)))
 
-sub-if2 : tie.Need-sub-if2
-sub-if2 c =
+add-after : tie.Need-add-after
+add-after c =
     let p = c .before in
     let a = p .before .before .before .before .before .args in
     let v = p .before .value .given .0 .0 in
     let n = p .before .value .given .0 .1 .0 in
-    varint-next (a .g .now) (a .i) v n (got p) .1
+    let next = varint-next (a .g .now) (a .i) v n (got p) .1 in
+    omega arith
 
 returns-2 : tie.Need-returns-2
 returns-2 c =
@@ -59,17 +54,13 @@ returns-2 c =
     let a = p .before .before .before .before .before .args in
     let v = p .before .value .given .0 .0 in
     let n = p .before .value .given .0 .1 .0 in
-    let next = varint-next (a .g .now) (a .i) v n (got p) .1 in
-    sym (split-short (a .g .now) (a .i) (a .hi) v n (got p) (keeps (a .hi) v (p .before .before .before .before .before .fits .hi .fits) (c .before .if1 .left)) (short _ n next (c .if2 .taken)))
+    sym (split-short (a .g .now) (a .i) (a .hi) v n (got p) (keeps (a .hi) v (p .before .before .before .before .before .fits .hi .fits) (c .before .if1 .left)) (c .if2 .taken))
 
 le64-requires : tie.Need-le64-requires
 le64-requires c κs = search needs
 
-add-t10 : tie.Need-add-t10
-add-t10 c = search needs
-
-add-t13 : tie.Need-add-t13
-add-t13 c = search needs
+add-t11 : tie.Need-add-t11
+add-t11 c = search needs
 
 enum-known-why : tie.Need-enum-known-why
 enum-known-why c = search needs
@@ -80,9 +71,8 @@ returns-3 c =
     let a = p .before .before .before .before .before .args in
     let v = p .before .value .given .0 .0 in
     let n = p .before .value .given .0 .1 .0 in
-    let next = varint-next (a .g .now) (a .i) v n (got p) .1 in
     ap (λ (t : ℕ). Step.Partner (record { hi = a .hi + v; lo = t }) (n + 8)) (c .le64 .ensures)
-    ∙ sym (split-good (a .g .now) (a .i) (a .hi) v n (got p) (keeps (a .hi) v (p .before .before .before .before .before .fits .hi .fits) (c .before .before .if1 .left)) (long _ n next (c .before .if2 .left)))
+    ∙ sym (split-good (a .g .now) (a .i) (a .hi) v n (got p) (keeps (a .hi) v (p .before .before .before .before .before .fits .hi .fits) (c .before .before .if1 .left)) (c .before .if2 .left))
 
 returns-4 : tie.Need-returns-4
 returns-4 c = let a = c .before .before .before .before .before .args in sym (split-unread (a .g .now) (a .i) (a .hi) _ (sym (c .before .before .before .short-at .ensures) ∙ c .before .why .given .1))
@@ -95,11 +85,10 @@ split-step-spec =
     enum-known-value
     sub-if1
     returns
-    sub-if2
+    add-after
     returns-2
     le64-requires
-    add-t10
-    add-t13
+    add-t11
     enum-known-why
     returns-3
     returns-4)
