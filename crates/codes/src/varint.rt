@@ -1,10 +1,10 @@
 // Varints: numbers below 2^64 in their shortest form, seven bits to a byte, the lowest first; the top bit says that
 // another byte follows.
 ghost use mathlib.Core.Path.{_≡_};
-ghost use Prim.Native.Nat.{_+_, _^_, _≤_, _<_};
+ghost use Prim.Native.Nat.{_+_, _-_, _^_, _≤_, _<_};
 ghost use lib.ListN.{length};
 ghost use Rattle.base.specs.Put.{Put};
-ghost use Rattle.codes.specs.Varint.{lastByte, varintAt, varBytes};
+ghost use Rattle.codes.specs.Varint.{lastByte, varFrom, varintAt, varBytes};
 
 // Why no number is read.
 pub enum Unread {
@@ -51,14 +51,15 @@ fn last_byte(b: u64, i: usize, x: u64, m: u64, k: usize) -> Varint
     }
 }
 
-// The number at `at`, and the place after it.
-pub fn varint_at(s: &[u8], at: usize) -> Varint
-    ensures { λ r. ⌜ r ≡ varintAt (now (s .entry)) at ⌝ }
+// What is left of a number after `count` bytes, from `first` on, over what they give, `low`, with the weight of the next.
+fn varint_from(s: &[u8], first: usize, low: u64, weight: u64, count: usize) -> Varint
+    requires { ⌜ (count ≤ 10) × (low < weight) × (weight ≡ 128 ^ count) ⌝ }
+    ensures { λ r. ⌜ r ≡ varFrom (10 - count) (now (s .entry)) first low weight ⌝ }
 {
-    let mut i = at;
-    let mut x: u64 = 0;
-    let mut m: u64 = 1;
-    let mut k: usize = 0;
+    let mut i = first;
+    let mut x = low;
+    let mut m = weight;
+    let mut k = count;
     while k < 10 {
         if s.len() <= i {
             return Varint::Bad { why: Unread::Cut };
@@ -78,7 +79,14 @@ pub fn varint_at(s: &[u8], at: usize) -> Varint
     Varint::Bad { why: Unread::Large }
 }
 
-// The same, but a number of one byte or two is read without a call. All else, every fault too, is left to `varint_at`.
+// The number at `at`, and the place after it.
+pub fn varint_at(s: &[u8], at: usize) -> Varint
+    ensures { λ r. ⌜ r ≡ varintAt (now (s .entry)) at ⌝ }
+{
+    varint_from(s, at, 0, 1, 0)
+}
+
+// The same, but a number of one byte or two is read without a call, and a longer one goes on with its third byte.
 pub fn short_at(s: &[u8], at: usize) -> Varint
     ensures { λ r. ⌜ r ≡ varintAt (now (s .entry)) at ⌝ }
 {
@@ -92,13 +100,14 @@ pub fn short_at(s: &[u8], at: usize) -> Varint
         }
         if at + 1 < s.len() {
             let c = s[at + 1] as u64;
+            if 128 <= c {
+                return varint_from(s, at + 2, b % 128 + c % 128 * 128, 16384, 2);
+            }
             if 1 <= c {
-                if c < 128 {
-                    return Varint::Value {
-                        value: b % 128 + 128 * c,
-                        next: at + 2,
-                    };
-                }
+                return Varint::Value {
+                    value: b % 128 + 128 * c,
+                    next: at + 2,
+                };
             }
         }
     }

@@ -25,7 +25,7 @@ use Rattle.frame.specs.Open.{keyAt, offsetAt, offsetGood, offsetsFrom, fenceGoo
 use Rattle.lookup.specs.Lookup.{markAt}
 use Rattle.batch.specs.declared.Edge.{Edge}
 use Rattle.batch_groups.specs.Groups.{none, anyDead, Group, IdFits, Grouped}
-use Rattle.write_image.specs.Image.{keysIn, keyBytes, partnerBytes, offsetBytes, tombBytes, stride, fenceBytes, fencesOf}
+use Rattle.write_image.specs.Image.{keysIn, keyBytes, partnerBytes, offsetBytes, tombBytes, fenceBytes, fencesOf}
 use Rattle.write_image.specs.Image as image
 use Rattle.write_image.specs.Image.Laws.{length-keysIn, length-fence, length-fences, fences-are, fence-is, length-tombs}
 use Rattle.laid_out.specs.Rows.{leAt-at, leAt-past}

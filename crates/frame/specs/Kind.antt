@@ -1,5 +1,5 @@
 -- Section kinds, their numbers, rows and lengths; header, footer and trailer; bounds. Each stands here once.
-use Prim.Native.Nat.{ℕ, suc, _+_, _*_, _/_, _^_}
+use Prim.Native.Nat.{ℕ, suc, _+_, _-_, _*_, _/_, _^_}
 use mathlib.Core.Bool.{Bool, true, false, not, _||_}
 use mathlib.Core.List.{List, [], _∷_}
 use lib.ListN.{length}
@@ -99,6 +99,10 @@ fencesLen m = fencesHead + fenceSize * m
 -- "stride 256" in the writer's fences
 abbrev pub fenceStride : ℕ
 fenceStride = 256
+
+-- a fence for every so many keys, and one for the rest
+abbrev pub fenceCount : ℕ → ℕ
+fenceCount n = (n + (fenceStride - 1)) / fenceStride
 
 -- ---- header, footer, trailer
 

@@ -23,12 +23,12 @@ impl Keys {
         Keys::ROW * keys
     }
 
-    // The table entry of such a section, from its place, its counts and its checksum.
-    pub fn entry(start: u64, keys: u64, sum: u64) -> Row
+    // The table entry of such a section, from its place and its counts; it is not summed yet.
+    pub fn entry(start: u64, keys: u64) -> Row
         requires { ⌜ keys ≤ kind.mostBytes ⌝ }
-        ensures { λ r. ⌜ r ≡ rawRow kind.keys start (kind.keysLen keys) sum ⌝ }
+        ensures { λ r. ⌜ r ≡ rawRow kind.keys start (kind.keysLen keys) 0 ⌝ }
     {
-        Row::raw(Keys::KIND, start, Keys::bytes(keys), sum)
+        Row::raw(Keys::KIND, start, Keys::bytes(keys), 0)
     }
 }
 
@@ -54,12 +54,12 @@ impl Offsets {
         (keys + 1) * width
     }
 
-    // The table entry of such a section, from its place, its counts and its checksum.
-    pub fn entry(start: u64, keys: u64, width: u64, sum: u64) -> Row
+    // The table entry of such a section, from its place and its counts; it is not summed yet.
+    pub fn entry(start: u64, keys: u64, width: u64) -> Row
         requires { ⌜ (keys ≤ kind.mostBytes) × (width ≤ 255) ⌝ }
-        ensures { λ r. ⌜ r ≡ rawRow kind.offsets start (kind.offsetsLen keys width) sum ⌝ }
+        ensures { λ r. ⌜ r ≡ rawRow kind.offsets start (kind.offsetsLen keys width) 0 ⌝ }
     {
-        Row::raw(Offsets::KIND, start, Offsets::bytes(keys, width), sum)
+        Row::raw(Offsets::KIND, start, Offsets::bytes(keys, width), 0)
     }
 }
 
@@ -70,11 +70,11 @@ impl Partners {
 
     pub const SLOT: usize = 2;
 
-    // The table entry of such a section, from its place, its counts and its checksum.
-    pub fn entry(start: u64, bytes: u64, sum: u64) -> Row
-        ensures { λ r. ⌜ r ≡ rawRow kind.partners start bytes sum ⌝ }
+    // The table entry of such a section, from its place and its length; it is not summed yet.
+    pub fn entry(start: u64, bytes: u64) -> Row
+        ensures { λ r. ⌜ r ≡ rawRow kind.partners start bytes 0 ⌝ }
     {
-        Row::raw(Partners::KIND, start, bytes, sum)
+        Row::raw(Partners::KIND, start, bytes, 0)
     }
 }
 
@@ -95,12 +95,12 @@ impl Logs {
         Logs::ROW * edges
     }
 
-    // The table entry of such a section, from its place, its counts and its checksum.
-    pub fn entry(start: u64, edges: u64, sum: u64) -> Row
+    // The table entry of such a section, from its place and its counts; it is not summed yet.
+    pub fn entry(start: u64, edges: u64) -> Row
         requires { ⌜ edges ≤ kind.mostBytes ⌝ }
-        ensures { λ r. ⌜ r ≡ rawRow kind.logs start (kind.logsLen edges) sum ⌝ }
+        ensures { λ r. ⌜ r ≡ rawRow kind.logs start (kind.logsLen edges) 0 ⌝ }
     {
-        Row::raw(Logs::KIND, start, Logs::bytes(edges), sum)
+        Row::raw(Logs::KIND, start, Logs::bytes(edges), 0)
     }
 }
 
@@ -119,12 +119,12 @@ impl Tombstones {
         (edges + 7) / 8
     }
 
-    // The table entry of such a section, from its place, its counts and its checksum.
-    pub fn entry(start: u64, edges: u64, sum: u64) -> Row
+    // The table entry of such a section, from its place and its counts; it is not summed yet.
+    pub fn entry(start: u64, edges: u64) -> Row
         requires { ⌜ edges ≤ kind.mostBytes ⌝ }
-        ensures { λ r. ⌜ r ≡ rawRow kind.tombstones start (kind.tombstonesLen edges) sum ⌝ }
+        ensures { λ r. ⌜ r ≡ rawRow kind.tombstones start (kind.tombstonesLen edges) 0 ⌝ }
     {
-        Row::raw(Tombstones::KIND, start, Tombstones::bytes(edges), sum)
+        Row::raw(Tombstones::KIND, start, Tombstones::bytes(edges), 0)
     }
 }
 
@@ -145,6 +145,14 @@ impl Fences {
 
     pub const ROUND: usize = 255;
 
+    // How many fences the writer gives so many keys.
+    pub fn count(keys: usize) -> usize
+        requires { ⌜ keys ≤ kind.mostBytes ⌝ }
+        ensures { λ r. ⌜ r ≡ kind.fenceCount keys ⌝ }
+    {
+        (keys + Fences::ROUND) / Fences::STRIDE
+    }
+
     // The length that the counts give.
     pub fn bytes(entries: u64) -> u64
         requires { ⌜ entries ≤ kind.mostBytes ⌝ }
@@ -153,12 +161,12 @@ impl Fences {
         Fences::HEAD + Fences::ROW * entries
     }
 
-    // The table entry of such a section, from its place, its counts and its checksum.
-    pub fn entry(start: u64, entries: u64, sum: u64) -> Row
+    // The table entry of such a section, from its place and its counts; it is not summed yet.
+    pub fn entry(start: u64, entries: u64) -> Row
         requires { ⌜ entries ≤ kind.mostBytes ⌝ }
-        ensures { λ r. ⌜ r ≡ rawRow kind.fences start (kind.fencesLen entries) sum ⌝ }
+        ensures { λ r. ⌜ r ≡ rawRow kind.fences start (kind.fencesLen entries) 0 ⌝ }
     {
-        Row::raw(Fences::KIND, start, Fences::bytes(entries), sum)
+        Row::raw(Fences::KIND, start, Fences::bytes(entries), 0)
     }
 }
 

@@ -11,11 +11,13 @@ use Rattle.base.specs.Over.{part}
 use Rattle.base.specs.Put as P
 use Rattle.base.specs.Put.{Put, Left}
 use Rattle.codes.specs.Little.{leBytes}
+use Rattle.frame.specs.declared.Row.{Row}
 use Rattle.frame.specs.Kind as kind
+use Rattle.frame.specs.Frame.{rawRow}
 use Rattle.frame.specs.Layout.{Section, rawSection, payload, entry, entries, bodyBytes}
 use Rattle.batch.specs.declared.Edge.{Edge}
 use Rattle.batch_groups.specs.Groups.{groupsOf}
-use Rattle.write_image.specs.Image.{bit, fenceCount, fenced, sectionsBy}
+use Rattle.write_image.specs.Image.{bit, fenced, sectionsBy}
 use Rattle.write_frame.specs.Standing.{Extent, entryIn, entriesIn, entries-on, entries-none, total, entries-append, extents, length-extents, part-below, entries-standing}
 use Rattle.write_frame.specs.Runs.{countBytes}
 use Rattle.write_plan.specs.Size.{tombSize, fencesSize, sectionCount, Fitting}
@@ -54,6 +56,14 @@ pub length-entryIn : (s : List ℕ) (k start len : ℕ) → length (entryIn s k 
 unfolding entry leBytes
 length-entryIn s k start len = refl
 
+-- what is written of a row r is the entry of what r names, and that is what it must have room for
+module _ {r : Row} (k start len : ℕ) (e : r ≡ rawRow k start len 0) where
+  pub named : {o o₁ : List ℕ} {at p : ℕ} → Put o o₁ at p (entryIn o (r .kind) (r .start) (r .len)) → Put o o₁ at p (entryIn o k start len)
+  named {o} {o₁} {at} {p} w = subst (λ (x : Row). Put o o₁ at p (entryIn o (x .kind) (x .start) (x .len))) e w
+
+  pub asked : {n at : ℕ} → (start + len ≤ n) × (at + 28 ≤ n) × (at ≤ 4294967296) → (r .start + r .len ≤ n) × (at + 28 ≤ n) × (at ≤ 4294967296)
+  asked {n} {at} h = subst (λ (x : Row). (x .start + x .len ≤ n) × (at + 28 ≤ n) × (at ≤ 4294967296)) (sym e) h
+
 -- an entry of a section below `at` is written
 pub entry-put : {out : List ℕ} {to : ℕ} {xs : List ℕ} {o : List ℕ} {at : ℕ} {ys : List ℕ} {out′ : List ℕ} {r : ℕ} (k start len : ℕ)
     → Left out to (entryIn o k start len ++ xs) o at ys → start + len ≤ at → at ≤ to → Put out out′ to r (entryIn out k start len) → Left out′ r xs o at ys
@@ -86,3 +96,23 @@ pub last-entries : (s : List ℕ) (start n : ℕ) (dead : Bool) (keys : ℕ) →
     ≡ pick dead (entryIn s kind.tombstones start (tombSize n dead)) [] ++ pick (fenced keys) (entryIn s kind.fences (start + tombSize n dead) (fencesSize keys)) []
 unfolding lastBy
 last-entries s start n dead keys = last-of s start dead (fenced keys) ((n + 7) / 8) (fencesSize keys)
+
+-- ---- an entry that is there or not
+
+module _ (o : List ℕ) (at : ℕ) (there : Bool) (k start len : ℕ) where
+  abbrev pub here : List ℕ
+  here = pick there (entryIn o k start (pick there len 0)) []
+
+  pub here-room : there ≡ true → start + pick there len 0 ≤ length o → at + length here ≤ length o → (start + len ≤ length o) × (at + 28 ≤ length o)
+  here-room t h g =
+      let l = length-entryIn o k start len in
+      let n : pick there len 0 ≡ len = ap (λ (b : Bool). pick b len 0) t in
+      let m : length here ≡ length (entryIn o k start len) = ap (λ (b : Bool). length (pick b (entryIn o k start (pick b len 0)) [])) t in
+      (omega arith, omega arith)
+
+  pub here-put : there ≡ true → {o₁ : List ℕ} {p : ℕ} → Put o o₁ at p (entryIn o k start len) → Put o o₁ at p here
+  here-put t {o₁} {p} w = subst (λ (b : Bool). Put o o₁ at p (pick b (entryIn o k start (pick b len 0)) [])) (sym t) w
+
+  pub here-not : there ≡ false → Put o o at at here
+  here-not t =
+      subst (λ (b : Bool). Put o o at at (pick b (entryIn o k start (pick b len 0)) [])) (sym t) (record { place = sym (add-zero at); bytes = refl })

@@ -1,11 +1,14 @@
 // The footer body, over the sections that stand in the output from 64 on.
 ghost use mathlib.Core.Path.{_≡_};
 ghost use Prim.Native.Nat.{_+_, _*_, _≤_};
+ghost use mathlib.Core.List.{[]};
 ghost use lib.ListN.{length};
+ghost use Rattle.base.specs.Pick.{pick};
 ghost use Rattle.base.specs.Put.{Put};
-ghost use Rattle.frame.specs.Kind.{mostEdges, mostBytes};
-ghost use Rattle.write_frame.specs.Standing.{entriesIn, total};
-ghost use Rattle.write_plan.specs.Size.{sectionsSize};
+ghost use Rattle.frame.specs.Kind.{tombstones, fences, mostEdges, mostBytes};
+ghost use Rattle.write_image.specs.Image.{fenced};
+ghost use Rattle.write_frame.specs.Standing.{entryIn, entriesIn, total};
+ghost use Rattle.write_plan.specs.Size.{tombSize, fencesSize, sectionsSize};
 ghost use Rattle.write_plan.specs.Parts.{four, lastBy};
 ghost use Rattle.write_contents.specs.Footer.{bodyIn};
 use codes::little::put_le;
@@ -19,30 +22,51 @@ use frame::kind::Partners;
 use frame::kind::Tombstones;
 use write_frame::put_counts;
 use write_frame::put_entry;
-use write_frame::put_entry_if;
-use write_plan::fences_size;
 use write_plan::section_count;
 use write_plan::tomb_size;
 
 // The entries of keys, offsets, partners and log numbers.
 fn put_four(out: &mut [u8], at: usize, keys: usize, w: usize, partners: usize, n: usize) -> usize
-    requires { ⌜ (64 + (16 * keys + ((keys + 1) * w + (partners + 8 * n))) ≤ at) × (at + 112 ≤ length (now out)) × (at ≤ 2147483648) ⌝ }
+    requires { ⌜ (64 + (16 * keys + ((keys + 1) * w + (partners + 8 * n))) ≤ at) × (at + 112 ≤ length (now out)) × (at ≤ 2147483648) × (w ≤ 4) ⌝ }
     ensures { λ r. ⌜ Put (now (out .entry)) (now (out .exit)) at r (entriesIn (now (out .entry)) 64 (four keys w partners n)) ⌝ }
 {
-    let size = (keys + 1) * w;
     let offsets = Header::SIZE + (Keys::ROW as usize) * keys;
-    let parts = offsets + size;
+    let parts = offsets + (keys + 1) * w;
     let logs = parts + partners;
-    let p = put_entry(
+    let p = put_entry(out, at, Keys::entry(Header::SIZE as u64, keys as u64));
+    let q = put_entry(
         out,
-        at,
-        Keys::KIND,
-        Header::SIZE,
-        (Keys::ROW as usize) * keys,
+        p,
+        Offsets::entry(offsets as u64, keys as u64, w as u64),
     );
-    let q = put_entry(out, p, Offsets::KIND, offsets, size);
-    let r = put_entry(out, q, Partners::KIND, parts, partners);
-    put_entry(out, r, Logs::KIND, logs, (Logs::ROW as usize) * n)
+    let r = put_entry(out, q, Partners::entry(parts as u64, partners as u64));
+    put_entry(out, r, Logs::entry(logs as u64, n as u64))
+}
+
+// The entry of the tombstones that stand from `start` on, if they are there.
+fn put_tombs_entry(out: &mut [u8], at: usize, start: usize, n: usize, dead: bool) -> usize
+    requires { ⌜ (n ≤ mostEdges) × (start + tombSize n dead ≤ length (now out)) × (at + length (pick dead (entryIn (now out) tombstones start (tombSize n dead)) []) ≤ length (now out)) × (at ≤ 4294967296) ⌝ }
+    ensures { λ r. ⌜ Put (now (out .entry)) (now (out .exit)) at r (pick dead (entryIn (now (out .entry)) tombstones start (tombSize n dead)) []) ⌝ }
+{
+    if dead {
+        return put_entry(out, at, Tombstones::entry(start as u64, n as u64));
+    }
+    at
+}
+
+// The same of the fences.
+fn put_fences_entry(out: &mut [u8], at: usize, start: usize, keys: usize) -> usize
+    requires { ⌜ (keys ≤ mostEdges) × (start + fencesSize keys ≤ length (now out)) × (at + length (pick (fenced keys) (entryIn (now out) fences start (fencesSize keys)) []) ≤ length (now out)) × (at ≤ 4294967296) ⌝ }
+    ensures { λ r. ⌜ Put (now (out .entry)) (now (out .exit)) at r (pick (fenced keys) (entryIn (now (out .entry)) fences start (fencesSize keys)) []) ⌝ }
+{
+    if (Bounds::UNFENCED as usize) < keys {
+        return put_entry(
+            out,
+            at,
+            Fences::entry(start as u64, Fences::count(keys) as u64),
+        );
+    }
+    at
 }
 
 // The entries of tombstones and fences, each there or not, that stand from `start` on.
@@ -51,16 +75,8 @@ fn put_last(out: &mut [u8], at: usize, start: usize, n: usize, dead: bool, keys:
     ensures { λ r. ⌜ Put (now (out .entry)) (now (out .exit)) at r (entriesIn (now (out .entry)) start (lastBy n dead keys)) ⌝ }
 {
     let tombs = tomb_size(n, dead);
-    let fences = fences_size(keys);
-    let p = put_entry_if(dead, out, at, Tombstones::KIND, start, tombs);
-    put_entry_if(
-        (Bounds::UNFENCED as usize) < keys,
-        out,
-        p,
-        Fences::KIND,
-        start + tombs,
-        fences,
-    )
+    let p = put_tombs_entry(out, at, start, n, dead);
+    put_fences_entry(out, p, start + tombs, keys)
 }
 
 // The body: section count, entries, counts.

@@ -7,8 +7,6 @@ use Rattle.write_frame.proofs.put_header as put-header
 use Rattle.write_frame.proofs.put_header.Reads as put-header-reads
 use Rattle.write_frame.proofs.put_entry as put-entry
 use Rattle.write_frame.proofs.put_entry.Reads as put-entry-reads
-use Rattle.write_frame.proofs.put_entry_if as put-entry-if
-use Rattle.write_frame.proofs.put_entry_if.Reads as put-entry-if-reads
 use Rattle.write_frame.proofs.put_counts as put-counts
 use Rattle.write_frame.proofs.put_counts.Reads as put-counts-reads
 use Rattle.write_frame.proofs.put_trailer as put-trailer
@@ -20,11 +18,7 @@ put-header-determined κs a pre r₁ r₂ w₁ w₂ p q =
 
 pub put-entry-determined : Determined put-entry.ended put-entry-reads.Pre put-entry-reads.Post
 put-entry-determined κs a pre r₁ r₂ w₁ w₂ p q =
-    (p .place ∙ sym (q .place), ap (λ (l : List ℕ). (l, (tt {0}, (tt {0}, (tt {0}, (tt {0}, tt {0})))))) (p .bytes ∙ sym (q .bytes)))
-
-pub put-entry-if-determined : Determined put-entry-if.ended put-entry-if-reads.Pre put-entry-if-reads.Post
-put-entry-if-determined κs a pre r₁ r₂ w₁ w₂ p q =
-    (p .place ∙ sym (q .place), ap (λ (l : List ℕ). (tt {0}, (l, (tt {0}, (tt {0}, (tt {0}, (tt {0}, tt {0}))))))) (p .bytes ∙ sym (q .bytes)))
+    (p .place ∙ sym (q .place), ap (λ (l : List ℕ). (l, (tt {0}, (tt {0}, tt {0})))) (p .bytes ∙ sym (q .bytes)))
 
 pub put-counts-determined : Determined put-counts.ended put-counts-reads.Pre put-counts-reads.Post
 put-counts-determined κs a pre r₁ r₂ w₁ w₂ p q =

@@ -1,10 +1,8 @@
 // The two ends of a file, written: header, and footer with trailer.
 ghost use mathlib.Core.Path.{_≡_};
 ghost use Prim.Native.Nat.{_+_, _*_, _%_, _<_, _≤_, _^_};
-ghost use mathlib.Core.List.{[]};
 ghost use lib.ListN.{length};
 ghost use lib.Seq.{sets};
-ghost use Rattle.base.specs.Pick.{pick};
 ghost use Rattle.base.specs.Over.{part};
 ghost use Rattle.base.specs.Put.{Put};
 ghost use Rattle.frame.specs.Kind.{entrySize, countsSize, trailerSize};
@@ -59,31 +57,14 @@ fn put_row(out: &mut [u8], at: usize, r: Row) -> usize
     at + Row::ENTRY
 }
 
-// Writes the entry of the section that stands in out from `start` on.
-pub fn put_entry(out: &mut [u8], at: usize, kind: u16, start: usize, len: usize) -> usize
-    requires { ⌜ (start + len ≤ length (now out)) × (at + entrySize ≤ length (now out)) × (at ≤ 4294967296) ⌝ }
-    ensures { λ p. ⌜ Put (now (out .entry)) (now (out .exit)) at p (entryIn (now (out .entry)) kind start len) ⌝ }
+// Writes the entry of the section that stands in out where r says, with its sum.
+pub fn put_entry(out: &mut [u8], at: usize, r: Row) -> usize
+    requires { ⌜ (r .start + r .len ≤ length (now out)) × (at + entrySize ≤ length (now out)) × (at ≤ 4294967296) ⌝ }
+    ensures { λ p. ⌜ Put (now (out .entry)) (now (out .exit)) at p (entryIn (now (out .entry)) (r .kind) (r .start) (r .len)) ⌝ }
 {
-    let sum = xxh3(&out[start..start + len]);
-    put_row(out, at, Row::raw(kind, start as u64, len as u64, sum))
-}
-
-// The same, or nothing.
-pub fn put_entry_if(
-    there: bool,
-    out: &mut [u8],
-    at: usize,
-    kind: u16,
-    start: usize,
-    len: usize,
-) -> usize
-    requires { ⌜ (start + len ≤ length (now out)) × (at + length (pick there (entryIn (now out) kind start len) []) ≤ length (now out)) × (at ≤ 4294967296) ⌝ }
-    ensures { λ p. ⌜ Put (now (out .entry)) (now (out .exit)) at p (pick there (entryIn (now (out .entry)) kind start len) []) ⌝ }
-{
-    if there {
-        return put_entry(out, at, kind, start, len);
-    }
-    at
+    let start = r.start as usize;
+    let sum = xxh3(&out[start..start + r.len as usize]);
+    put_row(out, at, Row::raw(r.kind, r.start, r.len, sum))
 }
 
 // Writes what ends the body: key count, edge count, offset bits.

@@ -18,7 +18,7 @@ use Rattle.group.specs.Written.{splitFrom, splitBytes, denseBytes}
 use Rattle.batch.specs.declared.Edge.{Edge}
 use Rattle.batch.specs.Batch.{headingOf, edgeAt, edgesAt, edgesOf, partnersIn, logsIn, marksIn}
 use Rattle.batch_groups.specs.Groups.{anyDead, Group, join, groupsOf}
-use Rattle.write_image.specs.Image.{keysIn, splitCost, denseBy, isDense, groupBytes, anyDense, numbers, partnerBytes, startsFrom, widthOf, octet, octets, fenced, fenceCount, fenceBytes, fenceKeysFrom, fencesOf, keyBytes, offsetBytes, logBytes, tombBytes, lastSections, sectionsBy, layoutBy, layoutOf, fileOf}
+use Rattle.write_image.specs.Image.{keysIn, splitCost, denseBy, isDense, groupBytes, anyDense, numbers, partnerBytes, startsFrom, widthOf, octet, octets, fenced, fenceBytes, fenceKeysFrom, fencesOf, keyBytes, offsetBytes, logBytes, tombBytes, lastSections, sectionsBy, layoutBy, layoutOf, fileOf}
 use Rattle.write_image.specs.Image.Laws.{length-fences}
 
 -- ---- a group: dense or split
@@ -85,7 +85,7 @@ module _ (w : ℕ) (es : List Edge) (gs : List Group) where
       (ap (λ (k : ℕ). four (lastSections false (fenced k) es gs)) n, ap (λ (k : ℕ). four (lastSections true (fenced k) es gs)) n)
 
 -- 65,537 keys at stride 256 make 257 entries, and 65,536 would make 256; a million make 3,907
-pub fence-count : (fenceCount 65536 ≡ 256) × (fenceCount 65537 ≡ 257) × (fenceCount 1000000 ≡ 3907)
+pub fence-count : (kind.fenceCount 65536 ≡ 256) × (kind.fenceCount 65537 ≡ 257) × (kind.fenceCount 1000000 ≡ 3907)
 fence-count = (refl, refl, refl)
 
 -- the section of 65,537 keys begins with the stride and the count, and has 24 bytes for each entry
@@ -93,9 +93,9 @@ pub fence-head : (ks : List Id) → length ks ≡ 65537
     → (leAt (fencesOf ks) 0 4 ≡ 256) × (leAt (fencesOf ks) 4 4 ≡ 257) × (length (fencesOf ks) ≡ 8 + 24 * 257)
 unfolding fencesOf leBytes leAt
 fence-head ks n =
-    let count : fenceCount (length ks) ≡ 257 = ap fenceCount n in
-    let head : (k : ℕ) → leAt (fencesOf ks) k 4 ≡ leAt (leBytes 4 256 ++ (leBytes 4 257 ++ fenceKeysFrom (fenceCount (length ks)) ks 0)) k 4 =
-    λ k. ap (λ (m : ℕ). leAt (leBytes 4 256 ++ (leBytes 4 m ++ fenceKeysFrom (fenceCount (length ks)) ks 0)) k 4) count in
+    let count : kind.fenceCount (length ks) ≡ 257 = ap kind.fenceCount n in
+    let head : (k : ℕ) → leAt (fencesOf ks) k 4 ≡ leAt (leBytes 4 256 ++ (leBytes 4 257 ++ fenceKeysFrom (kind.fenceCount (length ks)) ks 0)) k 4 =
+    λ k. ap (λ (m : ℕ). leAt (leBytes 4 256 ++ (leBytes 4 m ++ fenceKeysFrom (kind.fenceCount (length ks)) ks 0)) k 4) count in
     (head 0, head 4, length-fences ks ∙ ap (λ (m : ℕ). 8 + 24 * m) count)
 
 -- ---- a batch of an inverse heading and three edges: a dead one and a live one of the same key, and one whose group is dense

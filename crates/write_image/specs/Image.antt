@@ -102,22 +102,16 @@ tombBytes es = octets ((length es + 7) / 8) (marksIn es)
 
 -- 6: "Stride u32; entry count u32 = key count divided by stride, rounded up; entries of key and u64 offset, entry i being
 -- key i·stride and 16·i·stride"
-abbrev pub stride : ℕ
-stride = 256
-
 unfoldable pub fenceBytes : Id → ℕ → List ℕ
-fenceBytes k i = idBytes k ++ leBytes 8 (kind.keySize * (i * stride))
+fenceBytes k i = idBytes k ++ leBytes 8 (kind.keySize * (i * kind.fenceStride))
 
 -- m entries from entry i on
 unfoldable pub fenceKeysFrom : ℕ → List Id → ℕ → List ℕ
 fenceKeysFrom zero ks i = []
-fenceKeysFrom (suc m) ks i = fenceBytes (getD ks (i * stride) (none .key)) i ++ fenceKeysFrom m ks (i + 1)
-
-abbrev pub fenceCount : ℕ → ℕ
-fenceCount keys = (keys + (stride - 1)) / stride
+fenceKeysFrom (suc m) ks i = fenceBytes (getD ks (i * kind.fenceStride) (none .key)) i ++ fenceKeysFrom m ks (i + 1)
 
 unfoldable pub fencesOf : List Id → List ℕ
-fencesOf ks = leBytes 4 stride ++ (leBytes 4 (fenceCount (length ks)) ++ fenceKeysFrom (fenceCount (length ks)) ks 0)
+fencesOf ks = leBytes 4 kind.fenceStride ++ (leBytes 4 (kind.fenceCount (length ks)) ++ fenceKeysFrom (kind.fenceCount (length ks)) ks 0)
 
 abbrev pub fenced : ℕ → Bool
 fenced keys = ltb kind.mostUnfenced keys

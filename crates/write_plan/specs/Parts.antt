@@ -13,7 +13,7 @@ use Rattle.frame.specs.Layout.{Section, Layout, rawSection, headBytes, payload,
 use Rattle.batch.specs.declared.Edge.{Edge}
 use Rattle.batch.specs.Batch.{Heading}
 use Rattle.batch_groups.specs.Groups.{Group, groupsOf}
-use Rattle.write_image.specs.Image.{keysIn, anyDense, keyBytes, offsetBytes, partnerBytes, widthOf, logBytes, bit, tombBytes, fencesOf, fenceCount, fenced, flagsBy, lastSections, sectionsBy, layoutBy, layoutOf, fileOf}
+use Rattle.write_image.specs.Image.{keysIn, anyDense, keyBytes, offsetBytes, partnerBytes, widthOf, logBytes, bit, tombBytes, fencesOf, fenced, flagsBy, lastSections, sectionsBy, layoutBy, layoutOf, fileOf}
 use Rattle.write_image.specs.Image.Laws.{length-keys, length-keysIn, length-offsets, length-logBytes, length-tombs, length-fences}
 use Rattle.write_frame.specs.Standing.{Extent, entriesIn, total, extents, PlainSections}
 use Rattle.write_frame.specs.Runs.{length-head, rowBytes, length-row, entry-row, length-trailer, countBytes, length-counts}
@@ -99,7 +99,7 @@ pub total-last : (n : ℕ) (dead : Bool) (keys : ℕ) → total (lastBy n dead k
 unfolding lastBy
 total-last n dead keys =
     total-of dead (tombSize n dead) (fenced keys) (fencesSize keys)
-    ∙ ap₂ (λ (x y : ℕ). x + y) (same-pick dead ((n + 7) / 8)) (same-pick (fenced keys) (kind.fencesHead + kind.fenceSize * fenceCount keys))
+    ∙ ap₂ (λ (x y : ℕ). x + y) (same-pick dead ((n + 7) / 8)) (same-pick (fenced keys) (kind.fencesHead + kind.fenceSize * kind.fenceCount keys))
 
 -- ---- lengths
 
@@ -122,11 +122,11 @@ module _ (es : List Edge) (n keys w bytes : ℕ) (dense dead : Bool) (f : Fittin
   tombs-long : length (tombBytes es) ≡ (n + 7) / 8
   tombs-long = length-tombs es ∙ ap (λ (t : ℕ). (t + 7) / 8) (sym (f .edges-is))
 
-  fences-long : length (fencesOf (keysIn gs)) ≡ kind.fencesHead + kind.fenceSize * fenceCount keys
+  fences-long : length (fencesOf (keysIn gs)) ≡ kind.fencesHead + kind.fenceSize * kind.fenceCount keys
   fences-long =
-      length-fences (keysIn gs) ∙ ap (λ (t : ℕ). kind.fencesHead + kind.fenceSize * fenceCount t) (length-keysIn gs ∙ sym (f .keys-is))
+      length-fences (keysIn gs) ∙ ap (λ (t : ℕ). kind.fencesHead + kind.fenceSize * kind.fenceCount t) (length-keysIn gs ∙ sym (f .keys-is))
 
-  extents-last : (d e : Bool) → extents (lastSections d e es gs) ≡ lastOf d (pick d ((n + 7) / 8) 0) e (pick e (kind.fencesHead + kind.fenceSize * fenceCount keys) 0)
+  extents-last : (d e : Bool) → extents (lastSections d e es gs) ≡ lastOf d (pick d ((n + 7) / 8) 0) e (pick e (kind.fencesHead + kind.fenceSize * kind.fenceCount keys) 0)
   unfolding extents lastSections
   extents-last true true =
       ap₂ (λ (t u : ℕ). record { kind = kind.tombstones; len = t } ∷ record { kind = kind.fences; len = u } ∷ []) tombs-long fences-long
@@ -145,14 +145,14 @@ module _ (es : List Edge) (n keys w bytes : ℕ) (dense dead : Bool) (f : Fittin
       ∷ record { kind = kind.logs; len = logs-long j }
       ∷ extents-last dead (fenced keys) j)
 
-  last-long : (d e : Bool) → length (payload (lastSections d e es gs)) ≡ pick d ((n + 7) / 8) 0 + pick e (kind.fencesHead + kind.fenceSize * fenceCount keys) 0
+  last-long : (d e : Bool) → length (payload (lastSections d e es gs)) ≡ pick d ((n + 7) / 8) 0 + pick e (kind.fencesHead + kind.fenceSize * kind.fenceCount keys) 0
   last-long d e = ap length (last-payload d e es gs) ∙ length-append (pick d (tombBytes es) []) (pick e (fencesOf (keysIn gs)) []) ∙ ap₂ (λ (x y : ℕ). x + y) (one d) (two e)
     where
       one : (d : Bool) → length (pick d (tombBytes es) []) ≡ pick d ((n + 7) / 8) 0
       one true = tombs-long
       one false = refl
 
-      two : (e : Bool) → length (pick e (fencesOf (keysIn gs)) []) ≡ pick e (kind.fencesHead + kind.fenceSize * fenceCount keys) 0
+      two : (e : Bool) → length (pick e (fencesOf (keysIn gs)) []) ≡ pick e (kind.fencesHead + kind.fenceSize * kind.fenceCount keys) 0
       two true = fences-long
       two false = refl
 

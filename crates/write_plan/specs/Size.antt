@@ -9,14 +9,14 @@ use Rattle.base.specs.Pick.{pick}
 use Rattle.frame.specs.Kind as kind
 use Rattle.batch.specs.declared.Edge.{Edge}
 use Rattle.batch_groups.specs.Groups.{anyDead, groupsOf}
-use Rattle.write_image.specs.Image.{anyDense, partnerBytes, widthOf, bit, fenceCount, fenced}
+use Rattle.write_image.specs.Image.{anyDense, partnerBytes, widthOf, bit, fenced}
 
 -- tombstones and fences; a section that is not there takes nothing
 abbrev pub tombSize : ℕ → Bool → ℕ
 tombSize n dead = pick dead ((n + 7) / 8) 0
 
 abbrev pub fencesSize : ℕ → ℕ
-fencesSize keys = pick (fenced keys) (kind.fencesHead + kind.fenceSize * fenceCount keys) 0
+fencesSize keys = pick (fenced keys) (kind.fencesHead + kind.fenceSize * kind.fenceCount keys) 0
 
 -- of n edges with that many keys, offsets of w bytes and a partner section of that many bytes
 unfoldable pub sectionsSize : ℕ → ℕ → ℕ → ℕ → Bool → ℕ

@@ -19,6 +19,7 @@ use frame::kind::Fences;
 use frame::kind::Keys;
 use frame::kind::Logs;
 use frame::kind::Offsets;
+use frame::kind::Tombstones;
 use write_sections::by_key::partners_size;
 
 // The counts: edges, keys, bytes of an offset, bytes of the partner section, whether a group is dense, whether an edge is
@@ -63,7 +64,7 @@ pub fn tomb_size(n: usize, dead: bool) -> usize
     requires { ⌜ n ≤ mostEdges ⌝ }
     ensures { λ r. ⌜ (r ≡ tombSize n dead) × (r ≤ mostEdges) ⌝ }
 {
-    counted_if(dead, (n + 7) / 8)
+    counted_if(dead, Tombstones::bytes(n as u64) as usize)
 }
 
 // The bytes of the fences.
@@ -73,8 +74,7 @@ pub fn fences_size(keys: usize) -> usize
 {
     counted_if(
         (Bounds::UNFENCED as usize) < keys,
-        (Fences::HEAD as usize)
-            + (Fences::ROW as usize) * ((keys + Fences::ROUND) / Fences::STRIDE),
+        Fences::bytes(Fences::count(keys) as u64) as usize,
     )
 }
 

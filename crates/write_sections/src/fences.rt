@@ -3,8 +3,8 @@ ghost use mathlib.Core.Path.{_≡_};
 ghost use Prim.Native.Nat.{_+_, _*_, _≤_};
 ghost use lib.ListN.{length};
 ghost use Rattle.base.specs.Put.{Put};
-ghost use Rattle.frame.specs.Kind.{mostEdges};
-ghost use Rattle.write_image.specs.Image.{fenceBytes, fenceKeysFrom, fenceCount, fencesOf};
+ghost use Rattle.frame.specs.Kind as kind;
+ghost use Rattle.write_image.specs.Image.{fenceBytes, fenceKeysFrom, fencesOf};
 ghost use Rattle.write_sections.specs.Ids.{idsAt};
 use codes::ids::Id;
 use codes::ids::id_at;
@@ -15,7 +15,7 @@ use frame::kind::Keys;
 
 // Writes fence i.
 fn put_fence(out: &mut [u8], at: usize, key: Id, i: usize) -> usize
-    requires { ⌜ (i ≤ mostEdges) × (at + 24 ≤ length (now out)) ⌝ }
+    requires { ⌜ (i ≤ kind.mostEdges) × (at + 24 ≤ length (now out)) ⌝ }
     ensures { λ r. ⌜ Put (now (out .entry)) (now (out .exit)) at r (fenceBytes key i) ⌝ }
 {
     put_id(out, at, key);
@@ -28,15 +28,14 @@ fn put_fence(out: &mut [u8], at: usize, key: Id, i: usize) -> usize
     at + (Fences::ROW as usize)
 }
 
-// Writes the fences of the keys that stand in out from `first` on, below `at`.
-fn put_rows(out: &mut [u8], first: usize, keys: usize, at: usize) -> usize
-    requires { ⌜ (keys ≤ mostEdges) × (first + 16 * keys ≤ at) × (at + length (fenceKeysFrom (fenceCount keys) (idsAt keys (now out) first) 0) ≤ length (now out)) ⌝ }
-    ensures { λ r. ⌜ Put (now (out .entry)) (now (out .exit)) at r (fenceKeysFrom (fenceCount keys) (idsAt keys (now (out .entry)) first) 0) ⌝ }
+// Writes so many fences of the keys that stand in out from `first` on, below `at`.
+fn put_rows(out: &mut [u8], first: usize, keys: usize, count: usize, at: usize) -> usize
+    requires { ⌜ (count ≡ kind.fenceCount keys) × (keys ≤ kind.mostEdges) × (first + 16 * keys ≤ at) × (at + length (fenceKeysFrom count (idsAt keys (now out) first) 0) ≤ length (now out)) ⌝ }
+    ensures { λ r. ⌜ Put (now (out .entry)) (now (out .exit)) at r (fenceKeysFrom count (idsAt keys (now (out .entry)) first) 0) ⌝ }
 {
-    let m = (keys + Fences::ROUND) / Fences::STRIDE;
     let mut i: usize = 0;
     let mut to = at;
-    while i < m {
+    while i < count {
         let key = id_at(out, first + (Keys::ROW as usize) * (i * Fences::STRIDE));
         to = put_fence(out, to, key, i);
         i = i + 1;
@@ -46,15 +45,11 @@ fn put_rows(out: &mut [u8], first: usize, keys: usize, at: usize) -> usize
 
 // Stride, count and fences.
 pub fn put_fences(out: &mut [u8], first: usize, keys: usize, at: usize) -> usize
-    requires { ⌜ (keys ≤ mostEdges) × (first + 16 * keys ≤ at) × (at + length (fencesOf (idsAt keys (now out) first)) ≤ length (now out)) ⌝ }
+    requires { ⌜ (keys ≤ kind.mostEdges) × (first + 16 * keys ≤ at) × (at + length (fencesOf (idsAt keys (now out) first)) ≤ length (now out)) ⌝ }
     ensures { λ r. ⌜ Put (now (out .entry)) (now (out .exit)) at r (fencesOf (idsAt keys (now (out .entry)) first)) ⌝ }
 {
+    let count = Fences::count(keys);
     put_le(out, at, 4, Fences::STRIDE as u64);
-    put_le(
-        out,
-        at + 4,
-        4,
-        ((keys + Fences::ROUND) / Fences::STRIDE) as u64,
-    );
-    put_rows(out, first, keys, at + (Fences::HEAD as usize))
+    put_le(out, at + 4, 4, count as u64);
+    put_rows(out, first, keys, count, at + (Fences::HEAD as usize))
 }

@@ -27,7 +27,7 @@ use Rattle.group.specs.Written.{Halves, Above, splitFrom, payloadOf, writtenAs,
 use Rattle.batch.specs.declared.Edge.{Edge}
 use Rattle.batch_groups.specs.Groups.{none, Group, groupsOf, GroupEnd, Run, Grouped}
 use Rattle.batch_groups.specs.Groups.Laws.{grouped-step, groups-end}
-use Rattle.write_image.specs.Image.{keysIn, splitCost, denseBy, isDense, groupBytes, bytesIn, anyDense, keyBytes, numbers, partnerBytes, startsFrom, offsetBytes, widthOf, logBytes, bit, octet, octets, tombBytes, stride, fenceBytes, fenceKeysFrom, fenceCount, fencesOf}
+use Rattle.write_image.specs.Image.{keysIn, splitCost, denseBy, isDense, groupBytes, bytesIn, anyDense, keyBytes, numbers, partnerBytes, startsFrom, offsetBytes, widthOf, logBytes, bit, octet, octets, tombBytes, fenceBytes, fenceKeysFrom, fencesOf}
 
 -- ---- a part of the edges, one edge further
 
@@ -337,7 +337,7 @@ octets-end ds m b h = let z : m - b ≡ 0 = omega arith in rw z
 
 -- ---- fences
 
-pub fence-is : (k : Id) (i : ℕ) → fenceBytes k i ≡ idBytes k ++ leBytes 8 (kind.keySize * (i * stride))
+pub fence-is : (k : Id) (i : ℕ) → fenceBytes k i ≡ idBytes k ++ leBytes 8 (kind.keySize * (i * kind.fenceStride))
 unfolding fenceBytes
 fence-is k i = refl
 
@@ -345,10 +345,10 @@ pub length-fence : (k : Id) (i : ℕ) → length (fenceBytes k i) ≡ kind.fence
 unfolding fenceBytes
 length-fence k i =
     let a = length-idBytes k in
-    let b = length-leBytes 8 (kind.keySize * (i * stride)) in
-    length-append (idBytes k) (leBytes 8 (kind.keySize * (i * stride))) ∙ omega arith
+    let b = length-leBytes 8 (kind.keySize * (i * kind.fenceStride)) in
+    length-append (idBytes k) (leBytes 8 (kind.keySize * (i * kind.fenceStride))) ∙ omega arith
 
-pub fences-step : (ks : List Id) (m i : ℕ) → i < m → fenceKeysFrom (m - i) ks i ≡ fenceBytes (getD ks (i * stride) (none .key)) i ++ fenceKeysFrom (m - (i + 1)) ks (i + 1)
+pub fences-step : (ks : List Id) (m i : ℕ) → i < m → fenceKeysFrom (m - i) ks i ≡ fenceBytes (getD ks (i * kind.fenceStride) (none .key)) i ++ fenceKeysFrom (m - (i + 1)) ks (i + 1)
 unfolding fenceKeysFrom
 fences-step ks m i h = let n : m - i ≡ suc (m - (i + 1)) = omega arith in ap (λ (t : ℕ). fenceKeysFrom t ks i) n
 
@@ -356,7 +356,7 @@ pub fences-end : (ks : List Id) (m i : ℕ) → m ≤ i → fenceKeysFrom (m - i
 unfolding fenceKeysFrom
 fences-end ks m i h = let z : m - i ≡ 0 = omega arith in rw z
 
-pub fences-are : (ks : List Id) → fencesOf ks ≡ leBytes 4 stride ++ (leBytes 4 (fenceCount (length ks)) ++ fenceKeysFrom (fenceCount (length ks)) ks 0)
+pub fences-are : (ks : List Id) → fencesOf ks ≡ leBytes 4 kind.fenceStride ++ (leBytes 4 (kind.fenceCount (length ks)) ++ fenceKeysFrom (kind.fenceCount (length ks)) ks 0)
 unfolding fencesOf
 fences-are ks = refl
 
@@ -408,19 +408,19 @@ length-fencesFrom : (m : ℕ) (ks : List Id) (i : ℕ) → length (fenceKeysFrom
 unfolding fenceKeysFrom
 length-fencesFrom zero ks i = refl
 length-fencesFrom (suc m) ks i =
-    let a = length-fence (getD ks (i * stride) (none .key)) i in
+    let a = length-fence (getD ks (i * kind.fenceStride) (none .key)) i in
     let b = length-fencesFrom m ks (i + 1) in
-    length-append (fenceBytes (getD ks (i * stride) (none .key)) i) (fenceKeysFrom m ks (i + 1)) ∙ omega arith
+    length-append (fenceBytes (getD ks (i * kind.fenceStride) (none .key)) i) (fenceKeysFrom m ks (i + 1)) ∙ omega arith
 
-pub length-fences : (ks : List Id) → length (fencesOf ks) ≡ 8 + 24 * fenceCount (length ks)
+pub length-fences : (ks : List Id) → length (fencesOf ks) ≡ 8 + 24 * kind.fenceCount (length ks)
 length-fences ks =
-    let m : ℕ = fenceCount (length ks) in
-    let a = length-leBytes 4 stride in
+    let m : ℕ = kind.fenceCount (length ks) in
+    let a = length-leBytes 4 kind.fenceStride in
     let b = length-leBytes 4 m in
     let c = length-fencesFrom m ks 0 in
     ap length (fences-are ks)
-    ∙ length-append (leBytes 4 stride) (leBytes 4 m ++ fenceKeysFrom m ks 0)
-    ∙ ap (λ (t : ℕ). length (leBytes 4 stride) + t) (length-append (leBytes 4 m) (fenceKeysFrom m ks 0))
+    ∙ length-append (leBytes 4 kind.fenceStride) (leBytes 4 m ++ fenceKeysFrom m ks 0)
+    ∙ ap (λ (t : ℕ). length (leBytes 4 kind.fenceStride) + t) (length-append (leBytes 4 m) (fenceKeysFrom m ks 0))
     ∙ omega arith
 
 pub width-small : (size : ℕ) → size < 2 ^ 24 → widthOf size ≡ 3

@@ -103,7 +103,7 @@ add-put-four : tie.Need-add-put-four
 add-put-four c = search needs
 
 put-four-requires : tie.Need-put-four-requires
-put-four-requires c κs = let a = c .before .before .before .before .before .before .before .args in room₁ (a .out .now) (a .at) (a .keys) (a .w) (a .partners) (a .n) (a .dead) _ (c .before .before .before .before .before .section-count .ensures .0) (c .before .before .before .before .before .before .before .pre .3) (c .before .before .before .before .before .before .before .pre .4) (c .before .before .before .before .before .before .before .pre .5) (c .before .before .before .put-le .ensures)
+put-four-requires c κs = let a = c .before .before .before .before .before .before .before .args in let r = room₁ (a .out .now) (a .at) (a .keys) (a .w) (a .partners) (a .n) (a .dead) _ (c .before .before .before .before .before .section-count .ensures .0) (c .before .before .before .before .before .before .before .pre .3) (c .before .before .before .before .before .before .before .pre .4) (c .before .before .before .before .before .before .before .pre .5) (c .before .before .before .put-le .ensures) in (r .0, r .1, r .2, c .before .before .before .before .before .before .before .pre .1)
 
 mul-start : tie.Need-mul-start
 mul-start c = search needs

@@ -8,7 +8,7 @@ use Rattle.base.specs.Put.{Put, Left}
 use Rattle.frame.specs.Kind as kind
 use Rattle.write_frame.specs.Standing.{entryIn, entriesIn}
 use Rattle.write_plan.specs.Parts.{four}
-use Rattle.write_contents.specs.Footer.{length-entryIn, entry-put, four-entries}
+use Rattle.write_contents.specs.Footer.{length-entryIn, named, asked, entry-put, four-entries}
 use borrow.Author.Needs.{needs}
 use Rattle.write_contents.proofs.footer.put_four.Statement.{statement}
 use Rattle.write_contents.proofs.footer.put_four.Tie as tie
@@ -71,12 +71,6 @@ module _ (o : List ℕ) (at keys w partners n : ℕ) (below : 64 + (16 * keys + 
         done : {o₄ : List ℕ} {a₄ : ℕ} → Put o₃ o₄ a₃ a₄ (entryIn o₃ kind.logs fourth (8 * n)) → Put o o₄ at a₄ whole
         done p₄ = let q = at₃ in P.end refl (entry-put kind.logs fourth (8 * n) l₃ (omega arith) (omega arith) p₄)
 
-add-size : tie.Need-add-size
-add-size c = search needs
-
-mul-size : tie.Need-mul-size
-mul-size c = search needs
-
 mul-offsets : tie.Need-mul-offsets
 mul-offsets c = search needs
 
@@ -86,48 +80,62 @@ add-offsets c = search needs
 add-parts : tie.Need-add-parts
 add-parts c = search needs
 
+mul-parts : tie.Need-mul-parts
+mul-parts c = search needs
+
+add-parts-2 : tie.Need-add-parts-2
+add-parts-2 c = search needs
+
 add-logs : tie.Need-add-logs
 add-logs c = search needs
 
-mul-put-entry : tie.Need-mul-put-entry
-mul-put-entry c = search needs
+entry-requires : tie.Need-entry-requires
+entry-requires c κs = search needs
 
 put-entry-requires : tie.Need-put-entry-requires
-put-entry-requires c κs = search needs
+put-entry-requires c κs = let a = c .before .before .before .args in asked kind.keys 64 (16 * a .keys) (c .entry .ensures) (omega arith, omega arith, omega arith)
+
+entry-requires-2 : tie.Need-entry-requires-2
+entry-requires-2 c κs = search needs
 
 put-entry-requires-2 : tie.Need-put-entry-requires-2
-put-entry-requires-2 c κs = let a = c .before .before .before .before .before .before .args in room₁ (a .out .now) (a .at) (a .keys) (a .w) (a .partners) (a .n) (c .before .before .before .before .before .before .pre .0) (c .before .before .before .before .before .before .pre .1) (c .before .before .before .before .before .before .pre .2) (c .before .before .before .put-entry .ensures)
+put-entry-requires-2 c κs = let a = c .before .before .before .before .before .before .before .before .args in asked kind.offsets (64 + 16 * a .keys) ((a .keys + 1) * a .w) (c .entry2 .ensures) (room₁ (a .out .now) (a .at) (a .keys) (a .w) (a .partners) (a .n) (c .before .before .before .before .before .before .before .before .pre .0) (c .before .before .before .before .before .before .before .before .pre .1) (c .before .before .before .before .before .before .before .before .pre .2) (named kind.keys 64 (16 * a .keys) (c .before .before .before .before .before .entry .ensures) (c .before .before .before .before .put-entry .ensures)))
+
+entry-requires-3 : tie.Need-entry-requires-3
+entry-requires-3 c κs = search needs
 
 put-entry-requires-3 : tie.Need-put-entry-requires-3
-put-entry-requires-3 c κs = let a = c .before .before .before .before .before .before .before .before .before .before .args in room₂ (a .out .now) (a .at) (a .keys) (a .w) (a .partners) (a .n) (c .before .before .before .before .before .before .before .before .before .before .pre .0) (c .before .before .before .before .before .before .before .before .before .before .pre .1) (c .before .before .before .before .before .before .before .before .before .before .pre .2) (c .before .before .before .before .before .before .before .put-entry .ensures) (c .before .before .before .put-entry2 .ensures)
+put-entry-requires-3 c κs = let a = c .before .before .before .before .before .before .before .before .before .before .before .before .before .args in asked kind.partners (64 + 16 * a .keys + (a .keys + 1) * a .w) (a .partners) (c .entry3 .ensures) (room₂ (a .out .now) (a .at) (a .keys) (a .w) (a .partners) (a .n) (c .before .before .before .before .before .before .before .before .before .before .before .before .before .pre .0) (c .before .before .before .before .before .before .before .before .before .before .before .before .before .pre .1) (c .before .before .before .before .before .before .before .before .before .before .before .before .before .pre .2) (named kind.keys 64 (16 * a .keys) (c .before .before .before .before .before .before .before .before .before .before .entry .ensures) (c .before .before .before .before .before .before .before .before .before .put-entry .ensures)) (named kind.offsets (64 + 16 * a .keys) ((a .keys + 1) * a .w) (c .before .before .before .before .before .entry2 .ensures) (c .before .before .before .before .put-entry2 .ensures)))
 
-mul-put-entry-2 : tie.Need-mul-put-entry-2
-mul-put-entry-2 c = search needs
+entry-requires-4 : tie.Need-entry-requires-4
+entry-requires-4 c κs = search needs
 
 put-entry-requires-4 : tie.Need-put-entry-requires-4
-put-entry-requires-4 c κs = let a = c .before .before .before .before .before .before .before .before .before .before .before .before .before .before .args in room₃ (a .out .now) (a .at) (a .keys) (a .w) (a .partners) (a .n) (c .before .before .before .before .before .before .before .before .before .before .before .before .before .before .pre .0) (c .before .before .before .before .before .before .before .before .before .before .before .before .before .before .pre .1) (c .before .before .before .before .before .before .before .before .before .before .before .before .before .before .pre .2) (c .before .before .before .before .before .before .before .before .before .before .before .put-entry .ensures) (c .before .before .before .before .before .before .before .put-entry2 .ensures) (c .before .before .before .put-entry3 .ensures)
+put-entry-requires-4 c κs = let a = c .before .before .before .before .before .before .before .before .before .before .before .before .before .before .before .before .before .before .args in asked kind.logs (64 + 16 * a .keys + (a .keys + 1) * a .w + a .partners) (8 * a .n) (c .entry4 .ensures) (room₃ (a .out .now) (a .at) (a .keys) (a .w) (a .partners) (a .n) (c .before .before .before .before .before .before .before .before .before .before .before .before .before .before .before .before .before .before .pre .0) (c .before .before .before .before .before .before .before .before .before .before .before .before .before .before .before .before .before .before .pre .1) (c .before .before .before .before .before .before .before .before .before .before .before .before .before .before .before .before .before .before .pre .2) (named kind.keys 64 (16 * a .keys) (c .before .before .before .before .before .before .before .before .before .before .before .before .before .before .before .entry .ensures) (c .before .before .before .before .before .before .before .before .before .before .before .before .before .before .put-entry .ensures)) (named kind.offsets (64 + 16 * a .keys) ((a .keys + 1) * a .w) (c .before .before .before .before .before .before .before .before .before .before .entry2 .ensures) (c .before .before .before .before .before .before .before .before .before .put-entry2 .ensures)) (named kind.partners (64 + 16 * a .keys + (a .keys + 1) * a .w) (a .partners) (c .before .before .before .before .before .entry3 .ensures) (c .before .before .before .before .put-entry3 .ensures)))
 
 same-length : tie.Need-same-length
 same-length c = search needs
 
 returns : tie.Need-returns
-returns c = let a = c .before .before .before .before .before .before .before .before .before .before .before .before .before .before .before .before .before .args in done (a .out .now) (a .at) (a .keys) (a .w) (a .partners) (a .n) (c .before .before .before .before .before .before .before .before .before .before .before .before .before .before .before .before .before .pre .0) (c .before .before .before .before .before .before .before .before .before .before .before .before .before .before .before .before .before .pre .1) (c .before .before .before .before .before .before .before .before .before .before .before .before .before .before .before .before .before .pre .2) (c .before .before .before .before .before .before .before .before .before .before .before .before .before .before .put-entry .ensures) (c .before .before .before .before .before .before .before .before .before .before .put-entry2 .ensures) (c .before .before .before .before .before .before .put-entry3 .ensures) (c .before .before .put-entry4 .ensures)
+returns c = let a = c .before .before .before .before .before .before .before .before .before .before .before .before .before .before .before .before .before .before .before .before .before .args in done (a .out .now) (a .at) (a .keys) (a .w) (a .partners) (a .n) (c .before .before .before .before .before .before .before .before .before .before .before .before .before .before .before .before .before .before .before .before .before .pre .0) (c .before .before .before .before .before .before .before .before .before .before .before .before .before .before .before .before .before .before .before .before .before .pre .1) (c .before .before .before .before .before .before .before .before .before .before .before .before .before .before .before .before .before .before .before .before .before .pre .2) (named kind.keys 64 (16 * a .keys) (c .before .before .before .before .before .before .before .before .before .before .before .before .before .before .before .before .before .before .entry .ensures) (c .before .before .before .before .before .before .before .before .before .before .before .before .before .before .before .before .before .put-entry .ensures)) (named kind.offsets (64 + 16 * a .keys) ((a .keys + 1) * a .w) (c .before .before .before .before .before .before .before .before .before .before .before .before .before .entry2 .ensures) (c .before .before .before .before .before .before .before .before .before .before .before .before .put-entry2 .ensures)) (named kind.partners (64 + 16 * a .keys + (a .keys + 1) * a .w) (a .partners) (c .before .before .before .before .before .before .before .before .entry3 .ensures) (c .before .before .before .before .before .before .before .put-entry3 .ensures)) (named kind.logs (64 + 16 * a .keys + (a .keys + 1) * a .w + a .partners) (8 * a .n) (c .before .before .before .entry4 .ensures) (c .before .before .put-entry4 .ensures))
 
 pub put-four-spec : {M : Type 1} → statement M
 put-four-spec =
     tie.close
     (tie.spec
-    add-size
-    mul-size
     mul-offsets
     add-offsets
     add-parts
+    mul-parts
+    add-parts-2
     add-logs
-    mul-put-entry
+    entry-requires
     put-entry-requires
+    entry-requires-2
     put-entry-requires-2
+    entry-requires-3
     put-entry-requires-3
-    mul-put-entry-2
+    entry-requires-4
     put-entry-requires-4
     same-length
     returns)

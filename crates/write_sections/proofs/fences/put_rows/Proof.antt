@@ -8,8 +8,9 @@ use Rattle.base.specs.Put as P
 use Rattle.base.specs.Put.{Put, Left}
 use Rattle.codes.specs.declared.ids.Id.{Id}
 use Rattle.codes.specs.Ids.{halvesAt}
+use Rattle.frame.specs.Kind as kind
 use Rattle.batch_groups.specs.Groups.{none}
-use Rattle.write_image.specs.Image.{fenceBytes, fenceKeysFrom, fenceCount}
+use Rattle.write_image.specs.Image.{fenceBytes, fenceKeysFrom}
 use Rattle.write_image.specs.Image.Laws.{length-fence, fences-step, fences-end}
 use Rattle.write_sections.specs.Ids.{idsAt, ids-at, id-below}
 use Rattle.write_sections.proofs.fences.put_rows.Statement.{statement}
@@ -24,7 +25,7 @@ module _ (o : List ℕ) (first keys at m : ℕ) where
     above : at ≤ to
     left : Left out to (fenceKeysFrom (m - i) ids i) o at (fenceKeysFrom m ids 0)
 
-  module _ (out : List ℕ) (i to : ℕ) (h : Head out i to) (lt : i < m) (c : m ≡ fenceCount keys) where
+  module _ (out : List ℕ) (i to : ℕ) (h : Head out i to) (lt : i < m) (c : m ≡ kind.fenceCount keys) where
     inside : i * 256 < keys
     inside = omega arith
 
@@ -56,16 +57,13 @@ module _ (o : List ℕ) (first keys at m : ℕ) where
   done out i to h z = P.end (fences-end ids m i (omega arith)) (h .left)
 
 abbrev Inv-loop : tie.InvT-loop
-Inv-loop out₀ first keys at m i₀ to₀ out i to = Head out₀ first keys at m out i to
+Inv-loop out₀ first keys count at i₀ to₀ out i to = Head out₀ first keys at count out i to
 
 abbrev μ-loop : tie.MeasureT-loop
-μ-loop out₀ first keys at m i₀ to₀ out i to = m - i
-
-add-m : tie.Need-add-m Inv-loop μ-loop
-add-m c = omega arith
+μ-loop out₀ first keys count at i₀ to₀ out i to = count - i
 
 loop-holds : tie.Need-loop-holds Inv-loop μ-loop
-loop-holds c = let a = c .before .args in begin (a .out .now) (a .first) (a .keys) (a .at) _
+loop-holds c = let a = c .before .args in begin (a .out .now) (a .first) (a .keys) (a .at) (a .count)
 
 mul-id-at : tie.Need-mul-id-at Inv-loop μ-loop
 mul-id-at c = omega arith
@@ -74,13 +72,13 @@ mul-id-at-2 : tie.Need-mul-id-at-2 Inv-loop μ-loop
 mul-id-at-2 c = omega arith
 
 add-id-at : tie.Need-add-id-at Inv-loop μ-loop
-add-id-at c = let a = c .before .before .before .before .args in let l = c .before .before .loop in let i = inside (a .out .now) (a .first) (a .keys) (a .at) _ (l .out) (l .i) (l .to) (l .inv) (omega arith) refl in omega (arith, c .before .before .before .before .pre .2)
+add-id-at c = let a = c .before .before .before .before .args in let l = c .before .before .loop in let i = inside (a .out .now) (a .first) (a .keys) (a .at) (a .count) (l .out) (l .i) (l .to) (l .inv) (omega arith) (c .before .before .before .before .pre .0) in omega (arith, c .before .before .before .before .pre .3)
 
 id-at-requires : tie.Need-id-at-requires Inv-loop μ-loop
-id-at-requires c κs = let a = c .before .before .before .before .args in let l = c .before .before .loop in let i = inside (a .out .now) (a .first) (a .keys) (a .at) _ (l .out) (l .i) (l .to) (l .inv) (omega arith) refl in let s = l .inv .left .same in omega (arith, c .before .before .before .before .pre .2)
+id-at-requires c κs = let a = c .before .before .before .before .args in let l = c .before .before .loop in let i = inside (a .out .now) (a .first) (a .keys) (a .at) (a .count) (l .out) (l .i) (l .to) (l .inv) (omega arith) (c .before .before .before .before .pre .0) in let s = l .inv .left .same in omega (arith, c .before .before .before .before .pre .3)
 
 put-fence-requires : tie.Need-put-fence-requires Inv-loop μ-loop
-put-fence-requires c κs = let a = c .before .before .before .before .before .before .args in let l = c .before .before .before .before .loop in let i = inside (a .out .now) (a .first) (a .keys) (a .at) _ (l .out) (l .i) (l .to) (l .inv) (omega arith) refl in (omega arith, room (a .out .now) (a .first) (a .keys) (a .at) _ (l .out) (l .i) (l .to) (l .inv) (omega arith) refl (c .before .before .before .before .before .before .pre .1) _ (c .before .id-at .ensures) (c .before .before .before .before .before .before .pre .2))
+put-fence-requires c κs = let a = c .before .before .before .before .before .before .args in let l = c .before .before .before .before .loop in let i = inside (a .out .now) (a .first) (a .keys) (a .at) (a .count) (l .out) (l .i) (l .to) (l .inv) (omega arith) (c .before .before .before .before .before .before .pre .0) in (omega arith, room (a .out .now) (a .first) (a .keys) (a .at) (a .count) (l .out) (l .i) (l .to) (l .inv) (omega arith) (c .before .before .before .before .before .before .pre .0) (c .before .before .before .before .before .before .pre .2) _ (c .before .id-at .ensures) (c .before .before .before .before .before .before .pre .3))
 
 add-i : tie.Need-add-i Inv-loop μ-loop
 add-i c = omega arith
@@ -89,13 +87,13 @@ loop-less : tie.Need-loop-less Inv-loop μ-loop
 loop-less c = omega arith
 
 loop-again : tie.Need-loop-again Inv-loop μ-loop
-loop-again c = let a = c .before .before .before .before .before .before .before .before .before .args in let l = c .before .before .before .before .before .before .before .loop in again (a .out .now) (a .first) (a .keys) (a .at) _ (l .out) (l .i) (l .to) (l .inv) (omega arith) refl (c .before .before .before .before .before .before .before .before .before .pre .1) _ (c .before .before .before .before .id-at .ensures) (c .before .before .put-fence .ensures)
+loop-again c = let a = c .before .before .before .before .before .before .before .before .before .args in let l = c .before .before .before .before .before .before .before .loop in again (a .out .now) (a .first) (a .keys) (a .at) (a .count) (l .out) (l .i) (l .to) (l .inv) (omega arith) (c .before .before .before .before .before .before .before .before .before .pre .0) (c .before .before .before .before .before .before .before .before .before .pre .2) _ (c .before .before .before .before .id-at .ensures) (c .before .before .put-fence .ensures)
 
 same-length : tie.Need-same-length Inv-loop μ-loop
 same-length c = c .before .loop .inv .left .same
 
 returns : tie.Need-returns Inv-loop μ-loop
-returns c = let a = c .before .before .before .args in let l = c .before .loop in let u = l .inv .upto in done (a .out .now) (a .first) (a .keys) (a .at) _ (l .out) (l .i) (l .to) (l .inv) (omega arith)
+returns c = let a = c .before .before .before .args in let l = c .before .loop in let u = l .inv .upto in done (a .out .now) (a .first) (a .keys) (a .at) (a .count) (l .out) (l .i) (l .to) (l .inv) (omega arith)
 
 pub put-rows-spec : {M : Type 1} → statement M
 put-rows-spec =
@@ -103,7 +101,6 @@ put-rows-spec =
     (tie.spec
     Inv-loop
     μ-loop
-    add-m
     loop-holds
     mul-id-at
     mul-id-at-2

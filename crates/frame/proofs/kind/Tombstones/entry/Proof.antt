@@ -13,7 +13,7 @@ raw-requires : tie.Need-raw-requires
 raw-requires c κs = search needs
 
 returns : tie.Need-returns
-returns c = let a = c .before .before .args in c .raw .ensures ∙ ap (λ (l : ℕ). rawRow kind.tombstones (a .start) l (a .sum)) (c .before .bytes .ensures)
+returns c = let a = c .before .before .args in c .raw .ensures ∙ ap (λ (l : ℕ). rawRow kind.tombstones (a .start) l 0) (c .before .bytes .ensures)
 
 pub entry-spec : {M : Type 1} → statement M
 entry-spec = tie.close (tie.spec bytes-requires raw-requires returns)
