@@ -21,6 +21,8 @@ use Rattle.frame.proofs.kind.Tombstones.bytes as tombstones-bytes
 use Rattle.frame.proofs.kind.Tombstones.bytes.Reads as tombstones-bytes-reads
 use Rattle.frame.proofs.kind.Tombstones.entry as tombstones-entry
 use Rattle.frame.proofs.kind.Tombstones.entry.Reads as tombstones-entry-reads
+use Rattle.frame.proofs.kind.Fences.count as fences-count
+use Rattle.frame.proofs.kind.Fences.count.Reads as fences-count-reads
 use Rattle.frame.proofs.kind.Fences.bytes as fences-bytes
 use Rattle.frame.proofs.kind.Fences.bytes.Reads as fences-bytes-reads
 use Rattle.frame.proofs.kind.Fences.entry as fences-entry
@@ -61,6 +63,9 @@ tombstones-bytes-determined κs a pre r₁ r₂ w₁ w₂ p q = (p ∙ sym q, re
 
 pub tombstones-entry-determined : Determined tombstones-entry.ended tombstones-entry-reads.Pre tombstones-entry-reads.Post
 tombstones-entry-determined κs a pre r₁ r₂ w₁ w₂ p q = (p ∙ sym q, refl)
+
+pub fences-count-determined : Determined fences-count.ended fences-count-reads.Pre fences-count-reads.Post
+fences-count-determined κs a pre r₁ r₂ w₁ w₂ p q = (p ∙ sym q, refl)
 
 pub fences-bytes-determined : Determined fences-bytes.ended fences-bytes-reads.Pre fences-bytes-reads.Post
 fences-bytes-determined κs a pre r₁ r₂ w₁ w₂ p q = (p ∙ sym q, refl)
