@@ -14,6 +14,7 @@ use Rattle.codes.specs.Little.Laws.{leAt-back, length-leBytes}
 use Rattle.codes.specs.Ids.{idAt, idNumber, idBytes, halvesAt}
 use Rattle.codes.specs.Ids.Laws.{number-halves, halves-back, length-idBytes}
 use Rattle.refusal.specs.Check.Laws.{and-both}
+use Rattle.frame.specs.Kind as kind
 use Rattle.frame.specs.Open.{keyAt, fenceGood, fencesFrom, fencesGood, strideOf, fencesTold}
 use Rattle.batch_groups.specs.Groups.{none, Group, IdFits, Grouped}
 use Rattle.write_image.specs.Image.{keysIn, keyBytes, fenceBytes, fencesOf}
@@ -72,7 +73,7 @@ module _ (all : List Group) (o : Grouped 0 all) where
     x = fencesOf (keysIn all)
 
     abbrev count : ℕ
-    count = image.fenceCount (length (keysIn all))
+    count = kind.fenceCount (length (keysIn all))
 
     abbrev rows : List ℕ
     rows = image.fenceKeysFrom count (keysIn all) 0
