@@ -1,7 +1,7 @@
 // Varints: numbers below 2^64 in their shortest form, seven bits to a byte, the lowest first; the top bit says that
 // another byte follows.
 ghost use mathlib.Core.Path.{_≡_};
-ghost use Prim.Native.Nat.{_+_, _-_, _^_, _≤_, _<_};
+ghost use Prim.Native.Nat.{_+_, _^_, _≤_, _<_};
 ghost use lib.ListN.{length};
 ghost use Rattle.base.specs.Put.{Put};
 ghost use Rattle.codes.specs.Varint.{lastByte, varFrom, varintAt, varBytes};
@@ -22,9 +22,9 @@ pub enum Varint {
     Bad { why: Unread },
 }
 
-// What the last byte b gives, byte k of the number (from 0), over x with the weight m. The tenth has room for one bit.
-fn last_byte(b: u64, i: usize, x: u64, m: u64, k: usize) -> Varint
-    requires { ⌜ (k ≤ 9) × (b < 128) × (x < m) × (m ≡ 128 ^ k) × (i + 1 < 2 ^ 64) ⌝ }
+// What the last byte b gives, one of the first nine, over x with the weight m.
+fn last_byte(b: u64, i: usize, x: u64, m: u64) -> Varint
+    requires { ⌜ (b < 128) × (x < m) × (m ≤ 2 ^ 56) × (i + 1 < 2 ^ 64) ⌝ }
     ensures { λ r. ⌜ r ≡ lastByte b i x m ⌝ }
 {
     if b == 0 {
@@ -36,57 +36,58 @@ fn last_byte(b: u64, i: usize, x: u64, m: u64, k: usize) -> Varint
             next: i + 1,
         };
     }
-    if k == 9 {
-        if 1 < b {
-            return Varint::Bad { why: Unread::Large };
-        }
-        return Varint::Value {
-            value: x + m,
-            next: i + 1,
-        };
-    }
     Varint::Value {
         value: x + b * m,
         next: i + 1,
     }
 }
 
-// What is left of a number after `count` bytes, from `first` on, over what they give, `low`, with the weight of the next.
-fn varint_from(s: &[u8], first: usize, low: u64, weight: u64, count: usize) -> Varint
-    requires { ⌜ (count ≤ 10) × (low < weight) × (weight ≡ 128 ^ count) ⌝ }
-    ensures { λ r. ⌜ r ≡ varFrom (10 - count) (now (s .entry)) first low weight ⌝ }
+// What the tenth byte gives, at i, over x: it has room for one bit, and is never 0.
+fn tenth_byte(s: &[u8], i: usize, x: u64) -> Varint
+    requires { ⌜ x < 2 ^ 63 ⌝ }
+    ensures { λ r. ⌜ r ≡ varFrom 1 (now (s .entry)) i x (2 ^ 63) ⌝ }
 {
-    let mut i = first;
-    let mut x = low;
-    let mut m = weight;
-    let mut k = count;
-    while k < 10 {
-        if s.len() <= i {
-            return Varint::Bad { why: Unread::Cut };
-        }
-        let b = s[i] as u64;
-        if b < 128 {
-            return last_byte(b, i, x, m, k);
-        }
-        if k == 9 {
-            return Varint::Bad { why: Unread::Large };
-        }
-        x = x + b % 128 * m;
-        m = m * 128;
-        i = i + 1;
-        k = k + 1;
+    if s.len() <= i {
+        return Varint::Bad { why: Unread::Cut };
     }
-    Varint::Bad { why: Unread::Large }
+    let b = s[i] as u64;
+    if b == 0 {
+        return Varint::Bad { why: Unread::Long };
+    }
+    if 1 < b {
+        return Varint::Bad { why: Unread::Large };
+    }
+    Varint::Value {
+        value: x + (1 << 63),
+        next: i + 1,
+    }
 }
 
 // The number at `at`, and the place after it.
 pub fn varint_at(s: &[u8], at: usize) -> Varint
     ensures { λ r. ⌜ r ≡ varintAt (now (s .entry)) at ⌝ }
 {
-    varint_from(s, at, 0, 1, 0)
+    let mut i = at;
+    let mut x: u64 = 0;
+    let mut m: u64 = 1;
+    let mut k: usize = 0;
+    while k < 9 {
+        if s.len() <= i {
+            return Varint::Bad { why: Unread::Cut };
+        }
+        let b = s[i] as u64;
+        if b < 128 {
+            return last_byte(b, i, x, m);
+        }
+        x = x + b % 128 * m;
+        m = m * 128;
+        i = i + 1;
+        k = k + 1;
+    }
+    tenth_byte(s, i, x)
 }
 
-// The same, but a number of one byte or two is read without a call, and a longer one goes on with its third byte.
+// The same, but a number of one byte or two is read without a call. All else, every fault too, is left to `varint_at`.
 pub fn short_at(s: &[u8], at: usize) -> Varint
     ensures { λ r. ⌜ r ≡ varintAt (now (s .entry)) at ⌝ }
 {
@@ -100,14 +101,13 @@ pub fn short_at(s: &[u8], at: usize) -> Varint
         }
         if at + 1 < s.len() {
             let c = s[at + 1] as u64;
-            if 128 <= c {
-                return varint_from(s, at + 2, b % 128 + c % 128 * 128, 16384, 2);
-            }
             if 1 <= c {
-                return Varint::Value {
-                    value: b % 128 + 128 * c,
-                    next: at + 2,
-                };
+                if c < 128 {
+                    return Varint::Value {
+                        value: b % 128 + 128 * c,
+                        next: at + 2,
+                    };
+                }
             }
         }
     }

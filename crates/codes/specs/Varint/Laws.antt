@@ -81,7 +81,7 @@ digit-lt d x m g h = omega (arith, digits-lt g h)
 pub weight-le : (m k : ℕ) → m ≡ 128 ^ k → k ≤ 8 → m ≤ 2 ^ 56
 weight-le m k e h = rw e (pow-le-pow-right (zero-lt-suc 127) h)
 
--- ---- a number of one byte, of two, and of more
+-- ---- a number of one byte, and of two
 
 module _ (s : List ℕ) (i : ℕ) where
   pub varint-one : i < length s → getD s i 0 < 128 → varintAt s i ≡ Value (getD s i 0) (i + 1)
@@ -101,16 +101,6 @@ module _ (s : List ℕ) (i : ℕ) where
       let k : i + 1 + 1 ≡ i + 2 = omega arith in
       varint-from s i ∙ from-more s i 0 1 9 (omega arith) g
       ∙ from-value s (i + 1) x (1 * 128) 8 h b (λ z. omega arith) (omega arith) ∙ ap₂ (λ (v n : ℕ). Value v n) e k
-
-  -- a longer one goes on with its third byte
-  pub varint-more : i + 1 < length s → 128 ≤ getD s i 0 → 128 ≤ getD s (i + 1) 0
-      → varintAt s i ≡ varFrom 8 s (i + 2) (getD s i 0 % 128 + getD s (i + 1) 0 % 128 * 128) 16384
-  varint-more h g b =
-      let x : ℕ = 0 + getD s i 0 % 128 * 1 in
-      let e : x + getD s (i + 1) 0 % 128 * (1 * 128) ≡ getD s i 0 % 128 + getD s (i + 1) 0 % 128 * 128 = omega arith in
-      let k : i + 1 + 1 ≡ i + 2 = omega arith in
-      varint-from s i ∙ from-more s i 0 1 9 (omega arith) g
-      ∙ from-more s (i + 1) x (1 * 128) 8 h b ∙ ap₂ (λ (n v : ℕ). varFrom 8 s n v 16384) k e
 
 -- ---- the definition of writing, case by case
 

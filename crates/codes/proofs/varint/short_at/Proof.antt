@@ -1,8 +1,8 @@
--- `codes::varint::short_at` meets its contract: one byte or two are the whole number, or a beginning of it.
-use mathlib.Core.Path.{refl, sym, _∙_}
+-- `codes::varint::short_at` meets its contract: one byte or two are the whole number, and all else is left to `varint_at`.
+use mathlib.Core.Path.{sym}
 use Prim.Native.Nat.{_+_}
 use native.Mathlib.Omega.{arith}
-use Rattle.codes.specs.Varint.Laws.{varint-one, varint-two, varint-more}
+use Rattle.codes.specs.Varint.Laws.{varint-one, varint-two}
 use borrow.Author.Needs.{needs}
 use Rattle.codes.proofs.varint.short_at.Statement.{statement}
 use Rattle.codes.proofs.varint.short_at.Tie as tie
@@ -33,42 +33,25 @@ shared-slice-read-c c = search needs
 cast-c : tie.Need-cast-c
 cast-c c = omega (arith, c .shared-slice-known3 .given (c .before .before .before .before .before .before .args .at + 1))
 
-add-varint-from : tie.Need-add-varint-from
-add-varint-from c = search needs
+mul-t19 : tie.Need-mul-t19
+mul-t19 c = search needs
 
-mul-varint-from : tie.Need-mul-varint-from
-mul-varint-from c = search needs
+add-t20 : tie.Need-add-t20
+add-t20 c = search needs
 
-add-varint-from-2 : tie.Need-add-varint-from-2
-add-varint-from-2 c = search needs
-
-varint-from-requires : tie.Need-varint-from-requires
-varint-from-requires c κs = (omega arith, omega arith, refl)
+add-t21 : tie.Need-add-t21
+add-t21 c = search needs
 
 returns-2 : tie.Need-returns-2
 returns-2 c =
-    let a = c .before .before .before .before .before .before .before .before .args in
-    c .varint-from .ensures ∙ sym (varint-more (a .s .now) (a .at) (omega arith) (omega arith) (omega arith))
-
-mul-t23 : tie.Need-mul-t23
-mul-t23 c = search needs
-
-add-t24 : tie.Need-add-t24
-add-t24 c = search needs
-
-add-t25 : tie.Need-add-t25
-add-t25 c = search needs
-
-returns-3 : tie.Need-returns-3
-returns-3 c =
     let a = c .before .before .before .before .before .before .before .before .args in
     sym (varint-two (a .s .now) (a .at) (omega arith) (omega arith) (omega arith) (omega arith))
 
 varint-at-requires : tie.Need-varint-at-requires
 varint-at-requires c κs = search needs
 
-returns-4 : tie.Need-returns-4
-returns-4 c = search needs
+returns-3 : tie.Need-returns-3
+returns-3 c = search needs
 
 pub short-at-spec : {M : Type 1} → statement M
 short-at-spec =
@@ -82,14 +65,9 @@ short-at-spec =
     add-c
     shared-slice-read-c
     cast-c
-    add-varint-from
-    mul-varint-from
-    add-varint-from-2
-    varint-from-requires
+    mul-t19
+    add-t20
+    add-t21
     returns-2
-    mul-t23
-    add-t24
-    add-t25
-    returns-3
     varint-at-requires
-    returns-4)
+    returns-3)
