@@ -4,7 +4,7 @@ ghost use mathlib.Core.Path.{_≡_};
 ghost use Prim.Native.Nat.{_+_, _^_, _≤_, _<_};
 ghost use lib.ListN.{length};
 ghost use Rattle.base.specs.Put.{Put};
-ghost use Rattle.codes.specs.Varint.{lastByte, varFrom, varintAt, varBytes};
+ghost use Rattle.codes.specs.Varint.{lastByte, varintAt, varBytes};
 
 // Why no number is read.
 pub enum Unread {
@@ -22,9 +22,9 @@ pub enum Varint {
     Bad { why: Unread },
 }
 
-// What the last byte b gives, one of the first nine, over x with the weight m.
-fn last_byte(b: u64, i: usize, x: u64, m: u64) -> Varint
-    requires { ⌜ (b < 128) × (x < m) × (m ≤ 2 ^ 56) × (i + 1 < 2 ^ 64) ⌝ }
+// What the last byte b gives, byte k of the number (from 0), over x with the weight m. The tenth has room for one bit.
+fn last_byte(b: u64, i: usize, x: u64, m: u64, k: usize) -> Varint
+    requires { ⌜ (k ≤ 9) × (b < 128) × (x < m) × (m ≡ 128 ^ k) × (i + 1 < 2 ^ 64) ⌝ }
     ensures { λ r. ⌜ r ≡ lastByte b i x m ⌝ }
 {
     if b == 0 {
@@ -36,29 +36,17 @@ fn last_byte(b: u64, i: usize, x: u64, m: u64) -> Varint
             next: i + 1,
         };
     }
+    if k == 9 {
+        if 1 < b {
+            return Varint::Bad { why: Unread::Large };
+        }
+        return Varint::Value {
+            value: x + m,
+            next: i + 1,
+        };
+    }
     Varint::Value {
         value: x + b * m,
-        next: i + 1,
-    }
-}
-
-// What the tenth byte gives, at i, over x: it has room for one bit, and is never 0.
-fn tenth_byte(s: &[u8], i: usize, x: u64) -> Varint
-    requires { ⌜ x < 2 ^ 63 ⌝ }
-    ensures { λ r. ⌜ r ≡ varFrom 1 (now (s .entry)) i x (2 ^ 63) ⌝ }
-{
-    if s.len() <= i {
-        return Varint::Bad { why: Unread::Cut };
-    }
-    let b = s[i] as u64;
-    if b == 0 {
-        return Varint::Bad { why: Unread::Long };
-    }
-    if 1 < b {
-        return Varint::Bad { why: Unread::Large };
-    }
-    Varint::Value {
-        value: x + (1 << 63),
         next: i + 1,
     }
 }
@@ -71,20 +59,23 @@ pub fn varint_at(s: &[u8], at: usize) -> Varint
     let mut x: u64 = 0;
     let mut m: u64 = 1;
     let mut k: usize = 0;
-    while k < 9 {
+    while k < 10 {
         if s.len() <= i {
             return Varint::Bad { why: Unread::Cut };
         }
         let b = s[i] as u64;
         if b < 128 {
-            return last_byte(b, i, x, m);
+            return last_byte(b, i, x, m, k);
+        }
+        if k == 9 {
+            return Varint::Bad { why: Unread::Large };
         }
         x = x + b % 128 * m;
         m = m * 128;
         i = i + 1;
         k = k + 1;
     }
-    tenth_byte(s, i, x)
+    Varint::Bad { why: Unread::Large }
 }
 
 // The same, but a number of one byte or two is read without a call. All else, every fault too, is left to `varint_at`.
