@@ -39,7 +39,7 @@ use Rattle.reader.specs.Opened.{opened-keys}
 use Rattle.frame.specs.declared.Range.{Range}
 use Rattle.frame.specs.declared.Opened.{Opened}
 use Rattle.frame.specs.declared.Opening.{Opening}
-use Rattle.readout.specs.Edges.{edgeOf, edgesFrom, degreeIn, keyEdges, readFrom}
+use Rattle.readout.specs.Edges.{edgeOf, edgesFrom, keyDegree, keyEdges, readFrom}
 use Rattle.readout.specs.Edges.{edgesIn}
 use Rattle.readout.specs.ReadOut.{headingIn, batchIn}
 use Rattle.readout.specs.ReadOut.Laws.{checked-edges, checked-size, length-heading}
@@ -171,7 +171,7 @@ module _ (keys p o : List ℕ) (w : ℕ) (logs dead : List ℕ) (bk : Bytes keys
   read-fits (suc d) i e =
       fit-append (keyEdges keys p o w logs dead i e) _
       (run-fits (halvesAt keys (i * 16)) (beAt-lt keys bk (i * 16) 8) (beAt-lt keys bk (i * 16 + 8) 8) (partnersOf (groupIn p o w i)) e (group-halves i))
-      (read-fits d (i + 1) (e + degreeIn keys p o w logs dead i))
+      (read-fits d (i + 1) (e + keyDegree keys p o w logs dead i))
 
 -- ---- the edges of a file are in order
 
@@ -241,7 +241,7 @@ module _ (keys p o : List ℕ) (w : ℕ) (logs dead : List ℕ) (n : ℕ) (rise 
   unfolding readFrom Chain
   read-chain zero i e q = tt
   read-chain (suc d) i e q =
-      let next : ℕ = e + degreeIn keys p o w logs dead i in
+      let next : ℕ = e + keyDegree keys p o w logs dead i in
       let number = number-halves keys (i * 16) in
       let above = head-read d (i + 1) next (idNumber (halvesAt keys (i * 16))) (omega arith) (λ h. let up = rise i (i + 1) (omega arith) (omega arith) in omega arith) in
       chain-run logs dead (halvesAt keys (i * 16)) (partnersOf (groupIn p o w i)) 0 e (readFrom keys p o w logs dead d (i + 1) next) (partners-some i (omega arith) .1) above (read-chain d (i + 1) next (omega arith))

@@ -47,7 +47,7 @@ use Rattle.reader.specs.Look.{of-good, with-record}
 use Rattle.batch.specs.declared.Edge.{Edge}
 use Rattle.full_check.specs.Full.{groupIn, groupsFrom, degreesFrom, fullCheck, checkedOf}
 use Rattle.full_check.specs.Checked.{checked-opened, fine-checked}
-use Rattle.readout.specs.Edges.{edgeOf, edgesFrom, degreeIn, keyEdges, readFrom, edgesIn}
+use Rattle.readout.specs.Edges.{edgeOf, edgesFrom, keyDegree, keyEdges, readFrom, edgesIn}
 use Rattle.readout.specs.ReadOut.Laws.{checked-edges}
 
 -- ---- the words of the statement
@@ -169,13 +169,13 @@ module _ (keys p o : List ℕ) (w : ℕ) (logs dead : List ℕ) where
         | no s ↦ each-good d (i + 1) (q .1) j (omega arith) (omega arith)
       ]
 
-  degrees-last : (d i : ℕ) → degreesFrom p o w (suc d) i ≡ degreesFrom p o w d i + degreeIn keys p o w logs dead (i + d)
+  degrees-last : (d i : ℕ) → degreesFrom p o w (suc d) i ≡ degreesFrom p o w d i + keyDegree keys p o w logs dead (i + d)
   unfolding degreesFrom
   degrees-last zero i = let z : i + 0 ≡ i = omega arith in rw z (omega arith)
   degrees-last (suc d) i =
       let ih = degrees-last d (i + 1) in
       let z : i + 1 + d ≡ i + suc d = omega arith in
-      ap (λ (t : ℕ). degreeIn keys p o w logs dead i + t) (ih ∙ ap (λ (t : ℕ). degreesFrom p o w d (i + 1) + degreeIn keys p o w logs dead t) z) ∙ omega arith
+      ap (λ (t : ℕ). keyDegree keys p o w logs dead i + t) (ih ∙ ap (λ (t : ℕ). degreesFrom p o w d (i + 1) + keyDegree keys p o w logs dead t) z) ∙ omega arith
 
   degrees-cut : (a b i : ℕ) → degreesFrom p o w (a + b) i ≡ degreesFrom p o w a i + degreesFrom p o w b (i + a)
   unfolding degreesFrom
@@ -184,12 +184,12 @@ module _ (keys p o : List ℕ) (w : ℕ) (logs dead : List ℕ) where
       let n : suc a + b ≡ suc (a + b) = omega arith in
       let z : i + 1 + a ≡ i + suc a = omega arith in
       ap (λ (t : ℕ). degreesFrom p o w t i) n
-      ∙ ap (λ (t : ℕ). degreeIn keys p o w logs dead i + t) (degrees-cut a b (i + 1) ∙ ap (λ (t : ℕ). degreesFrom p o w a (i + 1) + degreesFrom p o w b t) z)
+      ∙ ap (λ (t : ℕ). keyDegree keys p o w logs dead i + t) (degrees-cut a b (i + 1) ∙ ap (λ (t : ℕ). degreesFrom p o w a (i + 1) + degreesFrom p o w b t) z)
       ∙ omega arith
 
   -- the edges before a group are those of the degrees before it
   module _ (n : ℕ) (up : OffsetsRise o w n (length p)) (ok : groupsFrom p o w n 0 ≡ Check.Fine) where
-    degree-here : (i : ℕ) → i < n → (degreeAt p o w i ≡ Degree.Is (degreeIn keys p o w logs dead i)) × (1 ≤ degreeIn keys p o w logs dead i)
+    degree-here : (i : ℕ) → i < n → (degreeAt p o w i ≡ Degree.Is (keyDegree keys p o w logs dead i)) × (1 ≤ keyDegree keys p o w logs dead i)
     degree-here i lt =
         let g = groupAt p o w i in
         let good = each-good n 0 ok i (omega arith) (omega arith) in
@@ -206,7 +206,7 @@ module _ (keys p o : List ℕ) (w : ℕ) (logs dead : List ℕ) where
     before-is (suc i) h =
         let d = degree-here i (omega arith) .0 in
         let z : 0 + i ≡ i = omega arith in
-        rw (before-is i (omega arith), d) (ap Sum.Total (ap (λ (t : ℕ). degreesFrom p o w i 0 + degreeIn keys p o w logs dead t) (sym z) ∙ sym (degrees-last i 0)))
+        rw (before-is i (omega arith), d) (ap Sum.Total (ap (λ (t : ℕ). degreesFrom p o w i 0 + keyDegree keys p o w logs dead t) (sym z) ∙ sym (degrees-last i 0)))
 
   -- ---- the edges of key k among all of them
 
@@ -214,9 +214,9 @@ module _ (keys p o : List ℕ) (w : ℕ) (logs dead : List ℕ) where
   unfolding readFrom ofKey
   none-read k zero i e n = refl
   none-read k (suc d) i e n =
-      let ih = none-read k d (i + 1) (e + degreeIn keys p o w logs dead i) (λ j a b. n j (omega arith) (omega arith)) in
+      let ih = none-read k d (i + 1) (e + keyDegree keys p o w logs dead i) (λ j a b. n j (omega arith) (omega arith)) in
       let mine = none-of logs dead (halvesAt keys (i * 16)) k (λ q. n i (omega arith) (omega arith) (sym (number-halves keys (i * 16)) ∙ q)) (partnersOf (groupIn p o w i)) e in
-      key-append k (keyEdges keys p o w logs dead i e) (readFrom keys p o w logs dead d (i + 1) (e + degreeIn keys p o w logs dead i))
+      key-append k (keyEdges keys p o w logs dead i e) (readFrom keys p o w logs dead d (i + 1) (e + keyDegree keys p o w logs dead i))
       ∙ ap₂ (λ (x y : List Edge). x ++ y) mine ih
 
   one-read : (k : ℕ) (d i e j : ℕ) → i ≤ j → j < i + d → keyAt keys j ≡ k → ((m : ℕ) → i ≤ m → m < i + d → keyAt keys m ≡ k → m ≡ j)
@@ -227,18 +227,18 @@ module _ (keys p o : List ℕ) (w : ℕ) (logs dead : List ℕ) where
       elim (ℕ-discrete i j) [
         | yes s ↦
             let mine = all-of logs dead (halvesAt keys (i * 16)) k (number-halves keys (i * 16) ∙ ap (keyAt keys) s ∙ q) (partnersOf (groupIn p o w i)) e in
-            let others = none-read k d (i + 1) (e + degreeIn keys p o w logs dead i) (λ m x y r. let z = u m (omega arith) (omega arith) r in omega arith) in
+            let others = none-read k d (i + 1) (e + keyDegree keys p o w logs dead i) (λ m x y r. let z = u m (omega arith) (omega arith) r in omega arith) in
             let none : j - i ≡ 0 = omega arith in
-            key-append k (keyEdges keys p o w logs dead i e) (readFrom keys p o w logs dead d (i + 1) (e + degreeIn keys p o w logs dead i))
+            key-append k (keyEdges keys p o w logs dead i e) (readFrom keys p o w logs dead d (i + 1) (e + keyDegree keys p o w logs dead i))
             ∙ ap₂ (λ (x y : List Edge). x ++ y) mine others
             ∙ append-nil (keyEdges keys p o w logs dead i e)
             ∙ ap₂ (λ (x y : ℕ). keyEdges keys p o w logs dead x y) s (sym (ap (λ (t : ℕ). e + degreesFrom p o w t i) none ∙ add-zero e))
         | no s ↦
             let mine = none-of logs dead (halvesAt keys (i * 16)) k (λ r. s (u i (omega arith) (omega arith) (sym (number-halves keys (i * 16)) ∙ r))) (partnersOf (groupIn p o w i)) e in
-            let ih = one-read k d (i + 1) (e + degreeIn keys p o w logs dead i) j (omega arith) (omega arith) q (λ m x y r. u m (omega arith) (omega arith) r) in
+            let ih = one-read k d (i + 1) (e + keyDegree keys p o w logs dead i) j (omega arith) (omega arith) q (λ m x y r. u m (omega arith) (omega arith) r) in
             let more : j - i ≡ suc (j - (i + 1)) = omega arith in
-            let sum : e + degreeIn keys p o w logs dead i + degreesFrom p o w (j - (i + 1)) (i + 1) ≡ e + (degreeIn keys p o w logs dead i + degreesFrom p o w (j - (i + 1)) (i + 1)) = omega arith in
-            key-append k (keyEdges keys p o w logs dead i e) (readFrom keys p o w logs dead d (i + 1) (e + degreeIn keys p o w logs dead i))
+            let sum : e + keyDegree keys p o w logs dead i + degreesFrom p o w (j - (i + 1)) (i + 1) ≡ e + (keyDegree keys p o w logs dead i + degreesFrom p o w (j - (i + 1)) (i + 1)) = omega arith in
+            key-append k (keyEdges keys p o w logs dead i e) (readFrom keys p o w logs dead d (i + 1) (e + keyDegree keys p o w logs dead i))
             ∙ ap₂ (λ (x y : List Edge). x ++ y) mine ih
             ∙ ap (keyEdges keys p o w logs dead j) (sum ∙ ap (λ (t : ℕ). e + degreesFrom p o w t i) (sym more))
       ]

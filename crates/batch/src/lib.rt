@@ -31,6 +31,15 @@ impl Edge {
     pub const RECORD: usize = 41;
 
     pub const HEAD: usize = 50;
+
+    // Where the ids and the log number stand in a record, and the bytes of the log number, which end it.
+    pub const KEY: usize = 1;
+
+    pub const PARTNER: usize = 17;
+
+    pub const LOG: usize = 33;
+
+    pub const LOG_SIZE: usize = 8;
 }
 
 // The kind of an edge's record.
@@ -48,9 +57,9 @@ pub fn edge_at(s: &[u8], i: usize) -> Edge
     requires { ⌜ i + recordSize ≤ length (now s) ⌝ }
     ensures { λ r. ⌜ r ≡ edgeAt (now (s .entry)) i ⌝ }
 {
-    let key = id_at(s, i + 1);
-    let partner = id_at(s, i + 17);
-    let log = le64(s, i + 33);
+    let key = id_at(s, i + Edge::KEY);
+    let partner = id_at(s, i + Edge::PARTNER);
+    let log = le64(s, i + Edge::LOG);
     let dead = s[i] == Edge::DEAD;
     Edge {
         key,
@@ -68,7 +77,7 @@ pub fn put_edge(out: &mut [u8], at: usize, e: Edge)
     let key = e.key;
     let partner = e.partner;
     out[at] = kind_of(e.dead);
-    put_id(out, at + 1, key);
-    put_id(out, at + 17, partner);
-    put_le(out, at + 33, 8, e.log);
+    put_id(out, at + Edge::KEY, key);
+    put_id(out, at + Edge::PARTNER, partner);
+    put_le(out, at + Edge::LOG, Edge::LOG_SIZE, e.log);
 }

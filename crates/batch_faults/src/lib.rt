@@ -33,10 +33,10 @@ fn follow_by(s: &[u8], i: usize, j: usize) -> Follow
     requires { ⌜ (i + recordSize ≤ length (now s)) × (j + recordSize ≤ length (now s)) ⌝ }
     ensures { λ r. ⌜ r ≡ followBy (edgeAt (now (s .entry)) i) (edgeAt (now (s .entry)) j) ⌝ }
 {
-    match compare(id_at(s, i + 1), id_at(s, j + 1)) {
+    match compare(id_at(s, i + Edge::KEY), id_at(s, j + Edge::KEY)) {
         Order::Less => Follow::New,
         Order::Greater => Follow::Wrong,
-        Order::Equal => match compare(id_at(s, i + 17), id_at(s, j + 17)) {
+        Order::Equal => match compare(id_at(s, i + Edge::PARTNER), id_at(s, j + Edge::PARTNER)) {
             Order::Less => Follow::Same,
             Order::Equal => Follow::Wrong,
             Order::Greater => Follow::Wrong,

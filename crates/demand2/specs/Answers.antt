@@ -98,32 +98,32 @@ module _ (gs : List Group) (order : Grouped 0 gs) (k : ℕ) where
 -- ---- the outcome
 
 -- index and count of an outcome, if it has them
-unfoldable pub Placed : ℕ → List Group → Outcome → Type 0
-Placed k gs (found i c ps logs marks) = (i ≡ indexIn k gs) × (c ≡ comparisonsIn k gs)
-Placed k gs (absent c) = c ≡ comparisonsIn k gs
-Placed k gs (refused r) = Unit {0}
+unfoldable pub PlaceTold : ℕ → List Group → Outcome → Type 0
+PlaceTold k gs (found i c ps logs marks) = (i ≡ indexIn k gs) × (c ≡ comparisonsIn k gs)
+PlaceTold k gs (absent c) = c ≡ comparisonsIn k gs
+PlaceTold k gs (refused r) = Unit {0}
 
 module _ (known : Known) (gs : List Group) (order : Grouped 0 gs) (keys : known .keys ≡ keyBytes gs) (count : known .keycount ≡ length gs) (full : Bool) (rooms : Rooms) (k : ℕ) where
-  on-group : (i c : ℕ) (chk : Check) (ps : List Id) (logs marks : List ℕ) → findIn (keyBytes gs) (length gs) k ≡ Found.At i c → Placed k gs (outcome chk (found i c ps logs marks))
-  unfolding Placed outcome comparedOf
+  on-group : (i c : ℕ) (chk : Check) (ps : List Id) (logs marks : List ℕ) → findIn (keyBytes gs) (length gs) k ≡ Found.At i c → PlaceTold k gs (outcome chk (found i c ps logs marks))
+  unfolding PlaceTold outcome comparedOf
   on-group i c Check.Fine ps logs marks e = (found-at gs order k i c e, sym (ap comparedOf e))
   on-group i c (Check.Bad r) ps logs marks e = tt
 
-  on-search : (x : Found) → findIn (keyBytes gs) (length gs) k ≡ x → Placed k gs (onFound full rooms known x)
-  unfolding Placed onFound lookGroup comparedOf
+  on-search : (x : Found) → findIn (keyBytes gs) (length gs) k ≡ x → PlaceTold k gs (onFound full rooms known x)
+  unfolding PlaceTold onFound lookGroup comparedOf
   on-search (Found.At i c) e = on-group i c _ _ _ _ e
   on-search (Found.Absent c) e = sym (ap comparedOf e)
 
-  pub look-placed : Placed k gs (lookIn full rooms known k)
+  pub look-placed : PlaceTold k gs (lookIn full rooms known k)
   unfolding lookIn
   look-placed =
       let e : findIn (known .keys) (known .keycount) k ≡ findIn (keyBytes gs) (length gs) k = ap₂ (λ (s : List ℕ) (n : ℕ). findIn s n k) keys count in
       on-search (findIn (known .keys) (known .keycount) k) (sym e)
 
 -- with the edges that it says, an outcome is the one that the edges give
-pub outcome-is : (full : Bool) (k : ℕ) (gs : List Group) (es : List Edge) (x : Outcome) → Says full x es → Placed k gs x
+pub outcome-is : (full : Bool) (k : ℕ) (gs : List Group) (es : List Edge) (x : Outcome) → Says full x es → PlaceTold k gs x
     → x ≡ outcomeBy full (indexIn k gs) (comparisonsIn k gs) es
-unfolding Says Placed outcomeBy
+unfolding Says PlaceTold outcomeBy
 outcome-is full k gs [] (found i c ps logs marks) h p = absurd (omega (arith, h .0))
 outcome-is full k gs (e ∷ es) (found i c ps logs marks) h p = λ j. found (p .0 j) (p .1 j) (h .1 j) (h .2 j) (h .3 j)
 outcome-is full k gs [] (absent c) h p = ap absent p

@@ -32,7 +32,7 @@ use Rattle.batch_groups.specs.Groups.Laws.{flat-append}
 use Rattle.write_image.specs.Image.{keysIn, isDense, groupBytes, bytesIn, anyDense, keyBytes, partnerBytes, startsFrom, offsetBytes, logBytes, octets, tombBytes, bit}
 use Rattle.write_image.specs.Image.Laws.{length-partners, run-partners, group-is, group-some, length-keysIn}
 use Rattle.full_check.specs.Full.{denseOf, groupIn, groupsFrom, degreesFrom, denseFrom}
-use Rattle.readout.specs.Edges.{edgeOf, edgesFrom, degreeIn, keyEdges, readFrom}
+use Rattle.readout.specs.Edges.{edgeOf, edgesFrom, keyDegree, keyEdges, readFrom}
 use Rattle.demand2.specs.Rows.{numbers-at, ids-mid, partners-append, length-starts, starts-at, keys-append, marks-at, logs-at, length-logsIn, mark-at, bit-is, none-dead}
 
 -- ---- where groups lie

@@ -35,7 +35,7 @@ use Rattle.reader.specs.declared.header.HeaderRead.{HeaderRead}
 use Rattle.reader.specs.Header.{headerOf, header-good}
 use Rattle.reader.specs.Look.{of-good, with-record}
 use Rattle.demand2.specs.File.{WrittenFile, minor-is, flags-is, file-opens, known-keys, passes, edges-again, batch-back}
-use Rattle.demand2.specs.Answers.{outcomeFor, Placed, look-placed, outcome-is}
+use Rattle.demand2.specs.Answers.{outcomeFor, PlaceTold, look-placed, outcome-is}
 
 -- the file of a batch
 abbrev pub fileFor : List ℕ → List ℕ
@@ -133,7 +133,7 @@ module _ (s : List ℕ) (lawful : Lawful s) where
       let flags = flags-is (headingOf s) (edgesOf s) written in
       good ∙ ap HeaderRead.Good (same-heading f (headerIn f) good ∙ (λ j. headerFor (minor j) (flags j) (back j)))
 
-  placed : (all : Bool) (rooms : Rooms) (key : ℕ) → Placed key (groupsOf (edgesOf s)) (lookOf all rooms key f)
+  placed : (all : Bool) (rooms : Rooms) (key : ℕ) → PlaceTold key (groupsOf (edgesOf s)) (lookOf all rooms key f)
   placed all rooms key =
       let keys = known-keys (headingOf s) (edgesOf s) written in
       rw (of-good all rooms key f (recordOf f) opens)

@@ -24,7 +24,7 @@ use Rattle.write_file.specs.Written.{neededOf, writtenOf, Wrote}
 use Rattle.listing.specs.declared.Listed.{Listed}
 use Rattle.listing.specs.List as list
 use Rattle.edge_sst_c.specs.Look.{recordLent}
-use Rattle.edge_sst_c.specs.Back.{openingFrom, headerFrom, lookedFrom, checkFrom, readFrom, writtenFrom, listedFrom, opening-back, header-back, header-bytes, looked-back, check-back, read-out-back, written-back, listed-back}
+use Rattle.edge_sst_c.specs.Back.{openingFrom, headerFrom, lookedFrom, checkFrom, readOutFrom, writtenFrom, listedFrom, opening-back, header-back, header-bytes, looked-back, check-back, read-out-back, written-back, listed-back}
 use Rattle.edge_sst_c.specs.Refused.{Tells, Unfound, opened-tells, header-tells, looked-tells, check-tells, read-tells, written-tells, listed-tells, partners-stay, edges-stay, read-stays, write-stays, sections-stay}
 use Rattle.edge_sst_c.proofs.Every.{Every}
 use Rattle.edge_sst_c.proofs.edge_sst_open as c-open
@@ -83,8 +83,8 @@ lookup-with-says κs a r e p = ap lookedFrom (p .answer) ∙ looked-back _
 pub check-says : Every c-check.ended c-check-reads.Post (λ κs a r e. checkFrom r ≡ fullCheck (now (a .0)))
 check-says κs a r e p = ap checkFrom p ∙ check-back _
 
-pub read-out-says : Every c-read-out.ended c-read-out-reads.Post (λ κs a r e. readFrom r ≡ readOutOf (now (a .0)) (length (now (a .1 .0))))
-read-out-says κs a r e p = ap readFrom (p .0) ∙ read-out-back _
+pub read-out-says : Every c-read-out.ended c-read-out-reads.Post (λ κs a r e. readOutFrom r ≡ readOutOf (now (a .0)) (length (now (a .1 .0))))
+read-out-says κs a r e p = ap readOutFrom (p .0) ∙ read-out-back _
 
 pub needed-says : Every c-needed.ended c-needed-reads.Post (λ κs a r e. writtenFrom r ≡ neededOf (now (a .0)))
 needed-says κs a r e p = ap writtenFrom p ∙ written-back _
@@ -180,7 +180,7 @@ pub lookup-with-same : Every c-lookup-with.ended c-lookup-with-reads.Post
 lookup-with-same κs a r e p = record { answer = lookup-with-says κs a r e p; partners = p .partners; numbers = p .numbers; dead = p .dead }
 
 pub read-out-same : Every c-read-out.ended c-read-out-reads.Post
-    (λ κs a r e. (readFrom r ≡ readOutOf (now (a .0)) (length (now (a .1 .0)))) × (now (e .1 .0) ≡ readOutLeaves (now (a .0)) (now (a .1 .0))))
+    (λ κs a r e. (readOutFrom r ≡ readOutOf (now (a .0)) (length (now (a .1 .0)))) × (now (e .1 .0) ≡ readOutLeaves (now (a .0)) (now (a .1 .0))))
 read-out-same κs a r e p = (read-out-says κs a r e p, p .1)
 
 pub write-same : Every c-write.ended c-write-reads.Post (λ κs a r e. Wrote (now (a .0)) (now (a .1 .0)) (writtenFrom r) (now (e .1 .0)))

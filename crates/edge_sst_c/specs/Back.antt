@@ -74,10 +74,10 @@ unfolding checkTold
 check-back Check.Fine = refl
 check-back (Check.Bad r) = unless-told Check.Bad Check.Fine r
 
-abbrev pub readFrom : EdgeSstDone → ReadOut
-readFrom r = unless ReadOut.Refused (r .number) (r .place) (r .beside) (ReadOut.Done (r .bytes))
+abbrev pub readOutFrom : EdgeSstDone → ReadOut
+readOutFrom r = unless ReadOut.Refused (r .number) (r .place) (r .beside) (ReadOut.Done (r .bytes))
 
-pub read-out-back : (x : ReadOut) → readFrom (readTold x) ≡ x
+pub read-out-back : (x : ReadOut) → readOutFrom (readTold x) ≡ x
 unfolding readTold
 read-out-back (ReadOut.Done n) = refl
 read-out-back (ReadOut.Refused r) = unless-told ReadOut.Refused (ReadOut.Done 0) r

@@ -24,8 +24,12 @@ impl Header {
     // `TGEDGE` and two zero bytes, as a little-endian number.
     pub const MAGIC: u64 = 0x0000_4547_4445_4754;
 
-    // Where the fields stand in it.
+    // Where the fields stand in it; the magic stands first.
+    pub const MAJOR: usize = 8;
+
     pub const MINOR: usize = 9;
+
+    pub const OWN_SIZE: usize = 10;
 
     pub const FLAGS: usize = 12;
 
@@ -34,6 +38,9 @@ impl Header {
     pub const SOURCE: usize = 32;
 
     pub const DESTINATION: usize = 48;
+
+    // The weight of flag bit 3, which says inverse.
+    pub const INVERSE: u64 = 8;
 }
 
 // A footer is its body and the trailer.

@@ -33,6 +33,17 @@ impl Row {
     // Bytes of an entry without its name.
     pub const ENTRY: usize = 28;
 
+    // Where the fields stand in it; the kind stands first.
+    pub const CODEC: usize = 2;
+
+    pub const NAMELEN: usize = 3;
+
+    pub const START: usize = 4;
+
+    pub const LEN: usize = 12;
+
+    pub const SUM: usize = 20;
+
     pub const RAW: u8 = 0;
 
     // An entry without a name, as the kinds that are read have it.

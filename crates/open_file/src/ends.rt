@@ -44,7 +44,7 @@ pub fn flags_of(h: &[u8]) -> u64
     requires { ⌜ kind.headerSize ≤ length (now h) ⌝ }
     ensures { λ r. ⌜ r ≡ flagsOf (now (h .entry)) ⌝ }
 {
-    le32(h, 12)
+    le32(h, Header::FLAGS)
 }
 
 // Rules 2 to 5.
@@ -56,11 +56,11 @@ fn head_check(h: &[u8]) -> Check
     if magic != Header::MAGIC {
         return bad(Refusal::Magic);
     }
-    let major = byte(h, 8);
+    let major = byte(h, Header::MAJOR);
     if major != 1 {
         return bad(Refusal::Major);
     }
-    let size = le16(h, 10);
+    let size = le16(h, Header::OWN_SIZE);
     if size != Header::SIZE as u64 {
         return bad(Refusal::HeaderSize);
     }

@@ -47,13 +47,13 @@ pub fn row_at(b: &[u8], i: usize) -> Row
     ensures { λ r. ⌜ r ≡ rowAt (now (b .entry)) i ⌝ }
 {
     let kind = le16(b, i) as u16;
-    let start = le64(b, i + 4);
-    let len = le64(b, i + 12);
-    let sum = le64(b, i + 20);
+    let start = le64(b, i + Row::START);
+    let len = le64(b, i + Row::LEN);
+    let sum = le64(b, i + Row::SUM);
     Row {
         kind,
-        codec: b[i + 2],
-        namelen: b[i + 3],
+        codec: b[i + Row::CODEC],
+        namelen: b[i + Row::NAMELEN],
         nameat: (i + Row::ENTRY) as u64,
         start,
         len,

@@ -148,8 +148,8 @@ pub record Passed (f : List ℕ) (keys : ℕ) (batch : List ℕ) : Type 0 where
   pub read : batch ≡ batchIn f
 
 -- room for the batch of a file that passes
-abbrev pub Enough : List ℕ → ℕ → Type 0
-Enough f room = fullCheck f ≡ Check.Fine → neededFor f ≤ room
+abbrev pub BatchRoom : List ℕ → ℕ → Type 0
+BatchRoom f room = fullCheck f ≡ Check.Fine → neededFor f ≤ room
 
 -- of a file that is printed, and for its batch: eight bytes of it are an edge's log number
 abbrev pub longest : ℕ

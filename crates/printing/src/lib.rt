@@ -6,7 +6,7 @@ ghost use lib.ListN.{length, take};
 ghost use Rattle.base.specs.Pick.{pick};
 ghost use Rattle.base.specs.Put.{Put};
 ghost use Rattle.batch.specs.Batch.{headingSize, recordCount, edgesOf};
-ghost use Rattle.printing.specs.Printed.{idText, lifeEnd, edgeLine, directionWord, firstLine, deadIn, lineAt, lineRoom, lineCount, PagePut, printedOf, PartOf, Passed, Enough};
+ghost use Rattle.printing.specs.Printed.{idText, lifeEnd, edgeLine, directionWord, firstLine, deadIn, lineAt, lineRoom, lineCount, PagePut, printedOf, PartOf, Passed, BatchRoom};
 ghost use Rattle.refusal.specs.declared.Check.{Check};
 ghost use Rattle.frame.specs.Frame.{recordOf};
 ghost use Rattle.full_check.specs.Full.{fullCheck};
@@ -217,7 +217,7 @@ fn print_refusal(file: &[u8], refusal: Refusal, out: &mut [u8]) -> bool
 
 // A file that opens, with so many keys.
 fn print_opened(file: &[u8], keys: u64, room: &mut [u8], out: &mut [u8]) -> bool
-    requires { ⌜ (keys ≡ recordOf (now file) .keycount) × Enough (now file) (length (now room)) × (lineRoom ≤ length (now out)) ⌝ }
+    requires { ⌜ (keys ≡ recordOf (now file) .keycount) × BatchRoom (now file) (length (now room)) × (lineRoom ≤ length (now out)) ⌝ }
 {
     match read_out(file, room) {
         ReadOut::Refused { refusal } => print_refusal(file, refusal, out),
@@ -231,7 +231,7 @@ fn print_opened(file: &[u8], keys: u64, room: &mut [u8], out: &mut [u8]) -> bool
 // Prints a file to standard output; false where a write failed, and then nothing is written after it. `room` is lent for its
 // batch, `out` for lines.
 pub fn print_file(file: &[u8], room: &mut [u8], out: &mut [u8]) -> bool
-    requires { ⌜ Enough (now file) (length (now room)) × (lineRoom ≤ length (now out)) ⌝ }
+    requires { ⌜ BatchRoom (now file) (length (now room)) × (lineRoom ≤ length (now out)) ⌝ }
 {
     match open(file) {
         Opening::Refused { refusal } => print_refusal(file, refusal, out),

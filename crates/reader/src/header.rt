@@ -30,7 +30,7 @@ fn fields(file: &[u8]) -> Header
     let destination = id_at(file, Header::DESTINATION);
     Header {
         minor: byte(file, Header::MINOR) as u8,
-        direction: (flags / 8 % 2) as u8,
+        direction: (flags / Header::INVERSE % 2) as u8,
         flags: flags as u32,
         edgetype,
         source,

@@ -28,8 +28,8 @@ edgesFrom logs dead key e (p ∷ ps) = edgeOf logs dead key p e ∷ edgesFrom lo
 
 -- p the partners, o the offsets of w bytes each
 module _ (keys p o : List ℕ) (w : ℕ) (logs dead : List ℕ) where
-  abbrev pub degreeIn : ℕ → ℕ
-  degreeIn i = length (partnersOf (groupIn p o w i))
+  abbrev pub keyDegree : ℕ → ℕ
+  keyDegree i = length (partnersOf (groupIn p o w i))
 
   -- the edges of key i
   abbrev pub keyEdges : ℕ → ℕ → List Edge
@@ -38,7 +38,7 @@ module _ (keys p o : List ℕ) (w : ℕ) (logs dead : List ℕ) where
   -- those of d keys from key i on
   unfoldable pub readFrom : ℕ → ℕ → ℕ → List Edge
   readFrom zero i e = []
-  readFrom (suc d) i e = keyEdges i e ++ readFrom d (i + 1) (e + degreeIn i)
+  readFrom (suc d) i e = keyEdges i e ++ readFrom d (i + 1) (e + keyDegree i)
 
 -- all of them
 unfoldable pub edgesIn : Known → List Edge

@@ -16,6 +16,7 @@ use batch::Edge;
 use codes::little::le32;
 use frame::Opened;
 use frame::bytes_of;
+use frame::ends::Header;
 use index::keys::key_at;
 use index::offsets::offset_at;
 use lookup::whole::tombstones_of;
@@ -84,8 +85,8 @@ pub fn put_heading(file: &[u8], out: &mut [u8])
     requires { ⌜ (headerSize ≤ length (now file)) × (headingSize ≤ length (now out)) ⌝ }
     ensures { λ _. ⌜ now (out .exit) ≡ sets (now (out .entry)) 0 (headingBytes (headingIn (now (file .entry)))) ⌝ }
 {
-    let flags = le32(file, 12);
+    let flags = le32(file, Header::FLAGS);
     out[0] = Edge::HEADING;
-    out[1] = (flags / 8 % 2) as u8;
-    put_bytes(&file[16..64], out, 2);
+    out[1] = (flags / Header::INVERSE % 2) as u8;
+    put_bytes(&file[Header::EDGE_TYPE..Header::SIZE], out, 2);
 }

@@ -10,10 +10,12 @@ use xxh3::xxh3;
 
 // ---- what is printed
 
+// Prints a word.
 pub fn word(s: &[u8]) {
     streams::wrote(s);
 }
 
+// Prints a number.
 pub fn decimal(x: u64) {
     io::print_decimal(libc::STDOUT_FILENO, x);
 }
@@ -71,6 +73,7 @@ pub fn sum(said: &[u8], s: &[u8]) {
     hex(xxh3(s));
 }
 
+// Prints the sum of the first n bytes, if there are so many.
 pub fn sum_front(said: &[u8], s: &[u8], n: usize) {
     if n <= s.len() {
         sum(said, &s[0..n]);
@@ -111,6 +114,7 @@ pub fn read_byte() -> usize {
     first_byte(&b[..n])
 }
 
+// Reads a number of four bytes.
 pub fn read_number() -> usize {
     let mut b = [0u8; 4];
     let n = io::read_full(0, &mut b);
@@ -138,6 +142,7 @@ pub struct Entry {
 // The most entries of a corpus.
 pub const MOST: usize = 100000;
 
+// Reads the next entry.
 pub fn next_entry(name: &mut [u8], space: &mut [u8]) -> Entry
     ensures { λ e. ⌜ (e .name ≤ length (now (name .exit))) × (e .size ≤ length (now (space .exit))) ⌝ }
 {

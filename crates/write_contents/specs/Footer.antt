@@ -61,8 +61,11 @@ module _ {r : Row} (k start len : ℕ) (e : r ≡ rawRow k start len 0) where
   pub named : {o o₁ : List ℕ} {at p : ℕ} → Put o o₁ at p (entryIn o (r .kind) (r .start) (r .len)) → Put o o₁ at p (entryIn o k start len)
   named {o} {o₁} {at} {p} w = subst (λ (x : Row). Put o o₁ at p (entryIn o (x .kind) (x .start) (x .len))) e w
 
-  pub asked : {n at : ℕ} → (start + len ≤ n) × (at + 28 ≤ n) × (at ≤ 4294967296) → (r .start + r .len ≤ n) × (at + 28 ≤ n) × (at ≤ 4294967296)
-  asked {n} {at} h = subst (λ (x : Row). (x .start + x .len ≤ n) × (at + 28 ≤ n) × (at ≤ 4294967296)) (sym e) h
+  pub asked : {n at : ℕ} → (start + len ≤ n) × (at + 28 ≤ n) × (at ≤ 4294967296)
+      → (r ≡ rawRow (r .kind) (r .start) (r .len) 0) × (r .start + r .len ≤ n) × (at + 28 ≤ n) × (at ≤ 4294967296)
+  asked {n} {at} h =
+      subst (λ (x : Row). (x ≡ rawRow (x .kind) (x .start) (x .len) 0) × (x .start + x .len ≤ n) × (at + 28 ≤ n) × (at ≤ 4294967296)) (sym e)
+      (refl, h .0, h .1, h .2)
 
 -- an entry of a section below `at` is written
 pub entry-put : {out : List ℕ} {to : ℕ} {xs : List ℕ} {o : List ℕ} {at : ℕ} {ys : List ℕ} {out′ : List ℕ} {r : ℕ} (k start len : ℕ)

@@ -5,7 +5,7 @@ ghost use mathlib.Core.List.{[]};
 ghost use lib.ListN.{length};
 ghost use Rattle.base.specs.Pick.{pick};
 ghost use Rattle.base.specs.Put.{Put};
-ghost use Rattle.frame.specs.Kind.{tombstones, fences, mostEdges, mostBytes};
+ghost use Rattle.frame.specs.Kind.{tombstones, fences, headerSize, entrySize, keysLen, offsetsLen, logsLen, mostEdges, mostBytes};
 ghost use Rattle.write_image.specs.Image.{fenced};
 ghost use Rattle.write_frame.specs.Standing.{entryIn, entriesIn, total};
 ghost use Rattle.write_plan.specs.Size.{tombSize, fencesSize, sectionsSize};
@@ -27,8 +27,8 @@ use write_plan::tomb_size;
 
 // The entries of keys, offsets, partners and log numbers.
 fn put_four(out: &mut [u8], at: usize, keys: usize, w: usize, partners: usize, n: usize) -> usize
-    requires { ⌜ (64 + (16 * keys + ((keys + 1) * w + (partners + 8 * n))) ≤ at) × (at + 112 ≤ length (now out)) × (at ≤ 2147483648) × (w ≤ 4) ⌝ }
-    ensures { λ r. ⌜ Put (now (out .entry)) (now (out .exit)) at r (entriesIn (now (out .entry)) 64 (four keys w partners n)) ⌝ }
+    requires { ⌜ (headerSize + (keysLen keys + (offsetsLen keys w + (partners + logsLen n))) ≤ at) × (at + 4 * entrySize ≤ length (now out)) × (at ≤ 2147483648) × (w ≤ 4) ⌝ }
+    ensures { λ r. ⌜ Put (now (out .entry)) (now (out .exit)) at r (entriesIn (now (out .entry)) headerSize (four keys w partners n)) ⌝ }
 {
     let offsets = Header::SIZE + (Keys::ROW as usize) * keys;
     let parts = offsets + (keys + 1) * w;
@@ -89,7 +89,7 @@ pub fn put_body(
     n: usize,
     dead: bool,
 ) -> usize
-    requires { ⌜ (keys ≤ mostEdges) × (w ≤ 4) × (n ≤ mostEdges) × (at ≤ mostBytes) × (64 + sectionsSize keys w partners n dead ≤ at) × (at + length (bodyIn (now out) keys w partners n dead) ≤ length (now out)) ⌝ }
+    requires { ⌜ (keys ≤ mostEdges) × (w ≤ 4) × (n ≤ mostEdges) × (at ≤ mostBytes) × (headerSize + sectionsSize keys w partners n dead ≤ at) × (at + length (bodyIn (now out) keys w partners n dead) ≤ length (now out)) ⌝ }
     ensures { λ r. ⌜ Put (now (out .entry)) (now (out .exit)) at r (bodyIn (now (out .entry)) keys w partners n dead) ⌝ }
 {
     let count = section_count(keys, dead);

@@ -5,7 +5,7 @@ ghost use mathlib.Core.List.{[], _++_};
 ghost use lib.ListN.{length};
 ghost use Rattle.base.specs.Pick.{pick};
 ghost use Rattle.base.specs.Put.{Put};
-ghost use Rattle.frame.specs.Kind.{mostEdges};
+ghost use Rattle.frame.specs.Kind.{keysLen, mostEdges};
 ghost use Rattle.frame.specs.Layout.{payload};
 ghost use Rattle.batch_groups.specs.Groups.{groupsOf};
 ghost use Rattle.write_image.specs.Image.{logBytes, tombBytes, fencesOf, fenced, sectionsBy};
@@ -38,7 +38,7 @@ fn put_by_edge(
 }
 
 fn put_fences_if(out: &mut [u8], first: usize, keys: usize, at: usize) -> usize
-    requires { ⌜ (keys ≤ mostEdges) × (first + 16 * keys ≤ at) × (at + length (pick (fenced keys) (fencesOf (idsAt keys (now out) first)) []) ≤ length (now out)) ⌝ }
+    requires { ⌜ (keys ≤ mostEdges) × (first + keysLen keys ≤ at) × (at + length (pick (fenced keys) (fencesOf (idsAt keys (now out) first)) []) ≤ length (now out)) ⌝ }
     ensures { λ r. ⌜ Put (now (out .entry)) (now (out .exit)) at r (pick (fenced keys) (fencesOf (idsAt keys (now (out .entry)) first)) []) ⌝ }
 {
     if (Bounds::UNFENCED as usize) < keys {

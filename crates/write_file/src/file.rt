@@ -7,6 +7,7 @@ ghost use Rattle.batch_groups.specs.Groups.{groupsOf, Grouped};
 ghost use Rattle.write_image.specs.Image.{bit, flagsBy, fileOf};
 ghost use Rattle.write_source.specs.Source.{sourceEdges};
 ghost use Rattle.write_plan.specs.Bounds.{PlanFits};
+use frame::ends::Header;
 use write_contents::footer::put_body;
 use write_contents::payload::put_payload;
 use write_frame::put_header;
@@ -43,7 +44,7 @@ pub fn put_file(kind: u8, a: &[u8], b: &[u8], direction: u8, ids: &[u8], plan: P
     let dead = plan.dead;
     let flags = flags_for(direction, plan.dense, dead);
     put_header(out, flags, ids);
-    let p = put_payload(kind, a, b, n, keys, w, dead, out, 64);
+    let p = put_payload(kind, a, b, n, keys, w, dead, out, Header::SIZE);
     let q = put_body(out, p, keys, w, partners, n, dead);
     put_trailer(out, p, q);
 }

@@ -6,6 +6,7 @@ ghost use lib.Seq.{sets};
 ghost use Rattle.base.specs.Over.{part};
 ghost use Rattle.base.specs.Put.{Put};
 ghost use Rattle.frame.specs.Kind.{entrySize, countsSize, trailerSize};
+ghost use Rattle.frame.specs.Frame.{rawRow};
 ghost use Rattle.frame.specs.Layout.{headBytes, trailer};
 ghost use Rattle.write_frame.specs.Standing.{entryIn};
 ghost use Rattle.write_frame.specs.Runs.{rowBytes, countBytes};
@@ -36,9 +37,9 @@ pub fn put_header(out: &mut [u8], flags: u64, ids: &[u8])
     ensures { λ _. ⌜ now (out .exit) ≡ sets (now (out .entry)) 0 (headBytes 0 flags (now (ids .entry))) ⌝ }
 {
     put_le(out, 0, 8, Header::MAGIC);
-    put_le(out, 8, 1, 1);
+    put_le(out, Header::MAJOR, 1, 1);
     put_le(out, Header::MINOR, 1, 0);
-    put_le(out, 10, 2, Header::SIZE as u64);
+    put_le(out, Header::OWN_SIZE, 2, Header::SIZE as u64);
     put_le(out, Header::FLAGS, 4, flags);
     put_words(out, Header::EDGE_TYPE, ids);
 }
@@ -49,17 +50,17 @@ fn put_row(out: &mut [u8], at: usize, r: Row) -> usize
     ensures { λ p. ⌜ Put (now (out .entry)) (now (out .exit)) at p (rowBytes r) ⌝ }
 {
     put_le(out, at, 2, r.kind as u64);
-    put_le(out, at + 2, 1, r.codec as u64);
-    put_le(out, at + 3, 1, r.namelen as u64);
-    put_le(out, at + 4, 8, r.start);
-    put_le(out, at + 12, 8, r.len);
-    put_le(out, at + 20, 8, r.sum);
+    put_le(out, at + Row::CODEC, 1, r.codec as u64);
+    put_le(out, at + Row::NAMELEN, 1, r.namelen as u64);
+    put_le(out, at + Row::START, 8, r.start);
+    put_le(out, at + Row::LEN, 8, r.len);
+    put_le(out, at + Row::SUM, 8, r.sum);
     at + Row::ENTRY
 }
 
-// Writes the entry of the section that stands in out where r says, with its sum.
+// Writes the entry of the section that stands in out where r says, with its sum; r has no name and no codec, and is not summed yet.
 pub fn put_entry(out: &mut [u8], at: usize, r: Row) -> usize
-    requires { ⌜ (r .start + r .len ≤ length (now out)) × (at + entrySize ≤ length (now out)) × (at ≤ 4294967296) ⌝ }
+    requires { ⌜ (r ≡ rawRow (r .kind) (r .start) (r .len) 0) × (r .start + r .len ≤ length (now out)) × (at + entrySize ≤ length (now out)) × (at ≤ 4294967296) ⌝ }
     ensures { λ p. ⌜ Put (now (out .entry)) (now (out .exit)) at p (entryIn (now (out .entry)) (r .kind) (r .start) (r .len)) ⌝ }
 {
     let start = r.start as usize;

@@ -98,7 +98,7 @@ octets zero ds = []
 octets (suc m) ds = octet 8 ds ∷ octets m (drop 8 ds)
 
 abbrev pub tombBytes : List Edge → List ℕ
-tombBytes es = octets ((length es + 7) / 8) (marksIn es)
+tombBytes es = octets (kind.tombstonesLen (length es)) (marksIn es)
 
 -- 6: "Stride u32; entry count u32 = key count divided by stride, rounded up; entries of key and u64 offset, entry i being
 -- key i·stride and 16·i·stride"

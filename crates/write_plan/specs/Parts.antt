@@ -56,10 +56,10 @@ sections-raw keys w dead es gs = (refl, (refl, (refl, (refl, last-raw dead (fenc
 
 unfoldable pub four : ℕ → ℕ → ℕ → ℕ → List Extent
 four keys w bytes n =
-    record { kind = kind.keys; len = 16 * keys }
-    ∷ record { kind = kind.offsets; len = (keys + 1) * w }
+    record { kind = kind.keys; len = kind.keysLen keys }
+    ∷ record { kind = kind.offsets; len = kind.offsetsLen keys w }
     ∷ record { kind = kind.partners; len = bytes }
-    ∷ record { kind = kind.logs; len = 8 * n }
+    ∷ record { kind = kind.logs; len = kind.logsLen n }
     ∷ []
 
 unfoldable pub lastBy : ℕ → Bool → ℕ → List Extent
@@ -68,10 +68,10 @@ lastBy n dead keys =
     ++ pick (fenced keys) (record { kind = kind.fences; len = fencesSize keys } ∷ []) []
 
 pub four-is : (keys w bytes n : ℕ) → four keys w bytes n
-    ≡ record { kind = kind.keys; len = 16 * keys }
-    ∷ record { kind = kind.offsets; len = (keys + 1) * w }
+    ≡ record { kind = kind.keys; len = kind.keysLen keys }
+    ∷ record { kind = kind.offsets; len = kind.offsetsLen keys w }
     ∷ record { kind = kind.partners; len = bytes }
-    ∷ record { kind = kind.logs; len = 8 * n }
+    ∷ record { kind = kind.logs; len = kind.logsLen n }
     ∷ []
 unfolding four
 four-is keys w bytes n = refl

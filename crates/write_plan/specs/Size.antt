@@ -13,21 +13,22 @@ use Rattle.write_image.specs.Image.{anyDense, partnerBytes, widthOf, bit, fence
 
 -- tombstones and fences; a section that is not there takes nothing
 abbrev pub tombSize : ℕ → Bool → ℕ
-tombSize n dead = pick dead ((n + 7) / 8) 0
+tombSize n dead = pick dead (kind.tombstonesLen n) 0
 
 abbrev pub fencesSize : ℕ → ℕ
-fencesSize keys = pick (fenced keys) (kind.fencesHead + kind.fenceSize * kind.fenceCount keys) 0
+fencesSize keys = pick (fenced keys) (kind.fencesLen (kind.fenceCount keys)) 0
 
 -- of n edges with that many keys, offsets of w bytes and a partner section of that many bytes
 unfoldable pub sectionsSize : ℕ → ℕ → ℕ → ℕ → Bool → ℕ
-sectionsSize keys w bytes n dead = 16 * keys + ((keys + 1) * w + (bytes + (8 * n + (tombSize n dead + fencesSize keys))))
+sectionsSize keys w bytes n dead = kind.keysLen keys + (kind.offsetsLen keys w + (bytes + (kind.logsLen n + (tombSize n dead + fencesSize keys))))
 
 abbrev pub sectionCount : ℕ → Bool → ℕ
 sectionCount keys dead = 4 + (bit dead + bit (fenced keys))
 
 -- header, sections, footer body, trailer
 unfoldable pub fileSize : ℕ → ℕ → ℕ → ℕ → Bool → ℕ
-fileSize keys w bytes n dead = 64 + (sectionsSize keys w bytes n dead + (19 + 28 * sectionCount keys dead + 20))
+fileSize keys w bytes n dead =
+    kind.headerSize + (sectionsSize keys w bytes n dead + (2 + kind.countsSize + kind.entrySize * sectionCount keys dead + kind.trailerSize))
 
 -- what the check of a batch counts of the edges
 pub record Tallied (es : List Edge) (n keys : ℕ) (dead : Bool) : Type 0 where

@@ -68,7 +68,7 @@ pub fn tomb_size(n: usize, dead: bool) -> usize
 }
 
 // The bytes of the fences.
-pub fn fences_size(keys: usize) -> usize
+fn fences_size(keys: usize) -> usize
     requires { ⌜ keys ≤ mostEdges ⌝ }
     ensures { λ r. ⌜ (r ≡ fencesSize keys) × (r ≤ mostEdges) ⌝ }
 {

@@ -86,7 +86,7 @@ pub fn put_logs_tombs(kind: u8, a: &[u8], b: &[u8], n: usize, out: &mut [u8], at
     let mut t = at + (Logs::ROW as usize) * n;
     while q < full {
         put_octet(kind, a, b, 8 * q, 8 * q + 8, out, p, t);
-        p = p + 64;
+        p = p + 8 * (Logs::ROW as usize);
         t = t + 1;
         q = q + 1;
     }

@@ -29,6 +29,7 @@ pub struct Total {
     pub dense: bool,
 }
 
+// Counts them over all groups.
 pub fn partners_size(kind: u8, a: &[u8], b: &[u8], n: usize, keys: usize) -> Total
     requires { ⌜ (n ≡ length (sourceEdges kind (now a) (now b))) × (n ≤ mostEdges) × (keys ≤ mostEdges) × Grouped 0 (groupsOf (sourceEdges kind (now a) (now b))) ⌝ }
     ensures { λ r. ⌜ (r .bytes ≡ length (partnerBytes keys (groupsOf (sourceEdges kind (now (a .entry)) (now (b .entry)))))) × (r .dense ≡ anyDense keys (groupsOf (sourceEdges kind (now (a .entry)) (now (b .entry))))) × (r .bytes ≤ 29 * n) ⌝ }

@@ -15,7 +15,7 @@ use frame::kind::Keys;
 
 // Writes fence i.
 fn put_fence(out: &mut [u8], at: usize, key: Id, i: usize) -> usize
-    requires { ⌜ (i ≤ kind.mostEdges) × (at + 24 ≤ length (now out)) ⌝ }
+    requires { ⌜ (i ≤ kind.mostEdges) × (at + kind.fenceSize ≤ length (now out)) ⌝ }
     ensures { λ r. ⌜ Put (now (out .entry)) (now (out .exit)) at r (fenceBytes key i) ⌝ }
 {
     put_id(out, at, key);
@@ -30,7 +30,7 @@ fn put_fence(out: &mut [u8], at: usize, key: Id, i: usize) -> usize
 
 // Writes so many fences of the keys that stand in out from `first` on, below `at`.
 fn put_rows(out: &mut [u8], first: usize, keys: usize, count: usize, at: usize) -> usize
-    requires { ⌜ (count ≡ kind.fenceCount keys) × (keys ≤ kind.mostEdges) × (first + 16 * keys ≤ at) × (at + length (fenceKeysFrom count (idsAt keys (now out) first) 0) ≤ length (now out)) ⌝ }
+    requires { ⌜ (count ≡ kind.fenceCount keys) × (keys ≤ kind.mostEdges) × (first + kind.keysLen keys ≤ at) × (at + length (fenceKeysFrom count (idsAt keys (now out) first) 0) ≤ length (now out)) ⌝ }
     ensures { λ r. ⌜ Put (now (out .entry)) (now (out .exit)) at r (fenceKeysFrom count (idsAt keys (now (out .entry)) first) 0) ⌝ }
 {
     let mut i: usize = 0;
@@ -45,7 +45,7 @@ fn put_rows(out: &mut [u8], first: usize, keys: usize, count: usize, at: usize) 
 
 // Stride, count and fences.
 pub fn put_fences(out: &mut [u8], first: usize, keys: usize, at: usize) -> usize
-    requires { ⌜ (keys ≤ kind.mostEdges) × (first + 16 * keys ≤ at) × (at + length (fencesOf (idsAt keys (now out) first)) ≤ length (now out)) ⌝ }
+    requires { ⌜ (keys ≤ kind.mostEdges) × (first + kind.keysLen keys ≤ at) × (at + length (fencesOf (idsAt keys (now out) first)) ≤ length (now out)) ⌝ }
     ensures { λ r. ⌜ Put (now (out .entry)) (now (out .exit)) at r (fencesOf (idsAt keys (now (out .entry)) first)) ⌝ }
 {
     let count = Fences::count(keys);

@@ -25,9 +25,9 @@ pub fn log_of(kind: u8, a: &[u8], b: &[u8], e: usize) -> u64
     ensures { λ r. ⌜ r ≡ getD (sourceEdges kind (now (a .entry)) (now (b .entry))) e none .log ⌝ }
 {
     if kind == 0 {
-        return le64(a, Edge::HEAD + Edge::RECORD * (e + 1) - 8);
+        return le64(a, Edge::HEAD + Edge::RECORD * (e + 1) - Edge::LOG_SIZE);
     }
-    le64(b, Edge::HEAD + Edge::RECORD * (e + 1) - 8)
+    le64(b, Edge::HEAD + Edge::RECORD * (e + 1) - Edge::LOG_SIZE)
 }
 
 // Is edge e dead? Its record's kind says so.

@@ -22,7 +22,7 @@ use Rattle.readout.specs.ReadOut.Laws.{length-batch, checked-size}
 use Rattle.base.specs.Over.{length-part}
 use Rattle.text.specs.Text.{refusedText}
 use Rattle.text.specs.Text.Laws.{length-decimal, length-hex}
-use Rattle.printing.specs.Printed.{lifeEnd, newline, edgeLine, edgeLines, forwardWord, inverseWord, firstLine, deadIn, okLine, printed, lineAt, linesFrom, lineRoom, lineCount, printedBy, printedOf, PartOf, Passed, Enough, longest, batchRoom}
+use Rattle.printing.specs.Printed.{lifeEnd, newline, edgeLine, edgeLines, forwardWord, inverseWord, firstLine, deadIn, okLine, printed, lineAt, linesFrom, lineRoom, lineCount, printedBy, printedOf, PartOf, Passed, BatchRoom, longest, batchRoom}
 
 -- ---- there is room for any line
 
@@ -178,7 +178,7 @@ module _ (f : List ℕ) (keys : ℕ) (batch : List ℕ) (p : Passed f keys batch
   passed-size = checked-size f (recordOf f) (fine-checked f (p .fine))
 
 -- a small file has few edges: each has a log number
-pub small-enough : (f : List ℕ) (room : ℕ) → length f ≤ longest → batchRoom ≤ room → Enough f room
+pub small-enough : (f : List ℕ) (room : ℕ) → length f ≤ longest → batchRoom ≤ room → BatchRoom f room
 small-enough f room small big e =
     let opens = checked-opened f (recordOf f) (fine-checked f e) in
     let h = opened-holds f (recordOf f) opens in

@@ -29,7 +29,7 @@ use Rattle.refusal.specs.Check.Laws.{fine-parts}
 use Rattle.lookup.specs.Lookup.{groupCheck}
 use Rattle.lookup.specs.Groups.{check-good}
 use Rattle.full_check.specs.Full.{groupIn, groupsFrom, degreesFrom}
-use Rattle.readout.specs.Edges.{edgeOf, edgesFrom, degreeIn, keyEdges, readFrom}
+use Rattle.readout.specs.Edges.{edgeOf, edgesFrom, keyDegree, keyEdges, readFrom}
 
 -- ---- counts
 
@@ -163,8 +163,8 @@ module _ (keys p o : List ℕ) (w : ℕ) (logs dead : List ℕ) where
   unfolding readFrom degreesFrom
   length-read zero i e = refl
   length-read (suc d) i e =
-      length-append (keyEdges keys p o w logs dead i e) (readFrom keys p o w logs dead d (i + 1) (e + degreeIn keys p o w logs dead i))
-      ∙ ap₂ (λ (x y : ℕ). x + y) (length-edges logs dead (halvesAt keys (i * 16)) e (partnersOf (groupIn p o w i))) (length-read d (i + 1) (e + degreeIn keys p o w logs dead i))
+      length-append (keyEdges keys p o w logs dead i e) (readFrom keys p o w logs dead d (i + 1) (e + keyDegree keys p o w logs dead i))
+      ∙ ap₂ (λ (x y : ℕ). x + y) (length-edges logs dead (halvesAt keys (i * 16)) e (partnersOf (groupIn p o w i))) (length-read d (i + 1) (e + keyDegree keys p o w logs dead i))
 
   module _ (n : ℕ) (out₀ : List ℕ) where
     abbrev pub allRecords : List ℕ
@@ -195,7 +195,7 @@ module _ (keys p o : List ℕ) (w : ℕ) (logs dead : List ℕ) where
         unfolding groupsFrom
         good-parts = fine-parts (groupCheck i (groupIn p o w i)) _ (rw now-left at (h .good))
 
-        sums : first + (degreeIn keys p o w logs dead i + degreesFrom p o w (n - (i + 1)) (i + 1)) ≡ degreesFrom p o w n 0
+        sums : first + (keyDegree keys p o w logs dead i + degreesFrom p o w (n - (i + 1)) (i + 1)) ≡ degreesFrom p o w n 0
         unfolding degreesFrom
         sums = rw now-left at (h .sum)
 
@@ -207,7 +207,7 @@ module _ (keys p o : List ℕ) (w : ℕ) (logs dead : List ℕ) where
           reading-good = rw this-group at (check-good i (groupIn p o w i) (good-parts .0))
 
           pub reading-few : first + length (partnersOf (groupOf (part p a e))) ≤ degreesFrom p o w n 0
-          reading-few = let s = sums in let z : degreeIn keys p o w logs dead i ≡ length (partnersOf (groupOf (part p a e))) = ap (λ (x : Decoded). length (partnersOf x)) this-group in omega arith
+          reading-few = let s = sums in let z : keyDegree keys p o w logs dead i ≡ length (partnersOf (groupOf (part p a e))) = ap (λ (x : Decoded). length (partnersOf x)) this-group in omega arith
 
           module _ {key : Id} (k : key ≡ halvesAt keys (i * 16)) where
             abbrev these : List Edge
@@ -231,7 +231,7 @@ module _ (keys p o : List ℕ) (w : ℕ) (logs dead : List ℕ) where
             pub reading-on : {out′ : List ℕ} {next : ℕ} → next ≡ first + length (partnersOf (groupOf (part p a e))) → out′ ≡ sets out (place first) (recordsOf these) → Reading out′ (i + 1) e next
             reading-on {out′} {next} m v =
                 let s = sums in
-                let z : degreeIn keys p o w logs dead i ≡ length (partnersOf (groupOf (part p a e))) = ap (λ (x : Decoded). length (partnersOf x)) this-group in
+                let z : keyDegree keys p o w logs dead i ≡ length (partnersOf (groupOf (part p a e))) = ap (λ (x : Decoded). length (partnersOf x)) this-group in
                 let len = length-records these in
                 let count = length-edges logs dead key first (partnersOf (groupOf (part p a e))) in
                 let write : Put out out′ (place first) (place next) (recordsOf these) = record { place = omega arith; bytes = v } in

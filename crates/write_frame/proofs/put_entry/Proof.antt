@@ -46,7 +46,7 @@ same-length : tie.Need-same-length
 same-length c = search needs
 
 returns : tie.Need-returns
-returns c = let a = c .before .before .before .before .before .before .before .before .before .args in written (a .out .now) _ (a .at) _ (a .r .kind) (a .r .start) (a .r .len) _ _ (c .before .before .before .before .before .before .before .before .before .pre .0) (c .before .before .before .before .before .xxh3 .ensures) (c .before .before .before .raw .ensures) (c .before .before .put-row .ensures)
+returns c = let a = c .before .before .before .before .before .before .before .before .before .args in written (a .out .now) _ (a .at) _ (a .r .kind) (a .r .start) (a .r .len) _ _ (c .before .before .before .before .before .before .before .before .before .pre .1) (c .before .before .before .before .before .xxh3 .ensures) (c .before .before .before .raw .ensures) (c .before .before .put-row .ensures)
 
 pub put-entry-spec : {M : Type 1} → statement M
 put-entry-spec =

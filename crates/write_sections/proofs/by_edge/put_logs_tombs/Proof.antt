@@ -144,6 +144,9 @@ add-put-octet c = omega arith
 put-octet-requires : tie.Need-put-octet-requires Inv-loop μ-loop
 put-octet-requires c κs = let a = c .before .before .before .before .before .before .args in let l = c .before .before .loop in let es = sourceEdges (a .kind) (a .a .now) (a .b .now) in let r = room es (a .out .now) (a .at) (l .out) (l .q) (l .p) (l .t) (l .inv) (omega arith) (c .before .before .before .before .before .before .pre .2) in (omega arith, omega arith, omega arith, r .0, r .1)
 
+mul-p : tie.Need-mul-p Inv-loop μ-loop
+mul-p c = omega arith
+
 add-p : tie.Need-add-p Inv-loop μ-loop
 add-p c = let a = c .before .before .before .before .before .before .before .before .before .args in let l = c .before .before .before .before .before .loop in let es = sourceEdges (a .kind) (a .a .now) (a .b .now) in let r = room es (a .out .now) (a .at) (l .out) (l .q) (l .p) (l .t) (l .inv) (omega arith) (c .before .before .before .before .before .before .before .before .before .pre .2) in omega (arith, r .2)
 
@@ -196,6 +199,7 @@ put-logs-tombs-spec =
     mul-put-octet-2
     add-put-octet
     put-octet-requires
+    mul-p
     add-p
     add-t-2
     add-q
