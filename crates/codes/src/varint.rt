@@ -4,7 +4,7 @@ ghost use mathlib.Core.Path.{_≡_};
 ghost use Prim.Native.Nat.{_+_, _^_, _≤_, _<_};
 ghost use lib.ListN.{length};
 ghost use Rattle.base.specs.Put.{Put};
-ghost use Rattle.codes.specs.Varint.{lastByte, varintAt, varBytes};
+ghost use Rattle.codes.specs.Varint.{lastByte, varFrom, varintAt, varBytes};
 
 // Why no number is read.
 pub enum Unread {
@@ -51,58 +51,77 @@ fn last_byte(b: u64, i: usize, x: u64, m: u64, k: usize) -> Varint
     }
 }
 
-// The number at `at`, and the place after it.
-pub fn varint_at(s: &[u8], at: usize) -> Varint
-    ensures { λ r. ⌜ r ≡ varintAt (now (s .entry)) at ⌝ }
+// What the bytes after the first give, byte k of the number at `at` + k, over what the first gives. Places are counted from
+// the first byte, so that the compiler compares what is left with constants.
+fn more_at(s: &[u8], at: usize, low: u64) -> Varint
+    requires { ⌜ (at < length (now s)) × (low < 128) ⌝ }
+    ensures { λ r. ⌜ r ≡ varFrom 9 (now (s .entry)) (at + 1) low 128 ⌝ }
 {
-    let mut i = at;
-    let mut x: u64 = 0;
-    let mut m: u64 = 1;
-    let mut k: usize = 0;
+    let left = s.len() - at;
+    let mut x = low;
+    let mut m: u64 = 128;
+    let mut k: usize = 1;
     while k < 10 {
-        if s.len() <= i {
+        if left <= k {
             return Varint::Bad { why: Unread::Cut };
         }
-        let b = s[i] as u64;
+        let b = s[at + k] as u64;
         if b < 128 {
-            return last_byte(b, i, x, m, k);
+            return last_byte(b, at + k, x, m, k);
         }
         if k == 9 {
             return Varint::Bad { why: Unread::Large };
         }
         x = x + b % 128 * m;
         m = m * 128;
-        i = i + 1;
         k = k + 1;
     }
     Varint::Bad { why: Unread::Large }
 }
 
-// The same, but a number of one byte or two is read without a call. All else, every fault too, is left to `varint_at`.
+// The number at `at`, and the place after it.
+pub fn varint_at(s: &[u8], at: usize) -> Varint
+    ensures { λ r. ⌜ r ≡ varintAt (now (s .entry)) at ⌝ }
+{
+    if s.len() <= at {
+        return Varint::Bad { why: Unread::Cut };
+    }
+    let b = s[at] as u64;
+    if b < 128 {
+        return Varint::Value {
+            value: b,
+            next: at + 1,
+        };
+    }
+    more_at(s, at, b % 128)
+}
+
+// The same, but a number of two bytes is read without a call too.
 pub fn short_at(s: &[u8], at: usize) -> Varint
     ensures { λ r. ⌜ r ≡ varintAt (now (s .entry)) at ⌝ }
 {
-    if at < s.len() {
-        let b = s[at] as u64;
-        if b < 128 {
-            return Varint::Value {
-                value: b,
-                next: at + 1,
-            };
-        }
-        if at + 1 < s.len() {
-            let c = s[at + 1] as u64;
-            if 1 <= c {
-                if c < 128 {
-                    return Varint::Value {
-                        value: b % 128 + 128 * c,
-                        next: at + 2,
-                    };
-                }
+    if s.len() <= at {
+        return Varint::Bad { why: Unread::Cut };
+    }
+    let b = s[at] as u64;
+    if b < 128 {
+        return Varint::Value {
+            value: b,
+            next: at + 1,
+        };
+    }
+    if at + 1 < s.len() {
+        let c = s[at + 1] as u64;
+        if 1 <= c {
+            if c < 128 {
+                return Varint::Value {
+                    value: b % 128 + 128 * c,
+                    next: at + 2,
+                };
             }
         }
     }
-    varint_at(s, at)
+    more_at(s, at, b % 128)
 }
 
 // How many bytes the number takes: seven bits to a byte, from its highest bit that is set, and one byte for 0 as for 1, so the

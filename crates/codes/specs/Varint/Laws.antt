@@ -81,7 +81,7 @@ digit-lt d x m g h = omega (arith, digits-lt g h)
 pub weight-le : (m k : ℕ) → m ≡ 128 ^ k → k ≤ 8 → m ≤ 2 ^ 56
 weight-le m k e h = rw e (pow-le-pow-right (zero-lt-suc 127) h)
 
--- ---- a number of one byte, and of two
+-- ---- a number of one byte, of two, of more, of none
 
 module _ (s : List ℕ) (i : ℕ) where
   pub varint-one : i < length s → getD s i 0 < 128 → varintAt s i ≡ Value (getD s i 0) (i + 1)
@@ -101,6 +101,15 @@ module _ (s : List ℕ) (i : ℕ) where
       let k : i + 1 + 1 ≡ i + 2 = omega arith in
       varint-from s i ∙ from-more s i 0 1 9 (omega arith) g
       ∙ from-value s (i + 1) x (1 * 128) 8 h b (λ z. omega arith) (omega arith) ∙ ap₂ (λ (v n : ℕ). Value v n) e k
+
+  pub varint-cut : length s ≤ i → varintAt s i ≡ Bad Cut
+  varint-cut h = varint-from s i ∙ from-cut s i 0 1 9 h
+
+  -- a longer one goes on with its second byte
+  pub varint-more : i < length s → 128 ≤ getD s i 0 → varintAt s i ≡ varFrom 9 s (i + 1) (getD s i 0 % 128) 128
+  varint-more h g =
+      let e : 0 + getD s i 0 % 128 * 1 ≡ getD s i 0 % 128 = omega arith in
+      varint-from s i ∙ from-more s i 0 1 9 h g ∙ ap (λ (v : ℕ). varFrom 9 s (i + 1) v 128) e
 
 -- ---- the definition of writing, case by case
 

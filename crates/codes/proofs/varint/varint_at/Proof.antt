@@ -1,145 +1,40 @@
--- `codes::varint::varint_at` meets its contract. Invariant: the rest, read from i over x with the weight m, is the whole.
-use mathlib.Core.Path.{_≡_, _∙_, sym, refl}
-use Prim.Native.Nat.{ℕ, suc, _+_, _-_, _*_, _%_, _^_, _≤_, _<_}
-use native.Mathlib.Nat.{pow-suc}
-use native.Mathlib.Numerals.{add-one}
+-- `codes::varint::varint_at` meets its contract: the first byte is the whole number, or the others go on from it.
+use mathlib.Core.Path.{sym, _∙_}
+use Prim.Native.Nat.{_+_}
 use native.Mathlib.Omega.{arith}
-use mathlib.Core.List.{List}
-use lib.ListN.{length, getD}
-use lib.Dec.{lit<}
-use Rattle.codes.specs.Varint.{varFrom, varintAt}
-use Rattle.codes.specs.Varint.Laws.{varint-from, from-none, from-cut, from-more, from-last, digit-lt, weight-le}
+use Rattle.codes.specs.Varint.Laws.{varint-cut, varint-one, varint-more}
+use borrow.Author.Needs.{needs}
 use Rattle.codes.proofs.varint.varint_at.Statement.{statement}
 use Rattle.codes.proofs.varint.varint_at.Tie as tie
 
-abbrev Head : (s : List ℕ) (at i x m k : ℕ) → Type 0
-Head s at i x m k = (k ≤ 10) × (x < m) × (m ≡ 128 ^ k) × (varFrom (10 - k) s i x m ≡ varintAt s at)
-
-module _ (s : List ℕ) (at i x m k : ℕ) (h : Head s at i x m k) (lt : k < 10) where
-  -- at k the fuel is one more than at k + 1
-  whole : varFrom (suc (9 - k)) s i x m ≡ varintAt s at
-  whole = let e : 10 - k ≡ suc (9 - k) = omega arith in (rw e at (h .3))
-
-  small : k ≤ 8 → m ≤ 2 ^ 56
-  small g = weight-le m k (h .2) g
-
-  -- the next digit keeps x below the next weight
-  digit : (d : ℕ) → d < 128 → x + d * m < m * 128
-  digit d g = digit-lt d x m g (h .1)
-
-  next : (b : ℕ) → b % 128 < 128 → i < length s → b ≡ getD s i 0 → 128 ≤ b → Head s at (i + 1) (x + b % 128 * m) (m * 128) (k + 1)
-  next b l g e big = (
-    omega arith,
-    digit (b % 128) l,
-    rw add-one (rw pow-suc (rw (← h .2))),
-    let f : 10 - (k + 1) ≡ 9 - k = omega arith in
-        rw (f, e) (sym (from-more s i x m (9 - k) g (rw e at big)) ∙ whole),
-  )
-
-abbrev Inv-loop : tie.InvT-loop
-Inv-loop s at i₀ x₀ m₀ k₀ i x m k = Head s at i x m k
-
-abbrev μ-loop : tie.MeasureT-loop
-μ-loop s at i₀ x₀ m₀ k₀ i x m k = 10 - k
-
-loop-holds : tie.Need-loop-holds Inv-loop μ-loop
-loop-holds c = (omega arith, lit< tt, refl, sym (varint-from _ _))
-
-returns : tie.Need-returns Inv-loop μ-loop
+returns : tie.Need-returns
 returns c =
-    let a = c .before .before .before .before .args in
-    let l = c .before .before .loop in
-    sym (from-cut (a .s .now) (l .i) (l .x) (l .m) (9 - l .k) (c .if1 .taken)) ∙ whole (a .s .now) (a .at) (l .i) (l .x) (l .m) (l .k) (l .inv) (omega arith)
+    let a = c .before .before .args in
+    sym (varint-cut (a .s .now) (a .at) (c .if1 .taken))
 
-shared-slice-read-b : tie.Need-shared-slice-read-b Inv-loop μ-loop
-shared-slice-read-b c = omega arith
+shared-slice-read-b : tie.Need-shared-slice-read-b
+shared-slice-read-b c = search needs
 
-cast-b : tie.Need-cast-b Inv-loop μ-loop
-cast-b c = omega (arith, c .shared-slice-known2 .given (c .before .before .before .loop .i))
+cast-b : tie.Need-cast-b
+cast-b c = omega (arith, c .shared-slice-known2 .given (c .before .before .before .args .at))
 
-last-byte-requires : tie.Need-last-byte-requires Inv-loop μ-loop
-last-byte-requires c κs =
-    let l = c .before .before .before .before .loop in
-    (omega arith, omega arith, l .inv .1, l .inv .2, omega arith)
+add-t9 : tie.Need-add-t9
+add-t9 c = search needs
 
-returns-2 : tie.Need-returns-2 Inv-loop μ-loop
+returns-2 : tie.Need-returns-2
 returns-2 c =
-    let a = c .before .before .before .before .before .before .before .args in
-    let l = c .before .before .before .before .before .loop in
-    let w = whole (a .s .now) (a .at) (l .i) (l .x) (l .m) (l .k) (l .inv) (omega arith) in
-    rw (c .last-byte .ensures) (sym (from-last (a .s .now) (l .i) (l .x) (l .m) (9 - l .k) (omega arith) (omega arith)) ∙ w)
+    let a = c .before .before .before .before .args in
+    sym (varint-one (a .s .now) (a .at) (omega arith) (omega arith))
 
-returns-3 : tie.Need-returns-3 Inv-loop μ-loop
+more-at-requires : tie.Need-more-at-requires
+more-at-requires c κs = search needs
+
+returns-3 : tie.Need-returns-3
 returns-3 c =
-    let a = c .before .before .before .before .before .before .before .args in
-    let l = c .before .before .before .before .before .loop in
-    let w = whole (a .s .now) (a .at) (l .i) (l .x) (l .m) (l .k) (l .inv) (omega arith) in
-    let byte = c .before .before .shared-slice-known2 .given (l .i) in
-    let z : 9 - l .k ≡ 0 = omega arith in
-    sym (from-more (a .s .now) (l .i) (l .x) (l .m) (9 - l .k) (omega arith) (omega arith) ∙ rw z (from-none _ _ _ _)) ∙ w
-
-mul-x : tie.Need-mul-x Inv-loop μ-loop
-mul-x c =
-    let a = c .before .before .before .before .before .before .before .args in
-    let l = c .before .before .before .before .before .loop in
-    let byte = c .before .before .shared-slice-known2 .given (l .i) in
-    omega (arith, digit (a .s .now) (a .at) (l .i) (l .x) (l .m) (l .k) (l .inv) (omega arith) (getD (a .s .now) (l .i) 0 % 128) (omega arith), small (a .s .now) (a .at) (l .i) (l .x) (l .m) (l .k) (l .inv) (omega arith) (omega arith))
-
-add-x : tie.Need-add-x Inv-loop μ-loop
-add-x c =
-    let a = c .before .before .before .before .before .before .before .args in
-    let l = c .before .before .before .before .before .loop in
-    let byte = c .before .before .shared-slice-known2 .given (l .i) in
-    omega (arith, digit (a .s .now) (a .at) (l .i) (l .x) (l .m) (l .k) (l .inv) (omega arith) (getD (a .s .now) (l .i) 0 % 128) (omega arith), small (a .s .now) (a .at) (l .i) (l .x) (l .m) (l .k) (l .inv) (omega arith) (omega arith))
-
-mul-m : tie.Need-mul-m Inv-loop μ-loop
-mul-m c =
-    let a = c .before .before .before .before .before .before .before .args in
-    let l = c .before .before .before .before .before .loop in
-    let byte = c .before .before .shared-slice-known2 .given (l .i) in
-    omega (arith, small (a .s .now) (a .at) (l .i) (l .x) (l .m) (l .k) (l .inv) (omega arith) (omega arith))
-
-add-i : tie.Need-add-i Inv-loop μ-loop
-add-i c = omega arith
-
-add-k : tie.Need-add-k Inv-loop μ-loop
-add-k c = omega arith
-
-loop-less : tie.Need-loop-less Inv-loop μ-loop
-loop-less c = omega arith
-
-loop-again : tie.Need-loop-again Inv-loop μ-loop
-loop-again c =
-    let a = c .before .before .before .before .before .before .before .args in
-    let l = c .before .before .before .before .before .loop in
-    let byte = c .before .before .shared-slice-known2 .given (l .i) in
-    next (a .s .now) (a .at) (l .i) (l .x) (l .m) (l .k) (l .inv) (omega arith) (getD (a .s .now) (l .i) 0) (omega arith) (omega arith) refl (omega arith)
-
-returns-4 : tie.Need-returns-4 Inv-loop μ-loop
-returns-4 c =
-    let a = c .before .before .before .args in
-    let l = c .before .loop in
-    let z : 10 - l .k ≡ 0 = omega arith in
-    sym (from-none (a .s .now) (l .i) (l .x) (l .m)) ∙ (rw z at (l .inv .3))
+    let a = c .before .before .before .before .before .args in
+    c .more-at .ensures ∙ sym (varint-more (a .s .now) (a .at) (omega arith) (omega arith))
 
 pub varint-at-spec : {M : Type 1} → statement M
 varint-at-spec =
     tie.close
-    (tie.spec
-    Inv-loop
-    μ-loop
-    loop-holds
-    returns
-    shared-slice-read-b
-    cast-b
-    last-byte-requires
-    returns-2
-    returns-3
-    mul-x
-    add-x
-    mul-m
-    add-i
-    add-k
-    loop-less
-    loop-again
-    returns-4)
+    (tie.spec returns shared-slice-read-b cast-b add-t9 returns-2 more-at-requires returns-3)
