@@ -144,7 +144,8 @@ enum {
     EDGE_SST_DATA,
     EDGE_SST_BATCH,
     EDGE_SST_UNORDERED,
-    EDGE_SST_BOUNDS
+    EDGE_SST_BOUNDS,
+    EDGE_SST_CHUNK
     /* numbers: to here */
 };
 
@@ -179,6 +180,7 @@ static inline const char *edge_sst_text(uint64_t number) {
         "batch record unknown, cut or misplaced",
         "batch order",
         "more keys, edges or file bytes than the bounds",
+        "chunk past 2^30 bytes in all",
         /* texts: to here */
     };
     return number < sizeof texts / sizeof texts[0] ? texts[number] : "unknown refusal";

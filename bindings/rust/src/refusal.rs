@@ -14,7 +14,7 @@ pub struct Refusal {
 
 /// The text of each number, as in the C header.
 // texts: from refusals.txt
-const TEXTS: [&str; 27] = [
+const TEXTS: [&str; 28] = [
     "no refusal",
     "file under 84 or over 2^30 bytes",
     "magic",
@@ -42,6 +42,7 @@ const TEXTS: [&str; 27] = [
     "batch record unknown, cut or misplaced",
     "batch order",
     "more keys, edges or file bytes than the bounds",
+    "chunk past 2^30 bytes in all",
 ];
 // texts: to here
 

@@ -6,7 +6,7 @@ use mathlib.Core.List.{List, [], _∷_}
 use mathlib.Core.Bool.{false}
 use Rattle.codes.specs.Little.{leAt, leBytes}
 use Rattle.codes.specs.Ids.{beAt, idAt, halvesAt}
-use Rattle.xxh3_spec.specs.Xxh3.{mul, fold, xorshift, rotl, swap, rrmxmx, secret, of1to3, of4to8, of9to16, small, pair, mixStep, inward, of17to128, onward, of129to240, lane, accumulate, stir, scramble, turn, run, startLanes, twice, merge, large, xxh3}
+use Rattle.xxh3_spec.specs.Xxh3.{mul, fold, xorshift, rotl, swap, rrmxmx, secret, of1to3, of4to8, of9to16, small, pair, mixStep, inward, of17to128, onward, of129to240, lane, accumulate, stir, scramble, turn, runOn, startLanes, twice, merge, finish, large, xxh3}
 use Rattle.frame.specs.declared.Opened.{Opened}
 use Rattle.frame.specs.declared.Opening.{Opening}
 use Rattle.frame.specs.Kind as kind
@@ -41,7 +41,7 @@ pub opens-later :
       bits = 24;
     }))
     × (strip laterFile ≡ headingOnly)
-unfolding laterFile headingOnly leAt leBytes beAt idAt mul fold xorshift rotl swap rrmxmx secret of1to3 of4to8 of9to16 small pair mixStep inward of17to128 onward of129to240 lane accumulate stir scramble turn run startLanes twice merge large xxh3 rowAt rowsFrom endFrom rowsOf endOf has repeated sectionOf all kindsGood tableGood codecs ranges sizesGood presenceGood countsGood bodyOf sizeCheck headCheck tailCheck sumCheck frameCheck recordFrom recordOf framedFrom framedOf knownOf keysFrom offsetGood offsetsFrom fenceGood fencesFrom fencesGood contentCheck fileCheck opening openOf headBytes payload entry entries bodyBytes trailer layOut sectionAt keptOf stripped strip shapeCheck endsCheck footerCheck rowsCheck
+unfolding laterFile headingOnly leAt leBytes beAt idAt mul fold xorshift rotl swap rrmxmx secret of1to3 of4to8 of9to16 small pair mixStep inward of17to128 onward of129to240 lane accumulate stir scramble turn runOn startLanes twice merge finish large xxh3 rowAt rowsFrom endFrom rowsOf endOf has repeated sectionOf all kindsGood tableGood codecs ranges sizesGood presenceGood countsGood bodyOf sizeCheck headCheck tailCheck sumCheck frameCheck recordFrom recordOf framedFrom framedOf knownOf keysFrom offsetGood offsetsFrom fenceGood fencesFrom fencesGood contentCheck fileCheck opening openOf headBytes payload entry entries bodyBytes trailer layOut sectionAt keptOf stripped strip shapeCheck endsCheck footerCheck rowsCheck
 opens-later = (refl, refl)
 
 -- its header is the copy's, at minor version 200

@@ -9,7 +9,7 @@ use refusal::told_of;
 use write_file::Written;
 use write_file::needed;
 use write_file::write;
-use xxh3::xxh3;
+use xxh3_whole::xxh3;
 
 fn written_told(w: Written) -> EdgeSstDone
     ensures { λ r. ⌜ r ≡ writtenTold w ⌝ }

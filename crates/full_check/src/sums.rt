@@ -18,7 +18,7 @@ use frame::ends::body_of;
 use open_table::row_at;
 use refusal::Check;
 use refusal::Refusal;
-use xxh3::xxh3;
+use xxh3_whole::xxh3;
 
 // The sum of the bytes from `start` on.
 fn sum_of(file: &[u8], start: u64, len: u64) -> u64

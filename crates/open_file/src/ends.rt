@@ -18,7 +18,7 @@ use frame::ends::body_of;
 use frame::ends::foot_len;
 use refusal::Check;
 use refusal::Refusal;
-use xxh3::xxh3;
+use xxh3_whole::xxh3;
 
 fn bad(refusal: Refusal) -> Check
     ensures { λ r. ⌜ r ≡ Check.Bad refusal ⌝ }

@@ -6,8 +6,8 @@ use denote.Triple.Clauses.{Ended}
 use Rattle.base.proofs.Determined.{Determined}
 use Rattle.xxh3.proofs.saffron_xxh3_64 as c-saffron
 use Rattle.xxh3.proofs.saffron_xxh3_64.Reads as c-saffron-reads
-use Rattle.xxh3.proofs.xxh3 as c-sum
-use Rattle.xxh3.proofs.xxh3.Reads as c-sum-reads
+use Rattle.xxh3_whole.proofs.xxh3 as c-sum
+use Rattle.xxh3_whole.proofs.xxh3.Reads as c-sum-reads
 use Rattle.reader.proofs.open.open as c-opens
 use Rattle.reader.proofs.open.open.Reads as c-opens-reads
 use Rattle.reader.proofs.header.header as c-header
@@ -66,7 +66,8 @@ use Rattle.edge_sst_c.proofs.section_list.edge_sst_sections as sst-sections
 use Rattle.edge_sst_c.proofs.section_list.edge_sst_sections.Reads as sst-sections-reads
 use Rattle.edge_sst_c.proofs.write.edge_sst_sum as sst-sum
 use Rattle.edge_sst_c.proofs.write.edge_sst_sum.Reads as sst-sum-reads
-use Rattle.xxh3.proofs.One.{xxh3-determined, saffron-xxh3-64-determined}
+use Rattle.xxh3.proofs.One.{saffron-xxh3-64-determined}
+use Rattle.xxh3_whole.proofs.One.{xxh3-determined}
 use Rattle.reader.proofs.One.{open-determined, header-determined, section-at-determined, partners-determined, partners-with-determined, lookup-determined, lookup-with-determined}
 use Rattle.full_check.proofs.One.{check-determined, checked-determined}
 use Rattle.readout.proofs.One.{read-out-determined}

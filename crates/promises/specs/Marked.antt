@@ -11,7 +11,7 @@ use Rattle.codes.specs.declared.varint.Unread.the-variants.{Long}
 use Rattle.codes.specs.Little.{leAt, leBytes}
 use Rattle.codes.specs.Ids.{beAt, halvesAt, beBytes, idBytes}
 use Rattle.codes.specs.Varint.{lastByte, varFrom, varintAt, bytesFrom, varBytes}
-use Rattle.xxh3_spec.specs.Xxh3.{mul, fold, xorshift, rotl, swap, rrmxmx, secret, of1to3, of4to8, of9to16, small, pair, mixStep, inward, of17to128, onward, of129to240, lane, accumulate, stir, scramble, turn, run, startLanes, twice, merge, large, xxh3}
+use Rattle.xxh3_spec.specs.Xxh3.{mul, fold, xorshift, rotl, swap, rrmxmx, secret, of1to3, of4to8, of9to16, small, pair, mixStep, inward, of17to128, onward, of129to240, lane, accumulate, stir, scramble, turn, runOn, startLanes, twice, merge, finish, large, xxh3}
 use Rattle.refusal.specs.declared.Refusal.{Refusal}
 use Rattle.refusal.specs.declared.Check.{Check}
 use Rattle.frame.specs.Layout.{headBytes, payload, entry, entries, bodyBytes, trailer, layOut}
@@ -94,7 +94,7 @@ by-cost ps n = ap (λ (d : ℕ). denseBy 65536 d (splitCost 0 ps)) n ∙ or-fals
     or-false false = refl
 
 pub marked : Marked
-unfolding empty live one rising headingOf edgeAt edgesAt edgesOf before inOrder faultFrom headed batchCheck tooMany writtenAnswer neededCheck neededOf leAt leBytes beAt halvesAt beBytes idBytes lastByte varFrom varintAt bytesFrom varBytes mul fold xorshift rotl swap rrmxmx secret of1to3 of4to8 of9to16 small pair mixStep inward of17to128 onward of129to240 lane accumulate stir scramble turn run startLanes twice merge large xxh3 headBytes payload entry entries bodyBytes trailer layOut headingOnly oneEdge onVarint splitStep denseStep stepAt onStep cons walkFrom degreeOf headOf onHead groupOf bytesOf splitFrom splitBytes denseBytes groupCheck join groupsOf partnersIn logsIn marksIn keysIn anyDead splitCost denseBy isDense groupBytes anyDense numbers partnerBytes startsFrom widthOf octet octets fenceBytes fenceKeysFrom fencesOf lastSections sectionsBy layoutBy layoutOf fileOf
+unfolding empty live one rising headingOf edgeAt edgesAt edgesOf before inOrder faultFrom headed batchCheck tooMany writtenAnswer neededCheck neededOf leAt leBytes beAt halvesAt beBytes idBytes lastByte varFrom varintAt bytesFrom varBytes mul fold xorshift rotl swap rrmxmx secret of1to3 of4to8 of9to16 small pair mixStep inward of17to128 onward of129to240 lane accumulate stir scramble turn runOn startLanes twice merge finish large xxh3 headBytes payload entry entries bodyBytes trailer layOut headingOnly oneEdge onVarint splitStep denseStep stepAt onStep cons walkFrom degreeOf headOf onHead groupOf bytesOf splitFrom splitBytes denseBytes groupCheck join groupsOf partnersIn logsIn marksIn keysIn anyDead splitCost denseBy isDense groupBytes anyDense numbers partnerBytes startsFrom widthOf octet octets fenceBytes fenceKeysFrom fencesOf lastSections sectionsBy layoutBy layoutOf fileOf
 marked = record {
   c1 = (refl, refl);
   c2 = (refl, refl);

@@ -59,13 +59,15 @@ numberOf (Refusal.Batch at) = 24
 numberOf (Refusal.Unordered at) = 25
 -- more keys, edges or file bytes than the bounds
 numberOf Refusal.Bounds = 26
+-- a chunk would take the bytes of a running sum past 2^30
+numberOf Refusal.Chunk = 27
 
 -- numbers: to here
 
 -- the last of them
 abbrev pub lastNumber : ℕ
 -- last: from refusals.txt
-lastNumber = 26
+lastNumber = 27
 
 -- last: to here
 
@@ -97,6 +99,7 @@ placeOf Refusal.Data = 0
 placeOf (Refusal.Batch at) = at
 placeOf (Refusal.Unordered at) = at
 placeOf Refusal.Bounds = 0
+placeOf Refusal.Chunk = 0
 
 -- places: to here
 
@@ -129,6 +132,7 @@ besideOf Refusal.Data = 0
 besideOf (Refusal.Batch at) = 0
 besideOf (Refusal.Unordered at) = 0
 besideOf Refusal.Bounds = 0
+besideOf Refusal.Chunk = 0
 
 -- places beside: to here
 
@@ -138,7 +142,7 @@ abbrev pub refusalsAt : ℕ → ℕ → List Refusal
 refusalsAt p q =
     Refusal.Size ∷ Refusal.Magic ∷ Refusal.Major ∷ Refusal.HeaderSize ∷ Refusal.Flags ∷ Refusal.TailMagic ∷ Refusal.FooterLength ∷ Refusal.FooterSum ∷ Refusal.Table ∷ Refusal.Codec p
     ∷ Refusal.Range p ∷ Refusal.Counts ∷ Refusal.Key p ∷ Refusal.Offset p ∷ Refusal.Fences ∷ Refusal.Tag p ∷ Refusal.Varint p ∷ Refusal.Group p ∷ Refusal.Degrees p ∷ Refusal.Room p
-    ∷ Refusal.Record ∷ Refusal.Sum p ∷ Refusal.Data ∷ Refusal.Batch p ∷ Refusal.Unordered p ∷ Refusal.Bounds ∷ []
+    ∷ Refusal.Record ∷ Refusal.Sum p ∷ Refusal.Data ∷ Refusal.Batch p ∷ Refusal.Unordered p ∷ Refusal.Bounds ∷ Refusal.Chunk ∷ []
 
 -- all: to here
 

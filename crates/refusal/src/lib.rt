@@ -35,6 +35,8 @@ pub enum Refusal {
     Batch { at: u64 },
     Unordered { at: u64 },
     Bounds,
+    // the running sum
+    Chunk,
     // cases: to here
 }
 
@@ -93,6 +95,7 @@ pub fn told_of(r: Refusal) -> Told
         Refusal::Batch { at } => tell(24, at, 0),
         Refusal::Unordered { at } => tell(25, at, 0),
         Refusal::Bounds => tell(26, 0, 0),
+        Refusal::Chunk => tell(27, 0, 0),
         // told: to here
     }
 }

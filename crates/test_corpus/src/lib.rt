@@ -6,7 +6,7 @@ use codes::little::le32;
 use refusal::Check;
 use refusal::Refusal;
 use text::put_refused;
-use xxh3::xxh3;
+use xxh3_whole::xxh3;
 
 // ---- what is printed
 

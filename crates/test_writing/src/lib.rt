@@ -17,7 +17,7 @@ use test_corpus::word;
 use write_file::Written;
 use write_file::needed;
 use write_file::write;
-use xxh3::xxh3;
+use xxh3_whole::xxh3;
 
 fn size(name: &[u8], batch: &[u8]) {
     line(name, b": needed");

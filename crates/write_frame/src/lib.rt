@@ -16,7 +16,7 @@ use frame::Row;
 use frame::ends::Footer;
 use frame::ends::Header;
 use frame::ends::Trailer;
-use xxh3::xxh3;
+use xxh3_whole::xxh3;
 
 // Copies s to `at`, by words of 8 bytes.
 fn put_words(out: &mut [u8], at: usize, s: &[u8])

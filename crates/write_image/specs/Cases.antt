@@ -9,7 +9,7 @@ use Rattle.codes.specs.declared.ids.Id.{Id}
 use Rattle.codes.specs.Little.{leAt, leBytes}
 use Rattle.codes.specs.Ids.{beAt, beBytes, halvesAt, idBytes}
 use Rattle.codes.specs.Varint.{bytesFrom, varBytes}
-use Rattle.xxh3_spec.specs.Xxh3.{mul, fold, xorshift, rotl, swap, rrmxmx, secret, of1to3, of4to8, of9to16, small, pair, mixStep, inward, of17to128, onward, of129to240, lane, accumulate, stir, scramble, turn, run, startLanes, twice, merge, large, xxh3}
+use Rattle.xxh3_spec.specs.Xxh3.{mul, fold, xorshift, rotl, swap, rrmxmx, secret, of1to3, of4to8, of9to16, small, pair, mixStep, inward, of17to128, onward, of129to240, lane, accumulate, stir, scramble, turn, runOn, startLanes, twice, merge, finish, large, xxh3}
 use Rattle.frame.specs.Kind as kind
 use Rattle.frame.specs.Layout.{Section, rawSection, headBytes, payload, entry, entries, bodyBytes, trailer, layOut}
 use Rattle.frame.specs.Cases.{ids}
@@ -144,5 +144,5 @@ unfolding mixed edgeAt edgesAt edgesOf halvesAt beAt leAt
 mixed-edges = refl
 
 pub mixed-written : fileOf (headingOf mixed) (edgesOf mixed) ≡ mixedFile
-unfolding mixed mixedFile headingOf edgeAt edgesAt edgesOf leAt leBytes beAt beBytes halvesAt idBytes bytesFrom varBytes mul fold xorshift rotl swap rrmxmx secret of1to3 of4to8 of9to16 small pair mixStep inward of17to128 onward of129to240 lane accumulate stir scramble turn run startLanes twice merge large xxh3 headBytes payload entry entries bodyBytes trailer layOut bytesOf splitFrom splitBytes denseBytes join groupsOf partnersIn logsIn marksIn keysIn anyDead splitCost denseBy isDense groupBytes anyDense numbers partnerBytes startsFrom widthOf octet octets fenceBytes fenceKeysFrom fencesOf lastSections sectionsBy layoutBy layoutOf fileOf
+unfolding mixed mixedFile headingOf edgeAt edgesAt edgesOf leAt leBytes beAt beBytes halvesAt idBytes bytesFrom varBytes mul fold xorshift rotl swap rrmxmx secret of1to3 of4to8 of9to16 small pair mixStep inward of17to128 onward of129to240 lane accumulate stir scramble turn runOn startLanes twice merge finish large xxh3 headBytes payload entry entries bodyBytes trailer layOut bytesOf splitFrom splitBytes denseBytes join groupsOf partnersIn logsIn marksIn keysIn anyDead splitCost denseBy isDense groupBytes anyDense numbers partnerBytes startsFrom widthOf octet octets fenceBytes fenceKeysFrom fencesOf lastSections sectionsBy layoutBy layoutOf fileOf
 mixed-written = refl

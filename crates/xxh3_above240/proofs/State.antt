@@ -5,7 +5,8 @@ use Prim.Native.Nat.{ℕ, zero, suc, _+_, _-_, _*_, _/_, _%_, _≤_, _<_}
 use borrow.Author.Tests.{lt-ltb, le-ltb}
 use native.Mathlib.Numerals.{add-one}
 use lib.ListN.{length, getD}
-use Rattle.xxh3_spec.specs.Xxh3.{add, mul, avalanche, accumulate, scramble, turn, run, twice, merge, startLanes, large}
+use Rattle.xxh3_spec.specs.Xxh3.{add, mul, avalanche, accumulate, scramble, turn, runOn, run, twice, merge, finish, startLanes, large}
+use Rattle.xxh3_spec.specs.Xxh3.Laws.{run-more}
 
 pub same8 : {a b c d e f g h a′ b′ c′ d′ e′ f′ g′ h′ : ℕ} → a ≡ a′ → b ≡ b′ → c ≡ c′ → d ≡ d′ → e ≡ e′ → f ≡ f′ → g ≡ g′ → h ≡ h′
     → a ∷ b ∷ c ∷ d ∷ e ∷ f ∷ g ∷ h ∷ [] ≡ a′ ∷ b′ ∷ c′ ∷ d′ ∷ e′ ∷ f′ ∷ g′ ∷ h′ ∷ []
@@ -20,19 +21,22 @@ pub merged : (q a : List ℕ) (n : ℕ) {m t₀ h₀ t₁ h₁ t₂ h₂ t₃ h�
 unfolding merge
 merged q a n e₀ e₁ e₂ e₃ e₄ e₅ e₆ e₇ e₈ e₉ = cc
 
-pub run-step : (q a s : List ℕ) (n : ℕ) → run q a s (n + 1) ≡ turn q (run q a s n) s n
-unfolding run
-run-step q a s n = rw (add-one n)
+pub run-step : (q a s : List ℕ) (k n : ℕ) → runOn q a s k (n + 1) ≡ turn q (runOn q a s k n) s (64 * n) (k + n)
+run-step q a s k n = rw (add-one n) (run-more q a s k n)
 
-pub ended : (q s : List ℕ) {x y : List ℕ} {r : ℕ} → x ≡ run q startLanes s ((length s - 1) / 64)
-    → y ≡ accumulate q x s (length s - 64) 121 → r ≡ merge q y (length s) → r ≡ large q s
+pub finished : (q a s : List ℕ) (i n : ℕ) {x : List ℕ} {r : ℕ} → x ≡ accumulate q a s i 121 → r ≡ merge q x n → r ≡ finish q a s i n
+unfolding finish
+finished q a s i n e₀ e₁ = cc
+
+pub ended : (q s : List ℕ) {x : List ℕ} {r : ℕ} → x ≡ run q startLanes s ((length s - 1) / 64)
+    → r ≡ finish q x s (length s - 64) (length s) → r ≡ large q s
 unfolding large
-ended q s e₀ e₁ e₂ = cc
+ended q s e₀ e₁ = cc
 
-pub inside : (q a s : List ℕ) (n : ℕ) {x : List ℕ} → x ≡ accumulate q a s (64 * n) (8 * (n % 16)) → n % 16 < 15 → x ≡ turn q a s n
+pub inside : (q a s : List ℕ) (i n : ℕ) {x : List ℕ} → x ≡ accumulate q a s i (8 * (n % 16)) → n % 16 < 15 → x ≡ turn q a s i n
 unfolding turn
-inside q a s n e l = simp (lt-ltb _ _ l) e
+inside q a s i n e l = simp (lt-ltb _ _ l) e
 
-pub at-end : (q a s : List ℕ) (n : ℕ) {x r : List ℕ} → x ≡ accumulate q a s (64 * n) (8 * (n % 16)) → 15 ≤ n % 16 → r ≡ scramble q x → r ≡ turn q a s n
+pub at-end : (q a s : List ℕ) (i n : ℕ) {x r : List ℕ} → x ≡ accumulate q a s i (8 * (n % 16)) → 15 ≤ n % 16 → r ≡ scramble q x → r ≡ turn q a s i n
 unfolding turn
-at-end q a s n e l f = simp (le-ltb _ _ l) (cc)
+at-end q a s i n e l f = simp (le-ltb _ _ l) (cc)

@@ -1,8 +1,8 @@
 // Lengths above 240, with the secret q.
 ghost use mathlib.Core.Path.{_≡_};
-ghost use Prim.Native.Nat.{_+_, _*_, _<_, _≤_};
+ghost use Prim.Native.Nat.{_+_, _*_, _^_, _<_, _≤_};
 ghost use lib.ListN.{length};
-ghost use Rattle.xxh3_spec.specs.Xxh3.{lane, accumulate, stir, scramble, turn, run, startLanes, twice, merge, large, secret};
+ghost use Rattle.xxh3_spec.specs.Xxh3.{lane, accumulate, stir, scramble, turn, runOn, startLanes, twice, merge, finish, large, secret};
 use codes::little::le64;
 use std::num::wrapping_add_u64;
 use xxh3_mix::mix::avalanche;
@@ -62,27 +62,27 @@ fn scramble(q: &[u8], a: [u64; 8]) -> [u64; 8]
     ]
 }
 
-// The state a after accumulate n of s, which ends a block where n is 15 more than a multiple of 16.
-fn turn(q: &[u8], a: [u64; 8], s: &[u8], n: usize) -> [u64; 8]
-    requires { ⌜ (64 * n + 64 ≤ length (now s)) × (length (now q) ≡ 192) ⌝ }
-    ensures { λ r. ⌜ r ≡ turn (now (q .entry)) a (now (s .entry)) n ⌝ }
+// The state a after stripe n of all, the 64 bytes of s from at on. It ends a block where n is 15 more than a multiple of 16.
+fn turn(q: &[u8], a: [u64; 8], s: &[u8], at: usize, n: usize) -> [u64; 8]
+    requires { ⌜ (at + 64 ≤ length (now s)) × (length (now q) ≡ 192) ⌝ }
+    ensures { λ r. ⌜ r ≡ turn (now (q .entry)) a (now (s .entry)) at n ⌝ }
 {
-    let x = accumulate(q, a, s, 64 * n, 8 * (n % 16));
+    let x = accumulate(q, a, s, at, 8 * (n % 16));
     if n % 16 < 15 {
         return x;
     }
     scramble(q, x)
 }
 
-// The state a after the first n stripes of s.
-fn run(q: &[u8], a: [u64; 8], s: &[u8], n: usize) -> [u64; 8]
-    requires { ⌜ (64 * n ≤ length (now s)) × (length (now q) ≡ 192) ⌝ }
-    ensures { λ r. ⌜ r ≡ run (now (q .entry)) a (now (s .entry)) n ⌝ }
+// The state a after n stripes of s, the first of them stripe k of all.
+fn run_on(q: &[u8], a: [u64; 8], s: &[u8], k: usize, n: usize) -> [u64; 8]
+    requires { ⌜ (64 * n ≤ length (now s)) × (length (now q) ≡ 192) × (k < 2 ^ 60) ⌝ }
+    ensures { λ r. ⌜ r ≡ runOn (now (q .entry)) a (now (s .entry)) k n ⌝ }
 {
     let mut r = a;
     let mut i = 0;
     while i < n {
-        let next = turn(q, r, s, i);
+        let next = turn(q, r, s, 64 * i, k + i);
         r = next;
         i += 1;
     }
@@ -106,45 +106,78 @@ fn merge(q: &[u8], a: [u64; 8], n: u64) -> u64
     avalanche(wrapping_add_u64(h2, twice(q, a[6], a[7], 59)))
 }
 
+// The sum of n bytes: a is the state after all stripes before the last byte, the last 64 bytes are those of s from at on.
+fn finish(q: &[u8], a: [u64; 8], s: &[u8], at: usize, n: u64) -> u64
+    requires { ⌜ (at + 64 ≤ length (now s)) × (length (now q) ≡ 192) ⌝ }
+    ensures { λ r. ⌜ r ≡ finish (now (q .entry)) a (now (s .entry)) at n ⌝ }
+{
+    merge(q, accumulate(q, a, s, at, 121), n)
+}
+
+// The state before the first stripe.
+pub const START_LANES: [u64; 8] = [
+    0xc2b2_ae3d,
+    0x9e37_79b1_85eb_ca87,
+    0xc2b2_ae3d_27d4_eb4f,
+    0x1656_67b1_9e37_79f9,
+    0x85eb_ca77_c2b2_ae63,
+    0x85eb_ca77,
+    0x27d4_eb2f_1656_67c5,
+    0x9e37_79b1,
+];
+
 fn large(q: &[u8], s: &[u8]) -> u64
     requires { ⌜ (240 < length (now s)) × (length (now q) ≡ 192) ⌝ }
     ensures { λ r. ⌜ r ≡ large (now (q .entry)) (now (s .entry)) ⌝ }
 {
     let n = s.len();
-    let startLanes: [u64; 8] = [
-        0xc2b2_ae3d,
-        0x9e37_79b1_85eb_ca87,
-        0xc2b2_ae3d_27d4_eb4f,
-        0x1656_67b1_9e37_79f9,
-        0x85eb_ca77_c2b2_ae63,
-        0x85eb_ca77,
-        0x27d4_eb2f_1656_67c5,
-        0x9e37_79b1,
-    ];
-    merge(
+    finish(
         q,
-        accumulate(q, run(q, startLanes, s, (n - 1) / 64), s, n - 64, 121),
+        run_on(q, START_LANES, s, 0, (n - 1) / 64),
+        s,
+        n - 64,
         n as u64,
     )
 }
+
+// The default secret.
+const SECRET: [u8; 192] = *b"\
+    \xb8\xfe\x6c\x39\x23\xa4\x4b\xbe\x7c\x01\x81\x2c\xf7\x21\xad\x1c\
+    \xde\xd4\x6d\xe9\x83\x90\x97\xdb\x72\x40\xa4\xa4\xb7\xb3\x67\x1f\
+    \xcb\x79\xe6\x4e\xcc\xc0\xe5\x78\x82\x5a\xd0\x7d\xcc\xff\x72\x21\
+    \xb8\x08\x46\x74\xf7\x43\x24\x8e\xe0\x35\x90\xe6\x81\x3a\x26\x4c\
+    \x3c\x28\x52\xbb\x91\xc3\x00\xcb\x88\xd0\x65\x8b\x1b\x53\x2e\xa3\
+    \x71\x64\x48\x97\xa2\x0d\xf9\x4e\x38\x19\xef\x46\xa9\xde\xac\xd8\
+    \xa8\xfa\x76\x3f\xe3\x9c\x34\x3f\xf9\xdc\xbb\xc7\xc7\x0b\x4f\x1d\
+    \x8a\x51\xe0\x4b\xcd\xb4\x59\x31\xc8\x9f\x7e\xc9\xd9\x78\x73\x64\
+    \xea\xc5\xac\x83\x34\xd3\xeb\xc3\xc5\x81\xa0\xff\xfa\x13\x63\xeb\
+    \x17\x0d\xdd\x51\xb7\xf0\xda\x49\xd3\x16\x55\x26\x29\xd4\x68\x9e\
+    \x2b\x16\xbe\x58\x7d\x47\xa1\xfc\x8f\xf8\xb8\xd1\x7a\xd0\x31\xce\
+    \x45\xcb\x3a\x8f\x95\x16\x04\x28\xaf\xd7\xfb\xca\xbb\x4b\x40\x7e";
 
 // The checksum with the default secret.
 pub fn by_default(s: &[u8]) -> u64
     requires { ⌜ 240 < length (now s) ⌝ }
     ensures { λ r. ⌜ r ≡ large secret (now (s .entry)) ⌝ }
 {
-    let q = b"\
-        \xb8\xfe\x6c\x39\x23\xa4\x4b\xbe\x7c\x01\x81\x2c\xf7\x21\xad\x1c\
-        \xde\xd4\x6d\xe9\x83\x90\x97\xdb\x72\x40\xa4\xa4\xb7\xb3\x67\x1f\
-        \xcb\x79\xe6\x4e\xcc\xc0\xe5\x78\x82\x5a\xd0\x7d\xcc\xff\x72\x21\
-        \xb8\x08\x46\x74\xf7\x43\x24\x8e\xe0\x35\x90\xe6\x81\x3a\x26\x4c\
-        \x3c\x28\x52\xbb\x91\xc3\x00\xcb\x88\xd0\x65\x8b\x1b\x53\x2e\xa3\
-        \x71\x64\x48\x97\xa2\x0d\xf9\x4e\x38\x19\xef\x46\xa9\xde\xac\xd8\
-        \xa8\xfa\x76\x3f\xe3\x9c\x34\x3f\xf9\xdc\xbb\xc7\xc7\x0b\x4f\x1d\
-        \x8a\x51\xe0\x4b\xcd\xb4\x59\x31\xc8\x9f\x7e\xc9\xd9\x78\x73\x64\
-        \xea\xc5\xac\x83\x34\xd3\xeb\xc3\xc5\x81\xa0\xff\xfa\x13\x63\xeb\
-        \x17\x0d\xdd\x51\xb7\xf0\xda\x49\xd3\x16\x55\x26\x29\xd4\x68\x9e\
-        \x2b\x16\xbe\x58\x7d\x47\xa1\xfc\x8f\xf8\xb8\xd1\x7a\xd0\x31\xce\
-        \x45\xcb\x3a\x8f\x95\x16\x04\x28\xaf\xd7\xfb\xca\xbb\x4b\x40\x7e";
-    large(q, s)
+    let q = SECRET;
+    large(&q, s)
+}
+
+// The lanes of the running sum: the state a after n stripes of s, the first of them stripe k of all.
+pub fn lanes_after(a: [u64; 8], s: &[u8], k: usize, n: usize) -> [u64; 8]
+    requires { ⌜ (64 * n ≤ length (now s)) × (k < 2 ^ 60) ⌝ }
+    ensures { λ r. ⌜ r ≡ runOn secret a (now (s .entry)) k n ⌝ }
+{
+    let q = SECRET;
+    run_on(&q, a, s, k, n)
+}
+
+// Its end: the sum of n bytes, the last 64 of which are `last`, where a is the state after all stripes before the last byte.
+pub fn sum_after(a: [u64; 8], last: &[u8], n: u64) -> u64
+    requires { ⌜ 64 ≤ length (now last) ⌝ }
+    ensures { λ r. ⌜ r ≡ finish secret a (now (last .entry)) 0 n ⌝ }
+{
+    let q = SECRET;
+    finish(&q, a, last, 0, n)
 }

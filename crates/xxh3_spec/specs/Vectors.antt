@@ -4,7 +4,7 @@ use mathlib.Core.Path.{_≡_, refl}
 use mathlib.Core.List.{[]}
 use lib.ListN.{replicate}
 use Rattle.codes.specs.Little.{leAt}
-use Rattle.xxh3_spec.specs.Xxh3.{mul, fold, xorshift, rotl, swap, rrmxmx, secret, of1to3, of4to8, of9to16, small, pair, mixStep, inward, of17to128, onward, of129to240, lane, accumulate, stir, scramble, turn, run, startLanes, twice, merge, large, xxh3}
+use Rattle.xxh3_spec.specs.Xxh3.{mul, fold, xorshift, rotl, swap, rrmxmx, secret, of1to3, of4to8, of9to16, small, pair, mixStep, inward, of17to128, onward, of129to240, lane, accumulate, stir, scramble, turn, runOn, startLanes, twice, merge, finish, large, xxh3}
 
 -- no bytes; 1 to 3; 4 to 8; 9 to 16; 17 to 128; 129 to 240; more, within a block; more than a block
 pub vectors :
@@ -16,5 +16,5 @@ pub vectors :
     × (xxh3 (replicate 240 7) ≡ 0x6195_14f6_35b8_e4e9)
     × (xxh3 (replicate 300 7) ≡ 0x8aec_4a54_14da_d453)
     × (xxh3 (replicate 1100 7) ≡ 0xfc2f_94fa_cd0a_0cfb)
-unfolding leAt mul fold xorshift rotl swap rrmxmx secret of1to3 of4to8 of9to16 small pair mixStep inward of17to128 onward of129to240 lane accumulate stir scramble turn run startLanes twice merge large xxh3
+unfolding leAt mul fold xorshift rotl swap rrmxmx secret of1to3 of4to8 of9to16 small pair mixStep inward of17to128 onward of129to240 lane accumulate stir scramble turn runOn startLanes twice merge finish large xxh3
 vectors = (refl, refl, refl, refl, refl, refl, refl, refl)

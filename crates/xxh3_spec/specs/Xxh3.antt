@@ -6,6 +6,7 @@ use lib.Dec.{ltb, leb}
 use lib.ListN.{length, getD}
 use lib.Bits.{bitXor, bitOr}
 use Rattle.codes.specs.Little.{leAt}
+pub mod Laws
 
 -- ---- the specification's constants: PRIME32_1 to 3, PRIME64_1 to 5, PRIME_MX1 and 2
 
@@ -183,16 +184,21 @@ scramble q a =
     stir q (getD a 0 0) 0 ∷ stir q (getD a 1 0) 1 ∷ stir q (getD a 2 0) 2 ∷ stir q (getD a 3 0) 3 ∷
     stir q (getD a 4 0) 4 ∷ stir q (getD a 5 0) 5 ∷ stir q (getD a 6 0) 6 ∷ stir q (getD a 7 0) 7 ∷ []
 
--- the state a after accumulate n of s. A block is 16 stripes: in it the secret moves by 8 bytes with each accumulate, and after it the state is scrambled
-unfoldable pub turn : List ℕ → List ℕ → List ℕ → ℕ → List ℕ
-turn q a s n =
-    let x : List ℕ = accumulate q a s (64 * n) (8 * (n % 16)) in
+-- the state a after stripe n of all, the 64 bytes of s from i on. A block is 16 stripes: in it the secret moves by 8 bytes with each stripe, and
+-- after it the state is scrambled
+unfoldable pub turn : List ℕ → List ℕ → List ℕ → ℕ → ℕ → List ℕ
+turn q a s i n =
+    let x : List ℕ = accumulate q a s i (8 * (n % 16)) in
     cond (ltb (n % 16) 15) x (scramble q x)
 
+-- the state a after n stripes of s, the first of them stripe k of all
+unfoldable pub runOn : List ℕ → List ℕ → List ℕ → ℕ → ℕ → List ℕ
+runOn q a s k zero = a
+runOn q a s k (suc n) = turn q (runOn q a s k n) s (64 * n) (k + n)
+
 -- the state a after the first n stripes of s
-unfoldable pub run : List ℕ → List ℕ → List ℕ → ℕ → List ℕ
-run q a s zero = a
-run q a s (suc n) = turn q (run q a s n) s n
+abbrev pub run : List ℕ → List ℕ → List ℕ → ℕ → List ℕ
+run q a s n = runOn q a s 0 n
 
 unfoldable pub startLanes : List ℕ
 startLanes =
@@ -212,9 +218,12 @@ merge q a n =
     (twice q (getD a 4 0) (getD a 5 0) 43))
     (twice q (getD a 6 0) (getD a 7 0) 59))
 
--- all stripes before the last byte, and then the last 64 bytes
+-- the sum of n bytes: a is the state after all stripes before the last byte, and the last 64 bytes are those of s from i on
+unfoldable pub finish : List ℕ → List ℕ → List ℕ → ℕ → ℕ → ℕ
+finish q a s i n = merge q (accumulate q a s i 121) n
+
 unfoldable pub large : List ℕ → List ℕ → ℕ
-large q s = merge q (accumulate q (run q startLanes s ((length s - 1) / 64)) s (length s - 64) 121) (length s)
+large q s = finish q (run q startLanes s ((length s - 1) / 64)) s (length s - 64) (length s)
 
 -- ---- the checksum
 

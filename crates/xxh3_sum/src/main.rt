@@ -9,7 +9,7 @@ fn printed(bytes: &[u8]) -> bool {
     if LONGEST < bytes.len() {
         return wrote(b"too long\n");
     }
-    if !io::print_hex(libc::STDOUT_FILENO, xxh3::xxh3(bytes), 16) {
+    if !io::print_hex(libc::STDOUT_FILENO, xxh3_whole::xxh3(bytes), 16) {
         return false;
     }
     wrote(b"\n")

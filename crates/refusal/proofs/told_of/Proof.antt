@@ -168,6 +168,12 @@ enum-told-14 c = search needs
 tell-requires-26 : tie.Need-tell-requires-26
 tell-requires-26 c κs = search needs
 
+enum-told-15 : tie.Need-enum-told-15
+enum-told-15 c = search needs
+
+tell-requires-27 : tie.Need-tell-requires-27
+tell-requires-27 c κs = search needs
+
 returns : tie.Need-returns
 returns c = is (c .before .enum-told .given .1) (c .tell .ensures)
 
@@ -246,6 +252,9 @@ returns-25 c = is (c .before .before .r12 .given .1) (c .tell25 .ensures)
 returns-26 : tie.Need-returns-26
 returns-26 c = is (c .before .enum-told14 .given .1) (c .tell26 .ensures)
 
+returns-27 : tie.Need-returns-27
+returns-27 c = is (c .before .enum-told15 .given .1) (c .tell27 .ensures)
+
 pub told-of-spec : {M : Type 1} → statement M
 told-of-spec =
     tie.close
@@ -302,6 +311,8 @@ told-of-spec =
     tell-requires-25
     enum-told-14
     tell-requires-26
+    enum-told-15
+    tell-requires-27
     returns
     returns-2
     returns-3
@@ -327,4 +338,5 @@ told-of-spec =
     returns-23
     returns-24
     returns-25
-    returns-26)
+    returns-26
+    returns-27)

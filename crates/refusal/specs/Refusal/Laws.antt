@@ -37,6 +37,7 @@ numbered Refusal.Data = refl
 numbered (Refusal.Batch at) = refl
 numbered (Refusal.Unordered at) = refl
 numbered Refusal.Bounds = refl
+numbered Refusal.Chunk = refl
 
 -- numbered: to here
 
@@ -77,6 +78,7 @@ told-back Refusal.Data = refl
 told-back (Refusal.Batch at) = refl
 told-back (Refusal.Unordered at) = refl
 told-back Refusal.Bounds = refl
+told-back Refusal.Chunk = refl
 
 -- told-back: to here
 

@@ -8,7 +8,7 @@ use Rattle.full_check.proofs.sums.sum_of.Tie as tie
 use Rattle.full_check.proofs.sums.sum_of.Reads as reads
 use Rattle.full_check.proofs.sums.sum_of.Lts as lts
 use Rattle.frame.proofs.bytes_of.Reads as bytes-of-reads
-use Rattle.xxh3.proofs.xxh3.Reads as xxh3-reads
+use Rattle.xxh3_whole.proofs.xxh3.Reads as xxh3-reads
 
 bytes-of-requires : tie.Need-bytes-of-requires
 bytes-of-requires c κs = search needs

@@ -1,8 +1,8 @@
 use borrow.Author.Needs.{needs}
 use borrow.Author.Tests.{le-leb, lt-leb}
 use Rattle.xxh3_spec.specs.Xxh3.{xxh3}
-use Rattle.xxh3.proofs.xxh3.Statement.{statement}
-use Rattle.xxh3.proofs.xxh3.Tie as tie
+use Rattle.xxh3_whole.proofs.xxh3.Statement.{statement}
+use Rattle.xxh3_whole.proofs.xxh3.Tie as tie
 
 small-requires : tie.Need-small-requires
 small-requires c κs = search needs

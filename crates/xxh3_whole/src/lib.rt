@@ -1,5 +1,4 @@
-// XXH3-64 with seed 0 and the default secret: the checksum of every section and of the footer. It stands alone, without
-// the file reader, for tools that take only the sum.
+// XXH3-64 with seed 0 and the default secret, of bytes that are all at hand: the checksum of every section and of the footer.
 ghost use mathlib.Core.Path.{_≡_};
 ghost use Rattle.xxh3_spec.specs.Xxh3.{xxh3};
 use xxh3_above240::large::by_default;
@@ -22,12 +21,4 @@ pub fn xxh3(s: &[u8]) -> u64
         return of129to240(s);
     }
     by_default(s)
-}
-
-// The same for C: see include/saffron_xxh3.h.
-#[no_mangle]
-pub extern "C" fn saffron_xxh3_64(bytes: &[u8]) -> u64
-    ensures { λ r. ⌜ r ≡ xxh3 (now (bytes .entry)) ⌝ }
-{
-    xxh3(bytes)
 }
