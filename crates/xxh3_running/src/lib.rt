@@ -59,6 +59,15 @@ pub fn feed(st: State, chunk: &[u8]) -> Fed
     Fed { told, state }
 }
 
+// The same in place.
+pub fn update(st: &mut State, chunk: &[u8]) -> Check
+    ensures { λ r. ⌜ (r ≡ feedOf (now (st .entry)) (now (chunk .entry)) .told) × (now (st .exit) ≡ feedOf (now (st .entry)) (now (chunk .entry)) .state) ⌝ }
+{
+    let r = feed(*st, chunk);
+    *st = r.state;
+    r.told
+}
+
 // The sum of all bytes that were fed.
 pub fn sum(st: State) -> u64
     ensures { λ r. ⌜ r ≡ sumOf st ⌝ }
