@@ -14,8 +14,8 @@ use Rattle.xxh3_spec.specs.Xxh3.{runOn, finish, secret, xxh3}
 use Rattle.xxh3_spec.specs.Xxh3.Laws.{run-none}
 use Rattle.xxh3_running.specs.declared.State.{State}
 use Rattle.xxh3_running.specs.declared.Fed.{Fed}
-use Rattle.xxh3_running.specs.Running.{mostFed, stateOf, bytesMore, feedOf, lastBytes, longSum, sumOf, emptied}
-use Rattle.xxh3_running.specs.Running.Laws.{UntilFull, blockBefore, blocksIn, bufferAfter, sets-whole, bytes-total, fed-inside, fed-past}
+use Rattle.xxh3_running.specs.Running.{mostFed, stateOf, bytesMore, feedOf, Leaves, lastBytes, longSum, sumOf, emptied}
+use Rattle.xxh3_running.specs.Running.Laws.{UntilFull, blockBefore, blocksIn, bufferAfter, sets-whole, bytes-total, fed-inside, fed-past, feed-taken, feed-refused}
 
 -- one byte more of s is written
 pub put-step : (s b : List ℕ) (at i : ℕ) → i < length s → set (sets b at (take i s)) (at + i) (getD s i 0) ≡ sets b at (take (i + 1) s)
@@ -57,23 +57,14 @@ sum-long t l b h e = rw (lt-leb t 256 h) e
 
 -- ---- a chunk
 
-pub fed-whole : (f : Fed) {told : Check} {t : ℕ} {l b : List ℕ} → told ≡ f .told → t ≡ f .state .total → l ≡ f .state .lanes → b ≡ f .state .buffer
-    → record { told = told; state = stateOf t l b } ≡ f
-fed-whole f p q u v = λ i. record { told = p i; state = stateOf (q i) (u i) (v i) }
+pub fed-whole : (f : Fed) {told : Check} {t : ℕ} {l b : List ℕ} → told ≡ f .told → Leaves f t l b → record { told = told; state = stateOf t l b } ≡ f
+fed-whole f p q = λ i. record { told = p i; state = stateOf (q .0 i) (q .1 i) (q .2 i) }
 
 abbrev pub Parts : Fed → Check → ℕ → List ℕ → List ℕ → Type 0
-Parts f told t l b = (told ≡ f .told) × (t ≡ f .state .total) × (l ≡ f .state .lanes) × (b ≡ f .state .buffer)
+Parts f told t l b = (told ≡ f .told) × Leaves f t l b
 
 parts : {f : Fed} {told : Check} {t : ℕ} {l b : List ℕ} → f ≡ record { told = told; state = stateOf t l b } → Parts f told t l b
-parts e = (sym (ap (λ (x : Fed). x .told) e), sym (ap (λ (x : Fed). x .state .total) e), sym (ap (λ (x : Fed). x .state .lanes) e), sym (ap (λ (x : Fed). x .state .buffer) e))
-
-refused : (st : State) (chunk : List ℕ) → mostFed < st .total + length chunk → feedOf st chunk ≡ record { told = Check.Bad Refusal.Chunk; state = st }
-unfolding feedOf
-refused st chunk h = rw (lt-leb (st .total + length chunk) mostFed h)
-
-taken : (st : State) (chunk : List ℕ) → st .total + length chunk ≤ mostFed → feedOf st chunk ≡ record { told = Check.Fine; state = bytesMore st chunk }
-unfolding feedOf
-taken st chunk h = rw (le-leb (st .total + length chunk) mostFed h)
+parts e = (sym (ap (λ (x : Fed). x .told) e), (sym (ap (λ (x : Fed). x .state .total) e), sym (ap (λ (x : Fed). x .state .lanes) e), sym (ap (λ (x : Fed). x .state .buffer) e)))
 
 -- what is lent of s up to r and from r on
 part-front : (s : List ℕ) (r : ℕ) → part s 0 r ≡ take r s
@@ -110,28 +101,29 @@ pub pour-all : (t r : ℕ) (l b s : List ℕ) → UntilFull t r → length b ≡
 unfolding emptied
 pour-all t r l b s u z h filled a l′ b′ p q w v =
     let f : filled ≡ sets b (256 - r) (take r s) = p ∙ ap (sets b (256 - r)) (part-front s r) in
-    let all = fed-past t r l b s u z h in
-    (w
-    ∙ ap₂ (λ (x y : List ℕ). runOn secret x y ((t + r) / 64) (4 * blocksIn y)) (q ∙ ap (λ (x : List ℕ). runOn secret l x ((t + r) / 64 - 4) 4) f) (part-back s r)
-    ∙ sym (ap (λ (st : State). st .lanes) all),
-    v ∙ ap₂ (λ (x y : List ℕ). bufferAfter x y (blocksIn y)) f (part-back s r) ∙ sym (ap (λ (st : State). st .buffer) all))
+    let all = fed-past t r l b s u z h in (
+      w
+          ∙ ap₂ (λ (x y : List ℕ). runOn secret x y ((t + r) / 64) (4 * blocksIn y)) (q ∙ ap (λ (x : List ℕ). runOn secret l x ((t + r) / 64 - 4) 4) f) (part-back s r)
+          ∙ sym (ap (λ (st : State). st .lanes) all),
+      v ∙ ap₂ (λ (x y : List ℕ). bufferAfter x y (blocksIn y)) f (part-back s r) ∙ sym (ap (λ (st : State). st .buffer) all),
+    )
 
 -- ---- what becomes of what was lent
 
 -- a chunk that is refused
 pub leaves : (t : ℕ) (l b s : List ℕ) → mostFed < t + length s → Parts (feedOf (stateOf t l b) s) (Check.Bad Refusal.Chunk) t l b
-leaves t l b s h = parts (refused (stateOf t l b) s h)
+leaves t l b s h = parts (feed-refused (stateOf t l b) s h)
 
 -- one that stays inside the buffer
 pub takes-few : (t r : ℕ) (l b s b′ : List ℕ) → t + length s ≤ mostFed → UntilFull t r → length s ≤ r → b′ ≡ sets b (256 - r) s
     → Parts (feedOf (stateOf t l b) s) Check.Fine (t + length s) l b′
 takes-few t r l b s b′ h u n e =
-    let done = parts (taken (stateOf t l b) s h ∙ ap (λ (st : State). record { told = Check.Fine; state = st }) (fed-inside t r l b s u n)) in
-    (done .0, done .1, done .2, e ∙ done .3)
+    let done = parts (feed-taken (stateOf t l b) s h ∙ ap (λ (st : State). record { told = Check.Fine; state = st }) (fed-inside t r l b s u n)) in
+    (done .0, (done .1 .0, done .1 .1, e ∙ done .1 .2))
 
 -- and one that goes past its end
 pub takes-more : (t : ℕ) (l b s l′ b′ : List ℕ) → t + length s ≤ mostFed → l′ ≡ bytesMore (stateOf t l b) s .lanes → b′ ≡ bytesMore (stateOf t l b) s .buffer
     → Parts (feedOf (stateOf t l b) s) Check.Fine (t + length s) l′ b′
 takes-more t l b s l′ b′ h p q =
-    let done = parts (taken (stateOf t l b) s h) in
-    (done .0, sym (bytes-total s (stateOf t l b)) ∙ done .1, p ∙ done .2, q ∙ done .3)
+    let done = parts (feed-taken (stateOf t l b) s h) in
+    (done .0, (sym (bytes-total s (stateOf t l b)) ∙ done .1 .0, p ∙ done .1 .1, q ∙ done .1 .2))

@@ -1,5 +1,6 @@
 -- The running sum: XXH3-64 of bytes that come in chunks. The buffer is a ring: byte i of all that were fed lies at i % 256.
 -- So the total alone says what lies in it, and every value of the fields is a state.
+use mathlib.Core.Path.{_≡_}
 use Prim.Native.Nat.{ℕ, _+_, _-_, _*_, _/_, _%_, _^_}
 use mathlib.Core.Bool.{Bool, _&&_}
 use mathlib.Core.List.{List, [], _∷_, _++_}
@@ -51,6 +52,10 @@ feedOf st chunk =
     pick (leb (st .total + length chunk) mostFed)
     (record { told = Check.Fine; state = bytesMore st chunk })
     (record { told = Check.Bad Refusal.Chunk; state = st })
+
+-- lent parts hold the state that a chunk made
+abbrev pub Leaves : Fed → ℕ → List ℕ → List ℕ → Type 0
+Leaves f total lanes buffer = (total ≡ f .state .total) × (lanes ≡ f .state .lanes) × (buffer ≡ f .state .buffer)
 
 -- the buffer after t bytes, the oldest byte first
 abbrev pub inOrder : ℕ → List ℕ → List ℕ

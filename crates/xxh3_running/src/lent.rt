@@ -4,7 +4,7 @@ ghost use Prim.Native.Nat.{_+_, _*_, _^_, _<_, _≤_};
 ghost use lib.ListN.{length};
 ghost use lib.Seq.{sets};
 ghost use Rattle.xxh3_spec.specs.Xxh3.{runOn, secret};
-ghost use Rattle.xxh3_running.specs.Running.{stateOf, bytesMore, feedOf, lastBytes, longSum, sumOf};
+ghost use Rattle.xxh3_running.specs.Running.{stateOf, bytesMore, feedOf, Leaves, lastBytes, longSum, sumOf};
 ghost use Rattle.xxh3_running.specs.Running.Laws.{UntilFull, blocksIn, bufferAfter};
 use crate::State;
 use refusal::Check;
@@ -74,9 +74,7 @@ pub fn feed_lent(
     chunk: &[u8],
 ) -> Check
     ensures { λ r. ⌜ (r ≡ feedOf (stateOf (now (total .entry)) (now (lanes .entry)) (now (buffer .entry))) (now (chunk .entry)) .told)
-        × (now (total .exit) ≡ feedOf (stateOf (now (total .entry)) (now (lanes .entry)) (now (buffer .entry))) (now (chunk .entry)) .state .total)
-        × (now (lanes .exit) ≡ feedOf (stateOf (now (total .entry)) (now (lanes .entry)) (now (buffer .entry))) (now (chunk .entry)) .state .lanes)
-        × (now (buffer .exit) ≡ feedOf (stateOf (now (total .entry)) (now (lanes .entry)) (now (buffer .entry))) (now (chunk .entry)) .state .buffer) ⌝ }
+        × Leaves (feedOf (stateOf (now (total .entry)) (now (lanes .entry)) (now (buffer .entry))) (now (chunk .entry))) (now (total .exit)) (now (lanes .exit)) (now (buffer .exit)) ⌝ }
 {
     let t = *total;
     let n = chunk.len() as u64;

@@ -7,7 +7,7 @@ feed-lent-requires : tie.Need-feed-lent-requires
 feed-lent-requires c κs = search needs
 
 returns : tie.Need-returns
-returns c = let e = c .feed-lent .ensures in fed-whole _ (e .0) (e .1) (e .2) (e .3)
+returns c = let e = c .feed-lent .ensures in fed-whole _ (e .0) (e .1)
 
 pub feed-spec : {M : Type 1} → statement M
 feed-spec = tie.close (tie.spec feed-lent-requires returns)

@@ -10,13 +10,15 @@ use mathlib.Core.List.{List, [], _∷_, _++_, append-nil}
 use lib.Dec.{ltb, eqb}
 use lib.ListN.{length, take, drop, set, getD, length-append, length-drop, take-append-drop, drop-of-length-le, List·getD-append}
 use lib.Seq.{sets, sets-eq, length-sets, length-take-le, getD-take, getD-drop, getD-append-add, drop-drop}
-use borrow.Author.Tests.{lt-ltb, eq-eqb, ne-eqb, le-ltb}
+use borrow.Author.Tests.{lt-ltb, le-leb, lt-leb, eq-eqb, ne-eqb}
+use Rattle.refusal.specs.declared.Check.{Check}
+use Rattle.refusal.specs.declared.Refusal.{Refusal}
 use Rattle.base.specs.Pick.{pick}
 use Rattle.base.specs.Over.{part, sets-over}
 use Rattle.xxh3_spec.specs.Xxh3.{runOn, secret}
 use Rattle.xxh3_spec.specs.Xxh3.Laws.{run-none, run-same, run-add}
 use Rattle.xxh3_running.specs.declared.State.{State}
-use Rattle.xxh3_running.specs.Running.{stateOf, isFull, emptied, byteMore, bytesMore, lastBytes}
+use Rattle.xxh3_running.specs.Running.{mostFed, stateOf, isFull, emptied, byteMore, bytesMore, feedOf, lastBytes}
 
 -- ---- when the buffer is full
 
@@ -238,3 +240,13 @@ module _ (t r : ℕ) (l b xs : List ℕ) (u : UntilFull t r) (z : length b ≡ 2
       ∙ ap (λ (st : State). bytesMore st rest) (fed-inside t r l b (take r xs) u (omega arith) ∙ ap (λ (x : ℕ). stateOf (t + x) l filled) m)
       ∙ poured k rest (t + r) l filled (u .2) (u .1) size (omega arith) (omega arith)
       ∙ ap (λ (x : ℕ). stateOf x (runOn secret (emptied (t + r) l filled) rest ((t + r) / 64) (4 * k)) (bufferAfter filled rest k)) all
+
+-- ---- a chunk is taken whole, or refused
+
+pub feed-taken : (st : State) (c : List ℕ) → st .total + length c ≤ mostFed → feedOf st c ≡ record { told = Check.Fine; state = bytesMore st c }
+unfolding feedOf
+feed-taken st c h = rw (le-leb (st .total + length c) mostFed h)
+
+pub feed-refused : (st : State) (c : List ℕ) → mostFed < st .total + length c → feedOf st c ≡ record { told = Check.Bad Refusal.Chunk; state = st }
+unfolding feedOf
+feed-refused st c h = rw (lt-leb (st .total + length c) mostFed h)
