@@ -18,6 +18,7 @@ mod open;
 mod print;
 mod random;
 mod read_out;
+mod running;
 mod varint;
 mod write;
 mod xxh3;
