@@ -20,7 +20,8 @@
  * - Not enough room is EDGE_SST_ROOM (20), and its place is what is needed: ask with
  *   a length of 0, lend that much and ask again.
  * - The calls keep no state and ask for no memory. They may run at the same time, also
- *   on the same file.
+ *   on the same file. The state of a running sum is the caller's, and is written in
+ *   place: one call at a time may have it.
  *
  * The refusals of each call, in the order in which they are asked:
  *
@@ -36,6 +37,7 @@
  *   edge_sst_needed           24 and 25 record by record, 26
  *   edge_sst_write            24 and 25 record by record, 26, 20
  *   edge_sst_sum              none
+ *   edge_sst_running_feed     27
  *
  * The place of each, counted from 0:
  *
@@ -245,7 +247,8 @@ EdgeSstLooked edge_sst_lookup_with(const uint8_t *p, size_t n, const EdgeSstOpen
 EdgeSstLooked edge_sst_lookup(const uint8_t *p, size_t n, const uint8_t key[16], uint8_t *out,
                               size_t m, uint64_t *logs, size_t l, uint8_t *marks, size_t k);
 
-/* What a check gives: zeros where the file passes. */
+/* What a check gives: zeros where the file passes. And what a chunk gives: zeros where it
+ * is taken. */
 typedef struct {
     uint64_t number, place, beside;
 } EdgeSstTold;
@@ -271,6 +274,40 @@ EdgeSstDone edge_sst_write(const uint8_t *p, size_t n, uint8_t *out, size_t m);
 
 /* The XXH3-64 of the n bytes at p: seed 0, default secret. */
 uint64_t edge_sst_sum(const uint8_t *p, size_t n);
+
+/* A running sum: what is kept of the bytes so far. total counts them, lanes are XXH3's
+ * accumulators, and byte i of all, counted from 0, lies at i % 256 of buffer until a
+ * later one takes its place. It is plain data, and a copy goes on by itself. Any values
+ * may be lent. */
+typedef struct {
+    uint64_t total;
+    uint64_t lanes[8];
+    uint8_t buffer[256];
+} EdgeSstRunning;
+
+/* The state before any byte. */
+EdgeSstRunning edge_sst_running_new(void);
+
+/* Takes the n bytes at p as the next chunk; the state's parts are lent, and overlap
+ * neither each other nor the chunk. Zeros: the chunk is taken, and the state is that of
+ * all bytes, wherever they were cut. EDGE_SST_CHUNK (27): total and n together pass
+ * EDGE_SST_MOST_BYTES, and nothing changes; a smaller chunk may follow. */
+EdgeSstTold edge_sst_running_feed(uint64_t *total, uint64_t *lanes, uint8_t *buffer,
+                                  const uint8_t *p, size_t n);
+
+/* The sum of all bytes so far: of a state that came from edge_sst_running_new and chunks,
+ * what edge_sst_sum says of the whole. Asking changes nothing, and chunks may follow. */
+uint64_t edge_sst_running_asked(uint64_t total, const uint64_t *lanes, const uint8_t *buffer);
+
+/* The same two over a whole state. */
+static inline EdgeSstTold edge_sst_running_update(EdgeSstRunning *state, const uint8_t *p,
+                                                  size_t n) {
+    return edge_sst_running_feed(&state->total, state->lanes, state->buffer, p, n);
+}
+
+static inline uint64_t edge_sst_running_sum(const EdgeSstRunning *state) {
+    return edge_sst_running_asked(state->total, state->lanes, state->buffer);
+}
 
 /* An entry of the section table. nameat is the place of its name, counted from the
  * file's first byte; an empty name has the place where it would begin. */

@@ -1,4 +1,4 @@
-/* XXH3-64, seed 0, default secret, of any bytes. Link with libxxh3.a (`rt staticlib xxh3`), x86-64. */
+/* XXH3-64, seed 0, default secret, of bytes at hand or in chunks. Link with libxxh3.a (`rt staticlib xxh3`), x86-64. */
 #ifndef SAFFRON_XXH3_H
 #define SAFFRON_XXH3_H
 
@@ -12,6 +12,37 @@ extern "C" {
 /* The sum of the n bytes at p. p is not null, also where n is 0: any other address will do there. The bytes must stay as
    they are during the call. It keeps no state, allocates nothing and may be called from several threads at once. */
 uint64_t saffron_xxh3_64(const uint8_t *p, size_t n);
+
+/* A running sum: what is kept of the bytes so far. total counts them, lanes are XXH3's accumulators, and byte i of all,
+   counted from 0, lies at i % 256 of buffer until a later one takes its place. The caller keeps it, one for each section
+   that comes down; it is plain data, and a copy goes on by itself. Any values may be lent: every call returns. */
+typedef struct SaffronXxh3State {
+    uint64_t total;
+    uint64_t lanes[8];
+    uint8_t buffer[256];
+} SaffronXxh3State;
+
+/* The state before any byte. */
+SaffronXxh3State saffron_xxh3_new(void);
+
+/* Takes the n bytes at p as the next chunk; the state's parts are lent. 0: the chunk is taken, and the state is that of
+   all bytes, wherever they were cut. 27: total and n together pass 2^30, and nothing changes; a smaller chunk may follow.
+   2^30 itself is lawful. No pointer is null, also where n is 0; the parts and the chunk do not overlap, and nobody else
+   has the parts, or writes to the chunk, during the call. It allocates nothing; threads may feed states of their own. */
+uint32_t saffron_xxh3_feed(uint64_t *total, uint64_t *lanes, uint8_t *buffer, const uint8_t *p, size_t n);
+
+/* The sum of all bytes so far: of a state that came from saffron_xxh3_new and chunks, what saffron_xxh3_64 says of the
+   whole. Asking changes nothing, and chunks may follow. */
+uint64_t saffron_xxh3_asked(uint64_t total, const uint64_t *lanes, const uint8_t *buffer);
+
+/* The same two over a whole state. */
+static inline uint32_t saffron_xxh3_update(SaffronXxh3State *state, const uint8_t *p, size_t n) {
+    return saffron_xxh3_feed(&state->total, state->lanes, state->buffer, p, n);
+}
+
+static inline uint64_t saffron_xxh3_sum(const SaffronXxh3State *state) {
+    return saffron_xxh3_asked(state->total, state->lanes, state->buffer);
+}
 
 #ifdef __cplusplus
 }

@@ -35,6 +35,14 @@ bytes memory(size_t size) {
     return b;
 }
 
+void family(bytes b) {
+    uint32_t x = 1;
+    for (size_t i = 0; i < b.size; i++) {
+        x = (x * 1103515245u + 12345u) & 0x7FFFFFFFu;
+        b.bytes[i] = (uint8_t)(x >> 16);
+    }
+}
+
 bytes read_all(const char *path) {
     FILE *f = fopen(path, "rb");
     if (f == NULL || fseek(f, 0, SEEK_END) != 0)

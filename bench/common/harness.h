@@ -43,6 +43,7 @@ function empty_in_registers, empty_in_memory;
 void stop(int status, const char *format, ...) __attribute__((format(printf, 2, 3), noreturn));
 bytes memory(size_t size); /* not cleared; begins at a multiple of 64 */
 bytes read_all(const char *path);
+void family(bytes b); /* fills it with the byte family of the second program */
 
 /* The next numbers of no order. */
 static inline uint64_t turn(uint64_t x) { return x * 6364136223846793005u + 1442695040888963407u; }

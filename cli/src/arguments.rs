@@ -106,6 +106,14 @@ impl Arguments {
         Ok(files)
     }
 
+    /// The files, or standard input where none is given.
+    pub fn files_or_input(&self) -> Result<Vec<Name>, Failure> {
+        match self.operands.is_empty() {
+            true => Ok(vec![Name::input("-".as_ref())]),
+            false => self.files(),
+        }
+    }
+
     /// The only file, and no other word.
     pub fn file(&self, what: &str) -> Result<Name, Failure> {
         match self.file_and_words(what)? {

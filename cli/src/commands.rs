@@ -46,7 +46,7 @@ const VERSION: &str = concat!("edge-sst ", env!("CARGO_PKG_VERSION"), "\n");
 const ABOUT: &str = "\
 'edge-sst COMMAND --help' says more of a command, 'edge-sst --version' the version.
 An input '-' is standard input, and '-o -' is standard output. A file has at most
-2^30 bytes and is read whole.
+2^30 bytes and is read whole, but by 'sum', which reads it in chunks.
 Exit status: 0 fine, 1 refused, 2 for a usage, input or output error. A refusal has
 the numbers and texts of the library; entries, keys, offsets, groups and edges are
 counted from 0.

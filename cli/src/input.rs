@@ -10,6 +10,9 @@ use std::io::{self, BufRead, BufReader, Read};
 /// that there are more.
 const LONGEST: u64 = 1 << 30;
 
+/// The most bytes of a chunk.
+const CHUNK: usize = 65_536;
+
 /// A file as the user named it.
 #[derive(Clone, Debug)]
 pub struct Name {
@@ -72,9 +75,31 @@ pub fn edge_file(name: &Name) -> Result<Vec<u8>, Failure> {
     read(name, LONGEST + 1).map_err(|error| Failure::trouble(name, error))
 }
 
-/// All bytes of a batch, or of a file whose sum is asked for.
+/// All bytes of a batch.
 pub fn whole(name: &Name) -> Result<Vec<u8>, Failure> {
     read(name, u64::MAX).map_err(|error| Failure::trouble(name, error))
+}
+
+/// Gives the bytes of a file chunk by chunk, so that it is never held whole, until
+/// there are no more or one is not taken.
+pub fn in_chunks(
+    name: &Name,
+    mut take: impl FnMut(&[u8]) -> Result<(), Failure>,
+) -> Result<(), Failure> {
+    let trouble = |error| Failure::trouble(name, error);
+    let mut file: Box<dyn Read> = match name.is_dash() {
+        true => Box::new(io::stdin().lock()),
+        false => Box::new(File::open(name.path()).map_err(trouble)?),
+    };
+    let mut chunk = vec![0; CHUNK];
+    loop {
+        match file.read(&mut chunk) {
+            Ok(0) => return Ok(()),
+            Ok(length) => take(&chunk[..length])?,
+            Err(error) if error.kind() == io::ErrorKind::Interrupted => {}
+            Err(error) => return Err(trouble(error)),
+        }
+    }
 }
 
 /// A text, to be read line by line.

@@ -12,6 +12,8 @@ pub enum Source<'a> {
     Batch,
     /// A batch that was made of a text: on which line each edge stands.
     Text(&'a [u64]),
+    /// A part of a file of any sort.
+    Chunk,
 }
 
 /// What the place of a refusal counts.
@@ -30,7 +32,7 @@ enum Counts {
 impl Counts {
     fn of(number: u64) -> Counts {
         match number {
-            1..=9 | 12 | 15 | 21 | 23 | 26 => Counts::Nothing,
+            1..=9 | 12 | 15 | 21 | 23 | 26 | 27 => Counts::Nothing,
             10 | 11 | 22 => Counts::Entries,
             13 => Counts::Keys,
             14 => Counts::Offsets,

@@ -6,6 +6,7 @@ mod listing;
 mod lookups;
 mod opening;
 mod printing;
+mod running;
 mod writing;
 
 use crate::corpus::{self, Record};
@@ -44,6 +45,7 @@ pub fn all() -> Tally {
     let mut tally = Tally::default();
     check_sources(&mut tally);
     check_xxh3(&mut tally);
+    running::check(&mut tally);
     check_numbers(&mut tally);
     check_ids(&mut tally);
     check_varint_cases(&mut tally);

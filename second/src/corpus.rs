@@ -7,6 +7,7 @@ pub mod lookup_calls;
 pub mod open_files;
 pub mod print_files;
 mod record;
+pub mod running_vectors;
 pub mod write_batches;
 mod xxh3_vectors;
 
@@ -44,6 +45,14 @@ fn code_vectors() -> Vec<VectorFile> {
         VectorFile {
             path: "test_xxh3/stdout",
             bytes: xxh3_vectors::lines().into_bytes(),
+        },
+        VectorFile {
+            path: "test_running/stdout",
+            bytes: running_vectors::lines().into_bytes(),
+        },
+        VectorFile {
+            path: "../tests/c/states.txt",
+            bytes: running_vectors::state_lines().into_bytes(),
         },
         VectorFile {
             path: "test_codes/stdin",

@@ -18,6 +18,7 @@ mod open;
 mod print;
 mod random;
 mod read_out;
+mod running;
 mod varint;
 mod write;
 mod xxh3;
@@ -30,7 +31,7 @@ use std::process::ExitCode;
 
 const USAGE: &str =
     "usage: second check | make DIR | make-large DIR | compare DIR | bytes NAME | family N
-       second write | read-out | print, each with its input on standard input";
+       second write | read-out | print | sum, each with its input on standard input";
 
 fn main() -> ExitCode {
     let arguments: Vec<String> = std::env::args().skip(1).collect();
@@ -45,6 +46,7 @@ fn main() -> ExitCode {
         ["write"] => write(),
         ["read-out"] => read_out(),
         ["print"] => print(),
+        ["sum"] => sum(),
         _ => Err(USAGE.to_string()),
     };
     match done {
@@ -147,6 +149,12 @@ fn read_out() -> Result<(), String> {
 fn print() -> Result<(), String> {
     let file = standard_input()?;
     write_out(print::print(&file).as_bytes())
+}
+
+/// The XXH3-64 of any bytes.
+fn sum() -> Result<(), String> {
+    let sum = xxh3::xxh3_64(&standard_input()?);
+    write_out(format!("{sum:016x}\n").as_bytes())
 }
 
 fn family(count: &str) -> Result<(), String> {

@@ -32,10 +32,12 @@ const DEFAULT_SECRET: [u8; SECRET_LENGTH] = [
     0x45, 0xcb, 0x3a, 0x8f, 0x95, 0x16, 0x04, 0x28, 0xaf, 0xd7, 0xfb, 0xca, 0xbb, 0x4b, 0x40, 0x7e,
 ];
 
-const STRIPE: usize = 64;
+pub const STRIPE: usize = 64;
 /// The secret moves on by 8 bytes with each stripe and starts again with each
 /// block, so a block ends where the secret has no full stripe left.
 const BLOCK: usize = (SECRET_LENGTH - STRIPE) / 8 * STRIPE;
+/// Inputs of more bytes go through the accumulators.
+pub const MEDIUM: usize = 240;
 
 pub fn xxh3_64(input: &[u8]) -> u64 {
     match input.len() {
@@ -44,7 +46,7 @@ pub fn xxh3_64(input: &[u8]) -> u64 {
         4..=8 => small_4_to_8(input),
         9..=16 => small_9_to_16(input),
         17..=128 => medium_17_to_128(input),
-        129..=240 => medium_129_to_240(input),
+        129..=MEDIUM => medium_129_to_240(input),
         _ => large(input),
     }
 }
@@ -143,9 +145,14 @@ fn medium_129_to_240(input: &[u8]) -> u64 {
     avalanche(acc)
 }
 
-type Accumulators = [u64; 8];
+pub type Accumulators = [u64; 8];
 
-fn accumulate(acc: &mut Accumulators, stripe: &[u8], secret_offset: usize) {
+/// What they are before the first stripe.
+pub const BEGINNING: Accumulators = [
+    PRIME32_3, PRIME64_1, PRIME64_2, PRIME64_3, PRIME64_4, PRIME32_2, PRIME64_5, PRIME32_1,
+];
+
+pub fn accumulate(acc: &mut Accumulators, stripe: &[u8], secret_offset: usize) {
     for i in 0..8 {
         let data = word64(stripe, 8 * i);
         let value = data ^ secret64(secret_offset + 8 * i);
@@ -155,7 +162,7 @@ fn accumulate(acc: &mut Accumulators, stripe: &[u8], secret_offset: usize) {
     }
 }
 
-fn scramble(acc: &mut Accumulators) {
+pub fn scramble(acc: &mut Accumulators) {
     for (i, a) in acc.iter_mut().enumerate() {
         let mixed = xorshift(*a, 47) ^ secret64(SECRET_LENGTH - STRIPE + 8 * i);
         *a = mixed.wrapping_mul(PRIME32_1);
@@ -174,9 +181,7 @@ fn final_merge(acc: &Accumulators, init: u64, secret_offset: usize) -> u64 {
 
 fn large(input: &[u8]) -> u64 {
     let n = input.len();
-    let mut acc: Accumulators = [
-        PRIME32_3, PRIME64_1, PRIME64_2, PRIME64_3, PRIME64_4, PRIME32_2, PRIME64_5, PRIME32_1,
-    ];
+    let mut acc = BEGINNING;
     // The last byte is kept back: an input that ends with a block or a stripe
     // still has that one as its last, which is treated on its own.
     let mut blocks = input[..n - 1].chunks_exact(BLOCK);
@@ -189,6 +194,12 @@ fn large(input: &[u8]) -> u64 {
     for (i, stripe) in blocks.remainder().chunks_exact(STRIPE).enumerate() {
         accumulate(&mut acc, stripe, 8 * i);
     }
-    accumulate(&mut acc, &input[n - STRIPE..], SECRET_LENGTH - 71);
-    final_merge(&acc, (n as u64).wrapping_mul(PRIME64_1), 11)
+    finish(acc, &input[n - STRIPE..], n as u64)
+}
+
+/// The sum of a large input: its last 64 bytes and its length go in at the end,
+/// whichever stripes they belong to.
+pub fn finish(mut acc: Accumulators, last: &[u8], length: u64) -> u64 {
+    accumulate(&mut acc, last, SECRET_LENGTH - 71);
+    final_merge(&acc, length.wrapping_mul(PRIME64_1), 11)
 }

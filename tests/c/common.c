@@ -128,6 +128,17 @@ void hold_line(const char *name, const char *expected, const char *format, ...) 
         differ("%s: got '%s', expected '%s'", name, got, expected);
 }
 
+uint8_t *family(size_t n) {
+    uint8_t *bytes = memory(n);
+    uint64_t x = 1;
+    size_t i;
+    for (i = 0; i < n; i++) {
+        x = (x * 1103515245 + 12345) % ((uint64_t)1 << 31);
+        bytes[i] = (uint8_t)(x / 65536);
+    }
+    return bytes;
+}
+
 /* Byte i of an output before a call. */
 static uint8_t filled(Fill fill, size_t i) {
     switch (fill) {
@@ -157,7 +168,7 @@ Lent lend(size_t n, Fill fill) {
 
 void take_back(Lent lent) { free(lent.bytes - GUARD); }
 
-static void hold_guards(const char *name, const char *what, Lent lent) {
+void hold_guards(const char *name, const char *what, Lent lent) {
     size_t i;
     for (i = 0; i < GUARD; i++)
         if (lent.bytes[lent.n + i] != GUARD_BYTE || lent.bytes[i - GUARD] != GUARD_BYTE) {
@@ -180,9 +191,4 @@ void hold_output(const char *name, const char *what, Lent lent, Fill fill, const
             differ("%s: byte %lu of the %s", name, (unsigned long)i, what);
             return;
         }
-}
-
-uint64_t whole_sum(const char *name, Lent lent) {
-    hold_guards(name, "output", lent);
-    return edge_sst_sum(lent.bytes, lent.n);
 }

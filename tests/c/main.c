@@ -1,4 +1,5 @@
-/* Holds the archive's calls, as C sees them, to the corpora of the second program.
+/* Holds the archive's calls, as C sees them, to the corpora of the second program: all
+ * of libedge_sst_c.a, or where ALONE is defined those of libxxh3.a.
  *
  *   test CRATES
  *
@@ -14,8 +15,14 @@ typedef struct {
 } Part;
 
 static const Part parts[] = {
-    {"sums", test_sums},     {"opening and records", test_opening}, {"lookups and keys", test_lookups},
-    {"checks", test_checks}, {"writing", test_writes},
+    {"sums", test_sums},
+    {"running sums", test_running},
+#ifndef ALONE
+    {"opening and records", test_opening},
+    {"lookups and keys", test_lookups},
+    {"checks", test_checks},
+    {"writing", test_writes},
+#endif
 };
 
 int main(int argc, char **argv) {

@@ -1,36 +1,10 @@
-/* Sums of known bytes; opening and its record; the header; the section list;
- * records with a number changed. */
+/* Opening and its record; the header; the section list; records with a number
+ * changed. */
 #include <inttypes.h>
 #include <stdio.h>
-#include <stdlib.h>
 #include <string.h>
 
 #include "test.h"
-
-/* The first n bytes of the family that the vectors are of. */
-static uint8_t *family(size_t n) {
-    uint8_t *bytes = memory(n);
-    uint64_t x = 1;
-    size_t i;
-    for (i = 0; i < n; i++) {
-        x = (x * 1103515245 + 12345) % ((uint64_t)1 << 31);
-        bytes[i] = (uint8_t)(x / 65536);
-    }
-    return bytes;
-}
-
-void test_sums(const char *dir) {
-    enum { MOST = 65536 };
-    Lines lines = lines_of(dir, "test_xxh3/stdout");
-    char line[LINE];
-    uint8_t *bytes = family(MOST);
-    while (next_line(&lines, line)) {
-        size_t n = (size_t)strtoull(line, NULL, 10);
-        calls++;
-        hold_line("sum", line, "%lu %016" PRIx64, (unsigned long)n, edge_sst_sum(bytes, n <= MOST ? n : 0));
-    }
-    free(bytes);
-}
 
 /* All that follows a refusal or an absence is 0. */
 static int nothing_else(const EdgeSstOpened *o) {

@@ -19,6 +19,7 @@ static uint8_t file[ROOM], batch[ROOM], out[ROOM], key[EDGE_SST_KEY_BYTES], mark
 static uint64_t logs[4096];
 static size_t file_bytes, batch_bytes;
 static EdgeSstOpened record;
+static EdgeSstRunning running;
 static volatile uint64_t told;
 
 static void nothing(void) { told = 0; }
@@ -43,6 +44,9 @@ static void read_out(void) { told = edge_sst_read_out(file, file_bytes, out, ROO
 static void needed(void) { told = edge_sst_needed(batch, batch_bytes).number; }
 static void write_file(void) { told = edge_sst_write(batch, batch_bytes, out, ROOM).number; }
 static void sum(void) { told = edge_sst_sum(file, file_bytes); }
+static void running_new(void) { running = edge_sst_running_new(); }
+static void running_feed(void) { told = edge_sst_running_update(&running, file, file_bytes).number; }
+static void running_asked(void) { told = edge_sst_running_sum(&running); }
 
 static struct {
     const char *name;
@@ -62,6 +66,9 @@ static struct {
     {"edge_sst_needed", needed, 0},
     {"edge_sst_write", write_file, 0},
     {"edge_sst_sum", sum, 0},
+    {"edge_sst_running_new", running_new, 0},
+    {"edge_sst_running_feed", running_feed, 0},
+    {"edge_sst_running_asked", running_asked, 0},
 };
 enum { CALLS = sizeof calls / sizeof calls[0] };
 

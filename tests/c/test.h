@@ -55,6 +55,9 @@ const char *line_for(Lines *lines, const char *name, char line[LINE]);
 /* Is the line exactly what the format makes? Otherwise it is a difference. */
 void hold_line(const char *name, const char *expected, const char *format, ...);
 
+/* The first n bytes of the family that the vectors of sums are of. */
+uint8_t *family(size_t n);
+
 /* An output lent to a call: n bytes, and guards before and behind that no call
  * may touch. */
 typedef struct {
@@ -73,11 +76,15 @@ void take_back(Lent lent);
  * null the call was not to write at all. */
 void hold_output(const char *name, const char *what, Lent lent, Fill fill, const uint8_t *answer, size_t n);
 
-/* The guards alone, and then the sum of the whole output. */
+/* The guards alone. */
+void hold_guards(const char *name, const char *what, Lent lent);
+
+/* The guards, and then the sum of the whole output. */
 uint64_t whole_sum(const char *name, Lent lent);
 
 /* The parts of the test: each takes the folder with the corpora. */
 void test_sums(const char *dir);
+void test_running(const char *dir);
 void test_opening(const char *dir);
 void test_lookups(const char *dir);
 void test_checks(const char *dir);

@@ -78,6 +78,14 @@ pub struct Listed {
     pub rows: u64,
 }
 
+#[repr(C)]
+#[derive(Clone, Copy, Debug, PartialEq, Eq)]
+pub struct Running {
+    pub total: u64,
+    pub lanes: [u64; 8],
+    pub buffer: [u8; 256],
+}
+
 extern "C" {
     pub fn edge_sst_open(p: *const u8, n: usize) -> Opened;
     pub fn edge_sst_header(p: *const u8, n: usize) -> Header;
@@ -106,5 +114,14 @@ extern "C" {
     pub fn edge_sst_needed(p: *const u8, n: usize) -> Done;
     pub fn edge_sst_write(p: *const u8, n: usize, out: *mut u8, m: usize) -> Done;
     pub fn edge_sst_sum(p: *const u8, n: usize) -> u64;
+    pub fn edge_sst_running_new() -> Running;
+    pub fn edge_sst_running_feed(
+        total: *mut u64,
+        lanes: *mut u64,
+        buffer: *mut u8,
+        p: *const u8,
+        n: usize,
+    ) -> Told;
+    pub fn edge_sst_running_asked(total: u64, lanes: *const u64, buffer: *const u8) -> u64;
     pub fn edge_sst_sections(p: *const u8, n: usize, numbers: *mut u64, m: usize) -> Listed;
 }

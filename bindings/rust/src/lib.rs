@@ -3,7 +3,8 @@
 //! The workbench opens a file once and looks up keys: [`EdgeSst::open`],
 //! [`Opened::partners`], [`Opened::lookup`]. The release desk takes nothing from a
 //! file with one wrong section byte: [`check`], [`read_out`]. [`write`] makes a
-//! file of a batch, [`Batch`] reads its records, and [`sum`] is XXH3-64 alone.
+//! file of a batch, [`Batch`] reads its records, and [`sum`] is XXH3-64 alone, which
+//! [`RunningSum`] takes of bytes that come in chunks.
 //!
 //! Any bytes may be given: each call answers, or refuses with a [`Refusal`].
 //!
@@ -25,10 +26,12 @@ mod batch;
 mod ffi;
 mod opened;
 mod refusal;
+mod running;
 
 pub use batch::{Batch, Heading, Record};
 pub use opened::{Edge, EdgeSst, Edges, Header, Id, Opened, Partners, Section};
 pub use refusal::Refusal;
+pub use running::RunningSum;
 
 use refusal::refuse_if;
 

@@ -4,15 +4,21 @@ use crate::failure::{Failure, Status};
 use crate::input::{self, Name};
 use crate::json::Object;
 use crate::output;
+use crate::place::{refused, Source};
 use crate::watch::Watch;
+use edge_sst::RunningSum;
 
 pub const COMMAND: Command = Command {
     name: "sum",
-    usage: "[--json] FILE..",
+    usage: "[--json] [FILE..]",
     summary: "XXH3-64 of files of any sort",
     help: "\
 A line for each file, in the order given: 16 hexadecimal digits, two spaces and the
-file. Seed 0 and the default secret, as the sections' checksums have them.
+file. Seed 0 and the default secret, as the sections' checksums have them. Without a
+FILE it is the sum of standard input.
+
+A file is read in chunks and never held whole. One of more than 2^30 bytes is refused
+with 27, which is told on standard error, and the others are summed.
 
   --json  an object for each file, with \"xxh3\"
 ",
@@ -23,7 +29,7 @@ file. Seed 0 and the default secret, as the sections' checksums have them.
 fn run(arguments: &Arguments, watch: &Watch) -> Result<Status, Failure> {
     let json = arguments.has(&JSON);
     let mut worst = Status::Fine;
-    for file in arguments.files()? {
+    for file in arguments.files_or_input()? {
         let status = match sum(&file, watch) {
             Ok(sum) => tell(&file, sum, json)?,
             Err(failure) => told(failure, json)?,
@@ -35,7 +41,12 @@ fn run(arguments: &Arguments, watch: &Watch) -> Result<Status, Failure> {
 
 fn sum(file: &Name, watch: &Watch) -> Result<u64, Failure> {
     let _working = watch.begin(file);
-    Ok(edge_sst::sum(&input::whole(file)?))
+    let mut running = RunningSum::new();
+    input::in_chunks(file, |chunk| {
+        let taken = running.update(chunk);
+        taken.map_err(|refusal| refused(file, &Source::Chunk, refusal))
+    })?;
+    Ok(running.sum())
 }
 
 fn tell(file: &Name, sum: u64, json: bool) -> Result<Status, Failure> {

@@ -77,7 +77,7 @@ const WRONG: [(&[&str], &str); 16] = [
         "--output is given twice",
     ),
     (&["from-text", "x"], "no output is given: -o FILE, or -o -"),
-    (&["sum", "--json"], "no file is given"),
+    (&["sum", "-", "--json", "-"], "'-' is given twice"),
 ];
 
 #[test]
