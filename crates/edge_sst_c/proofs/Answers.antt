@@ -23,10 +23,11 @@ use Rattle.write_file.specs.declared.Written.{Written}
 use Rattle.write_file.specs.Written.{neededOf, writtenOf, Wrote}
 use Rattle.listing.specs.declared.Listed.{Listed}
 use Rattle.listing.specs.List as list
+use Rattle.xxh3_running.specs.Running.{stateOf, feedOf, Leaves}
 use Rattle.edge_sst_c.specs.Look.{recordLent}
 use Rattle.edge_sst_c.specs.Back.{openingFrom, headerFrom, lookedFrom, checkFrom, readOutFrom, writtenFrom, listedFrom, opening-back, header-back, header-bytes, looked-back, check-back, read-out-back, written-back, listed-back}
-use Rattle.edge_sst_c.specs.Refused.{Tells, Unfound, opened-tells, header-tells, looked-tells, check-tells, read-tells, written-tells, listed-tells, partners-stay, edges-stay, read-stays, write-stays, sections-stay}
-use Rattle.edge_sst_c.proofs.Every.{Every}
+use Rattle.edge_sst_c.specs.Refused.{Tells, Unfound, opened-tells, header-tells, looked-tells, check-tells, read-tells, written-tells, listed-tells, partners-stay, edges-stay, read-stays, write-stays, sections-stay, running-stays}
+use Rattle.base.proofs.Every.{Every}
 use Rattle.edge_sst_c.proofs.edge_sst_open as c-open
 use Rattle.edge_sst_c.proofs.edge_sst_open.Reads as c-open-reads
 use Rattle.edge_sst_c.proofs.header.edge_sst_header as c-header
@@ -41,6 +42,8 @@ use Rattle.edge_sst_c.proofs.look.edge_sst_lookup_with as c-lookup-with
 use Rattle.edge_sst_c.proofs.look.edge_sst_lookup_with.Reads as c-lookup-with-reads
 use Rattle.edge_sst_c.proofs.desk.edge_sst_check as c-check
 use Rattle.edge_sst_c.proofs.desk.edge_sst_check.Reads as c-check-reads
+use Rattle.edge_sst_c.proofs.running.edge_sst_running_feed as c-running
+use Rattle.edge_sst_c.proofs.running.edge_sst_running_feed.Reads as c-running-reads
 use Rattle.edge_sst_c.proofs.desk.edge_sst_read_out as c-read-out
 use Rattle.edge_sst_c.proofs.desk.edge_sst_read_out.Reads as c-read-out-reads
 use Rattle.edge_sst_c.proofs.write.edge_sst_needed as c-needed
@@ -95,6 +98,9 @@ write-says κs a r e p = ap writtenFrom (p .answer) ∙ written-back _
 pub sections-says : Every c-sections.ended c-sections-reads.Post (λ κs a r e. listedFrom r ≡ list.listedOf (now (a .0)) (length (now (a .1 .0)) / 7))
 sections-says κs a r e p = ap listedFrom (p .0) ∙ listed-back _
 
+pub running-says : Every c-running.ended c-running-reads.Post (λ κs a r e. checkFrom r ≡ feedOf (stateOf (now (a .0)) (now (a .1 .0)) (now (a .1 .1 .0))) (now (a .1 .1 .1 .0)) .told)
+running-says κs a r e p = ap checkFrom (p .0) ∙ check-back _
+
 -- ---- number
 
 pub open-number : Every c-open.ended c-open-reads.Post (λ κs a r e. Tells Opening.Refused (openOf (now (a .0))) (r .number))
@@ -134,6 +140,9 @@ write-number κs a r e p = rw (p .answer) (written-tells (writtenOf (now (a .0))
 pub sections-number : Every c-sections.ended c-sections-reads.Post (λ κs a r e. Tells Listed.Refused (list.listedOf (now (a .0)) (length (now (a .1 .0)) / 7)) (r .number))
 sections-number κs a r e p = rw (p .0) (listed-tells (list.listedOf (now (a .0)) (length (now (a .1 .0)) / 7)))
 
+pub running-number : Every c-running.ended c-running-reads.Post (λ κs a r e. Tells Check.Bad (feedOf (stateOf (now (a .0)) (now (a .1 .0)) (now (a .1 .1 .0))) (now (a .1 .1 .1 .0)) .told) (r .number))
+running-number κs a r e p = rw (p .0) (check-tells (feedOf (stateOf (now (a .0)) (now (a .1 .0)) (now (a .1 .1 .0))) (now (a .1 .1 .1 .0)) .told))
+
 -- ---- outputs
 
 pub partners-leaves : Every c-partners.ended c-partners-reads.Post (λ κs a r e. Unfound r → now (e .1 .1 .0) ≡ now (a .1 .1 .0))
@@ -158,6 +167,10 @@ write-leaves κs a r e p = write-stays p
 
 pub sections-leaves : Every c-sections.ended c-sections-reads.Post (λ κs a r e. 1 ≤ r .number → now (e .1 .0) ≡ now (a .1 .0))
 sections-leaves κs a r e p = sections-stay (now (a .0)) (now (a .1 .0)) (p .0) (p .1)
+
+pub running-leaves : Every c-running.ended c-running-reads.Post
+    (λ κs a r e. 1 ≤ r .number → (now (e .0) ≡ now (a .0)) × (now (e .1 .0) ≡ now (a .1 .0)) × (now (e .1 .1 .0) ≡ now (a .1 .1 .0)))
+running-leaves κs a r e p = running-stays (stateOf (now (a .0)) (now (a .1 .0)) (now (a .1 .1 .0))) (now (a .1 .1 .1 .0)) (p .0) (p .1)
 
 -- ---- all that a call tells and leaves is what the library's own call of the same bytes answers and leaves
 
@@ -185,3 +198,6 @@ read-out-same κs a r e p = (read-out-says κs a r e p, p .1)
 
 pub write-same : Every c-write.ended c-write-reads.Post (λ κs a r e. Wrote (now (a .0)) (now (a .1 .0)) (writtenFrom r) (now (e .1 .0)))
 write-same κs a r e p = record { answer = write-says κs a r e p; output = p .output }
+
+pub running-same : Every c-running.ended c-running-reads.Post (λ κs a r e. (checkFrom r ≡ feedOf (stateOf (now (a .0)) (now (a .1 .0)) (now (a .1 .1 .0))) (now (a .1 .1 .1 .0)) .told) × Leaves (feedOf (stateOf (now (a .0)) (now (a .1 .0)) (now (a .1 .1 .0))) (now (a .1 .1 .1 .0))) (now (e .0)) (now (e .1 .0)) (now (e .1 .1 .0)))
+running-same κs a r e p = (running-says κs a r e p, p .1)

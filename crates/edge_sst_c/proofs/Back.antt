@@ -6,7 +6,7 @@ use denote.Ref.{now}
 use Rattle.listing.specs.List.{rowIs}
 use Rattle.edge_sst_c.specs.Back.{fieldsOf, partners-back, edges-back}
 use Rattle.edge_sst_c.specs.Rows.{rowFrom, sections-back}
-use Rattle.edge_sst_c.proofs.Every.{Every}
+use Rattle.base.proofs.Every.{Every}
 use Rattle.edge_sst_c.proofs.edge_sst_open as c-open
 use Rattle.edge_sst_c.proofs.edge_sst_open.Reads as c-open-reads
 use Rattle.edge_sst_c.proofs.look.edge_sst_partners as c-partners

@@ -27,6 +27,14 @@ use Rattle.edge_sst_c.proofs.edge_sst_open as edge-sst-open
 use Rattle.edge_sst_c.proofs.edge_sst_open.Reads as edge-sst-open-reads
 use Rattle.edge_sst_c.proofs.look.edge_sst_partners_with as partners-with
 use Rattle.edge_sst_c.proofs.look.edge_sst_partners_with.Reads as partners-with-reads
+use Rattle.edge_sst_c.proofs.desk.check_told as check-told
+use Rattle.edge_sst_c.proofs.desk.check_told.Reads as check-told-reads
+use Rattle.edge_sst_c.proofs.running.edge_sst_running_new as running-new
+use Rattle.edge_sst_c.proofs.running.edge_sst_running_new.Reads as running-new-reads
+use Rattle.edge_sst_c.proofs.running.edge_sst_running_feed as running-feed
+use Rattle.edge_sst_c.proofs.running.edge_sst_running_feed.Reads as running-feed-reads
+use Rattle.edge_sst_c.proofs.running.edge_sst_running_asked as running-asked
+use Rattle.edge_sst_c.proofs.running.edge_sst_running_asked.Reads as running-asked-reads
 
 pub edge-sst-open-determined : Determined edge-sst-open.ended edge-sst-open-reads.Pre edge-sst-open-reads.Post
 edge-sst-open-determined κs a pre r₁ r₂ w₁ w₂ p q = (p ∙ sym q, refl)
@@ -64,3 +72,16 @@ edge-sst-sum-determined κs a pre r₁ r₂ w₁ w₂ p q = (p ∙ sym q, refl)
 
 pub edge-sst-sections-determined : Determined c-sections.ended c-sections-reads.Pre c-sections-reads.Post
 edge-sst-sections-determined κs a pre r₁ r₂ w₁ w₂ p q = (p .0 ∙ sym (q .0), ap (λ (l : List ℕ). (tt {0}, (l, tt {0}))) (p .1 ∙ sym (q .1)))
+
+pub check-told-determined : Determined check-told.ended check-told-reads.Pre check-told-reads.Post
+check-told-determined κs a pre r₁ r₂ w₁ w₂ p q = (p ∙ sym q, refl)
+
+pub edge-sst-running-new-determined : Determined running-new.ended running-new-reads.Pre running-new-reads.Post
+edge-sst-running-new-determined κs a pre r₁ r₂ w₁ w₂ p q = (p ∙ sym q, refl)
+
+pub edge-sst-running-feed-determined : Determined running-feed.ended running-feed-reads.Pre running-feed-reads.Post
+edge-sst-running-feed-determined κs a pre r₁ r₂ w₁ w₂ p q =
+    (p .0 ∙ sym (q .0), λ i. ((p .1 .0 ∙ sym (q .1 .0)) i, ((p .1 .1 ∙ sym (q .1 .1)) i, ((p .1 .2 ∙ sym (q .1 .2)) i, (tt {0}, tt {0})))))
+
+pub edge-sst-running-asked-determined : Determined running-asked.ended running-asked-reads.Pre running-asked-reads.Post
+edge-sst-running-asked-determined κs a pre r₁ r₂ w₁ w₂ p q = (p ∙ sym q, refl)

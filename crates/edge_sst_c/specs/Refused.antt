@@ -27,7 +27,11 @@ use Rattle.listing.specs.declared.Listed.{Listed}
 use Rattle.listing.specs.List as list
 use Rattle.listing.specs.List.{planOf}
 use Rattle.listing.specs.List.Laws.{plan-refused}
+use Rattle.xxh3_running.specs.declared.State.{State}
+use Rattle.xxh3_running.specs.Running.{feedOf, Leaves}
+use Rattle.xxh3_running.specs.Chunks.{refused-leaves}
 use Rattle.edge_sst_c.specs.declared.look.EdgeSstLooked.{EdgeSstLooked}
+use Rattle.edge_sst_c.specs.declared.desk.EdgeSstTold.{EdgeSstTold}
 use Rattle.edge_sst_c.specs.declared.desk.EdgeSstDone.{EdgeSstDone}
 use Rattle.edge_sst_c.specs.declared.section_list.EdgeSstListed.{EdgeSstListed}
 use Rattle.edge_sst_c.specs.Told.{openedTold}
@@ -142,3 +146,10 @@ pub sections-stay : (f o : List ℕ) {r : EdgeSstListed} {out : List ℕ} → r 
 sections-stay f o a b h =
     let s = listed-tells (list.listedOf f (length o / 7)) .some (rw a at h) in
     b ∙ ap (λ (n : ℕ). numbered f n o) (plan-refused f (length o / 7) (s .0) (s .1)) ∙ sym (numbered-none f o)
+
+pub running-stays : (st : State) (c : List ℕ) {r : EdgeSstTold} {t : ℕ} {l b : List ℕ} → r ≡ checkTold (feedOf st c .told) → Leaves (feedOf st c) t l b → 1 ≤ r .number
+    → (t ≡ st .total) × (l ≡ st .lanes) × (b ≡ st .buffer)
+running-stays st c a b h =
+    let s = check-tells (feedOf st c .told) .some (rw a at h) in
+    let same = refused-leaves st c (s .0) (s .1) .1 in
+    (b .0 ∙ ap (λ (x : State). x .total) same, b .1 ∙ ap (λ (x : State). x .lanes) same, b .2 ∙ ap (λ (x : State). x .buffer) same)

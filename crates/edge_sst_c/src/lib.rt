@@ -7,6 +7,7 @@ ghost use Rattle.edge_sst_c.specs.Told.{truth, recordWith, refusalWith, 
 pub mod desk;
 pub mod header;
 pub mod look;
+pub mod running;
 pub mod section_list;
 pub mod write;
 
