@@ -8,7 +8,7 @@ use lib.ListN.{length}
 use lib.Dec.{ltb, leb}
 use lib.Bits.{xor-lt}
 use mathlib.Core.Bool.{cond}
-use Rattle.xxh3_spec.specs.Xxh3.{mul, xorshift, rrmxmx, of1to3, of4to8, of9to16, small, of17to128, of129to240, merge, large, secret, xxh3}
+use Rattle.xxh3_spec.specs.Xxh3.{mul, xorshift, rrmxmx, of1to3, of4to8, of9to16, small, of17to128, of129to240, merge, finish, large, secret, xxh3}
 
 -- every sum ends with a product of 64 bits and a shift
 shifted-lt : (k a b : ℕ) → xorshift k (mul a b) < 2 ^ 64
@@ -30,7 +30,7 @@ small-lt s =
     (cond-lt (ltb 3 (length s)) _ _ (shifted-lt 28 _ _) (cond-lt (ltb 0 (length s)) _ _ (shifted-lt 32 _ _) (shifted-lt 32 _ _)))
 
 pub xxh3-lt : (s : List ℕ) → xxh3 s < 2 ^ 64
-unfolding xxh3 of17to128 of129to240 large merge
+unfolding xxh3 of17to128 of129to240 large merge finish
 xxh3-lt s =
     cond-lt (leb (length s) 16) _ _ (small-lt s)
     (cond-lt (leb (length s) 128) _ _ (shifted-lt 32 _ _) (cond-lt (leb (length s) 240) _ _ (shifted-lt 32 _ _) (shifted-lt 32 _ _)))

@@ -8,6 +8,29 @@ use Rattle.xxh3.proofs.saffron_xxh3_64 as c-saffron
 use Rattle.xxh3.proofs.saffron_xxh3_64.Reads as c-saffron-reads
 use Rattle.xxh3_whole.proofs.xxh3 as c-sum
 use Rattle.xxh3_whole.proofs.xxh3.Reads as c-sum-reads
+use Rattle.xxh3_running.proofs.new as run-new
+use Rattle.xxh3_running.proofs.new.Reads as run-new-reads
+use Rattle.xxh3_running.proofs.feed as run-feed
+use Rattle.xxh3_running.proofs.feed.Reads as run-feed-reads
+use Rattle.xxh3_running.proofs.sum as run-sum
+use Rattle.xxh3_running.proofs.sum.Reads as run-sum-reads
+use Rattle.xxh3_running.proofs.lent.feed_lent as run-feed-lent
+use Rattle.xxh3_running.proofs.lent.feed_lent.Reads as run-feed-lent-reads
+use Rattle.xxh3_running.proofs.lent.sum_lent as run-sum-lent
+use Rattle.xxh3_running.proofs.lent.sum_lent.Reads as run-sum-lent-reads
+use Rattle.xxh3.proofs.saffron_xxh3_new as c-saffron-new
+use Rattle.xxh3.proofs.saffron_xxh3_new.Reads as c-saffron-new-reads
+use Rattle.xxh3.proofs.saffron_xxh3_feed as c-saffron-feed
+use Rattle.xxh3.proofs.saffron_xxh3_feed.Reads as c-saffron-feed-reads
+use Rattle.xxh3.proofs.saffron_xxh3_asked as c-saffron-asked
+use Rattle.xxh3.proofs.saffron_xxh3_asked.Reads as c-saffron-asked-reads
+use Rattle.edge_sst_c.proofs.running.edge_sst_running_new as sst-running-new
+use Rattle.edge_sst_c.proofs.running.edge_sst_running_new.Reads as sst-running-new-reads
+use Rattle.edge_sst_c.proofs.running.edge_sst_running_feed as sst-running-feed
+use Rattle.edge_sst_c.proofs.running.edge_sst_running_feed.Reads as sst-running-feed-reads
+use Rattle.edge_sst_c.proofs.running.edge_sst_running_asked as sst-running-asked
+use Rattle.edge_sst_c.proofs.running.edge_sst_running_asked.Reads as sst-running-asked-reads
+use Rattle.xxh3_running.proofs.update as run-update
 use Rattle.reader.proofs.open.open as c-opens
 use Rattle.reader.proofs.open.open.Reads as c-opens-reads
 use Rattle.reader.proofs.header.header as c-header
@@ -66,7 +89,8 @@ use Rattle.edge_sst_c.proofs.section_list.edge_sst_sections as sst-sections
 use Rattle.edge_sst_c.proofs.section_list.edge_sst_sections.Reads as sst-sections-reads
 use Rattle.edge_sst_c.proofs.write.edge_sst_sum as sst-sum
 use Rattle.edge_sst_c.proofs.write.edge_sst_sum.Reads as sst-sum-reads
-use Rattle.xxh3.proofs.One.{saffron-xxh3-64-determined}
+use Rattle.xxh3.proofs.One.{saffron-xxh3-64-determined, saffron-xxh3-new-determined, saffron-xxh3-feed-determined, saffron-xxh3-asked-determined}
+use Rattle.xxh3_running.proofs.One.{Update-post, new-determined, feed-determined, sum-determined, feed-lent-determined, sum-lent-determined, update-determined}
 use Rattle.xxh3_whole.proofs.One.{xxh3-determined}
 use Rattle.reader.proofs.One.{open-determined, header-determined, section-at-determined, partners-determined, partners-with-determined, lookup-determined, lookup-with-determined}
 use Rattle.full_check.proofs.One.{check-determined, checked-determined}
@@ -75,13 +99,26 @@ use Rattle.write_file.proofs.One.{needed-determined, write-determined}
 use Rattle.batch_faults.proofs.One.{check-batch-determined}
 use Rattle.refusal.proofs.One.{told-of-determined}
 use Rattle.listing.proofs.One.{Listed-post, Table-post, list-sections-determined, plan-for-determined, row-of-determined, table-of-determined}
-use Rattle.edge_sst_c.proofs.One.{edge-sst-open-determined, edge-sst-header-determined, edge-sst-partners-determined, edge-sst-partners-with-determined, edge-sst-lookup-determined, edge-sst-lookup-with-determined, edge-sst-check-determined, edge-sst-read-out-determined, edge-sst-needed-determined, edge-sst-write-determined, edge-sst-sections-determined, edge-sst-sum-determined}
+use Rattle.edge_sst_c.proofs.One.{edge-sst-open-determined, edge-sst-header-determined, edge-sst-partners-determined, edge-sst-partners-with-determined, edge-sst-lookup-determined, edge-sst-lookup-with-determined, edge-sst-check-determined, edge-sst-read-out-determined, edge-sst-needed-determined, edge-sst-write-determined, edge-sst-sections-determined, edge-sst-sum-determined, edge-sst-running-new-determined, edge-sst-running-feed-determined, edge-sst-running-asked-determined}
 
 pub record OneResult : Type 2 where
   -- `xxh3`: the sum of any bytes
   pub sum : Determined c-sum.ended c-sum-reads.Pre c-sum-reads.Post
   -- `saffron_xxh3_64`: the same for C and Rust
   pub saffron-xxh3-64 : Determined c-saffron.ended c-saffron-reads.Pre c-saffron-reads.Post
+  -- the running sum by value: `new`, `feed`, `sum`
+  pub running-new : Determined run-new.ended run-new-reads.Pre run-new-reads.Post
+  pub running-feed : Determined run-feed.ended run-feed-reads.Pre run-feed-reads.Post
+  pub running-sum : Determined run-sum.ended run-sum-reads.Pre run-sum-reads.Post
+  -- and with its parts lent: `feed_lent`, `sum_lent`
+  pub feed-lent : Determined run-feed-lent.ended run-feed-lent-reads.Pre run-feed-lent-reads.Post
+  pub sum-lent : Determined run-sum-lent.ended run-sum-lent-reads.Pre run-sum-lent-reads.Post
+  -- and in place: `update`, proved by hand, with what its contract says written out
+  pub running-update : Determined run-update.ended (λ κs a. Unit {0}) Update-post
+  -- the running sum for C, in both archives
+  pub saffron-xxh3-new : Determined c-saffron-new.ended c-saffron-new-reads.Pre c-saffron-new-reads.Post
+  pub saffron-xxh3-feed : Determined c-saffron-feed.ended c-saffron-feed-reads.Pre c-saffron-feed-reads.Post
+  pub saffron-xxh3-asked : Determined c-saffron-asked.ended c-saffron-asked-reads.Pre c-saffron-asked-reads.Post
   -- `open`
   pub opens : Determined c-opens.ended c-opens-reads.Pre c-opens-reads.Post
   -- `header`
@@ -126,11 +163,23 @@ pub record OneResult : Type 2 where
   pub edge-sst-write : Determined sst-write.ended sst-write-reads.Pre sst-write-reads.Post
   pub edge-sst-sections : Determined sst-sections.ended sst-sections-reads.Pre sst-sections-reads.Post
   pub edge-sst-sum : Determined sst-sum.ended sst-sum-reads.Pre sst-sum-reads.Post
+  pub edge-sst-running-new : Determined sst-running-new.ended sst-running-new-reads.Pre sst-running-new-reads.Post
+  pub edge-sst-running-feed : Determined sst-running-feed.ended sst-running-feed-reads.Pre sst-running-feed-reads.Post
+  pub edge-sst-running-asked : Determined sst-running-asked.ended sst-running-asked-reads.Pre sst-running-asked-reads.Post
 
 pub one-result : OneResult
 one-result = record {
   sum = xxh3-determined;
   saffron-xxh3-64 = saffron-xxh3-64-determined;
+  running-new = new-determined;
+  running-feed = feed-determined;
+  running-sum = sum-determined;
+  feed-lent = feed-lent-determined;
+  sum-lent = sum-lent-determined;
+  running-update = update-determined;
+  saffron-xxh3-new = saffron-xxh3-new-determined;
+  saffron-xxh3-feed = saffron-xxh3-feed-determined;
+  saffron-xxh3-asked = saffron-xxh3-asked-determined;
   opens = open-determined;
   header = header-determined;
   section = section-at-determined;
@@ -161,6 +210,9 @@ one-result = record {
   edge-sst-write = edge-sst-write-determined;
   edge-sst-sections = edge-sst-sections-determined;
   edge-sst-sum = edge-sst-sum-determined;
+  edge-sst-running-new = edge-sst-running-new-determined;
+  edge-sst-running-feed = edge-sst-running-feed-determined;
+  edge-sst-running-asked = edge-sst-running-asked-determined;
 }
 
 -- ---- "Any bytes may be lent": no public call asks anything of its arguments
@@ -172,6 +224,14 @@ Free T Pre = (κs : Lfts (T .signature .lifetimes)) (a : Args (T .signature) κs
 pub record NothingAsked : Type 2 where
   pub sum : Free c-sum.ended c-sum-reads.Pre
   pub saffron-xxh3-64 : Free c-saffron.ended c-saffron-reads.Pre
+  pub running-new : Free run-new.ended run-new-reads.Pre
+  pub running-feed : Free run-feed.ended run-feed-reads.Pre
+  pub running-sum : Free run-sum.ended run-sum-reads.Pre
+  pub feed-lent : Free run-feed-lent.ended run-feed-lent-reads.Pre
+  pub sum-lent : Free run-sum-lent.ended run-sum-lent-reads.Pre
+  pub saffron-xxh3-new : Free c-saffron-new.ended c-saffron-new-reads.Pre
+  pub saffron-xxh3-feed : Free c-saffron-feed.ended c-saffron-feed-reads.Pre
+  pub saffron-xxh3-asked : Free c-saffron-asked.ended c-saffron-asked-reads.Pre
   pub opens : Free c-opens.ended c-opens-reads.Pre
   pub header : Free c-header.ended c-header-reads.Pre
   pub section : Free c-section.ended c-section-reads.Pre
@@ -200,11 +260,22 @@ pub record NothingAsked : Type 2 where
   pub edge-sst-write : Free sst-write.ended sst-write-reads.Pre
   pub edge-sst-sections : Free sst-sections.ended sst-sections-reads.Pre
   pub edge-sst-sum : Free sst-sum.ended sst-sum-reads.Pre
+  pub edge-sst-running-new : Free sst-running-new.ended sst-running-new-reads.Pre
+  pub edge-sst-running-feed : Free sst-running-feed.ended sst-running-feed-reads.Pre
+  pub edge-sst-running-asked : Free sst-running-asked.ended sst-running-asked-reads.Pre
 
 pub nothing-asked : NothingAsked
 nothing-asked = record {
   sum = λ κs a. tt;
   saffron-xxh3-64 = λ κs a. tt;
+  running-new = λ κs a. tt;
+  running-feed = λ κs a. tt;
+  running-sum = λ κs a. tt;
+  feed-lent = λ κs a. tt;
+  sum-lent = λ κs a. tt;
+  saffron-xxh3-new = λ κs a. tt;
+  saffron-xxh3-feed = λ κs a. tt;
+  saffron-xxh3-asked = λ κs a. tt;
   opens = λ κs a. tt;
   header = λ κs a. tt;
   section = λ κs a. tt;
@@ -233,4 +304,7 @@ nothing-asked = record {
   edge-sst-write = λ κs a. tt;
   edge-sst-sections = λ κs a. tt;
   edge-sst-sum = λ κs a. tt;
+  edge-sst-running-new = λ κs a. tt;
+  edge-sst-running-feed = λ κs a. tt;
+  edge-sst-running-asked = λ κs a. tt;
 }

@@ -25,6 +25,13 @@ use Rattle.readout.specs.ReadOut.{readCheck, neededFor, batchIn, readLeaves, re
 use Rattle.write_file.specs.declared.Written.{Written}
 use Rattle.write_file.specs.Written as writer
 use Rattle.write_file.specs.Written.{Wrote, fileIn}
+use Rattle.xxh3_running.specs.declared.State.{State}
+use Rattle.xxh3_running.specs.Running.{stateOf}
+use Rattle.xxh3_running.specs.Chunks.{refused-leaves}
+use Rattle.xxh3_running.proofs.lent.feed_lent as c-feed-lent
+use Rattle.xxh3_running.proofs.lent.feed_lent.Reads as c-feed-lent-reads
+use Rattle.xxh3_running.proofs.update as c-update
+use Rattle.xxh3_running.proofs.One.{Update-post}
 use Rattle.reader.proofs.look.partners as c-partners
 use Rattle.reader.proofs.look.partners.Reads as c-partners-reads
 use Rattle.reader.proofs.look.partners_with as c-partners-with
@@ -146,3 +153,18 @@ write-refused κs a r w (q, e) call = ap (λ (o : List ℕ). (tt {0}, (o, tt {0}
 pub list-refused : LeavesOnly c-sections.ended Listed-post (λ κs r. (q : Refusal) × (r ≡ Listed.Refused q)) (λ κs a. (tt {0}, (now (a .1 .0), tt {0})))
 list-refused κs a r w (q, e) call =
     ap (λ (t : List Row). (tt {0}, (t, tt {0}))) (call .1 ∙ list-refused-leaves (now (a .0)) (length (now (a .1 .0))) q (now (a .1 .0)) (sym (call .0) ∙ e))
+
+-- ---- the running sum: the state, in parts or whole
+
+pub feed-lent-refused : LeavesOnly c-feed-lent.ended c-feed-lent-reads.Post (λ κs r. (q : Refusal) × (r ≡ Check.Bad q))
+    (λ κs a. (now (a .0), (now (a .1 .0), (now (a .1 .1 .0), (tt {0}, tt {0})))))
+feed-lent-refused κs a r w (q, e) call =
+    let same = refused-leaves (stateOf (now (a .0)) (now (a .1 .0)) (now (a .1 .1 .0))) (now (a .1 .1 .1 .0)) q (sym (call .0) ∙ e) .1 in
+    λ i.
+      ((call .1 .0 ∙ ap (λ (st : State). st .total) same) i,
+      ((call .1 .1 ∙ ap (λ (st : State). st .lanes) same) i,
+      ((call .1 .2 ∙ ap (λ (st : State). st .buffer) same) i, (tt {0}, tt {0}))))
+
+pub update-refused : LeavesOnly c-update.ended Update-post (λ κs r. (q : Refusal) × (r ≡ Check.Bad q)) (λ κs a. (now (a .0), (tt {0}, tt {0})))
+update-refused κs a r w (q, e) call =
+    ap (λ (st : State). (st, (tt {0}, tt {0}))) (call .1 ∙ refused-leaves (now (a .0)) (now (a .1 .0)) q (sym (call .0) ∙ e) .1)
