@@ -160,10 +160,13 @@ pub feed-lent-refused : LeavesOnly c-feed-lent.ended c-feed-lent-reads.Post (λ 
     (λ κs a. (now (a .0), (now (a .1 .0), (now (a .1 .1 .0), (tt {0}, tt {0})))))
 feed-lent-refused κs a r w (q, e) call =
     let same = refused-leaves (stateOf (now (a .0)) (now (a .1 .0)) (now (a .1 .1 .0))) (now (a .1 .1 .1 .0)) q (sym (call .0) ∙ e) .1 in
-    λ i.
-      ((call .1 .0 ∙ ap (λ (st : State). st .total) same) i,
-      ((call .1 .1 ∙ ap (λ (st : State). st .lanes) same) i,
-      ((call .1 .2 ∙ ap (λ (st : State). st .buffer) same) i, (tt {0}, tt {0}))))
+    λ i. (
+      (call .1 .0 ∙ ap (λ (st : State). st .total) same) i,
+      (
+        (call .1 .1 ∙ ap (λ (st : State). st .lanes) same) i,
+        ((call .1 .2 ∙ ap (λ (st : State). st .buffer) same) i, (tt {0}, tt {0})),
+      ),
+    )
 
 pub update-refused : LeavesOnly c-update.ended Update-post (λ κs r. (q : Refusal) × (r ≡ Check.Bad q)) (λ κs a. (now (a .0), (tt {0}, tt {0})))
 update-refused κs a r w (q, e) call =

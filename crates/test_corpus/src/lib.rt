@@ -91,6 +91,17 @@ pub fn pattern(out: &mut [u8]) {
     }
 }
 
+// The byte family: a fixed run of bytes, the same on every machine.
+pub fn family(out: &mut [u8]) {
+    let mut x: u64 = 1;
+    let mut i: usize = 0;
+    while i < out.len() {
+        x = (x * 1103515245 + 12345) % 0x8000_0000;
+        out[i] = (x / 65536 % 256) as u8;
+        i += 1;
+    }
+}
+
 // ---- the corpus on standard input: for each entry one byte and its name, four bytes and its bytes
 
 fn first_byte(s: &[u8]) -> usize {

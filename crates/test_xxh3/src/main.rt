@@ -1,19 +1,9 @@
 // Prints the XXH3-64 of the byte family's first n bytes, for n from 0 to 1,100 and around each multiple of a block of
 // 1,024 bytes up to 65,536. The expected output is made by second/.
 use test_corpus::decimal;
+use test_corpus::family;
 use test_corpus::sum;
 use test_corpus::word;
-
-// The byte family: a fixed run of bytes, the same on every machine.
-fn fill(out: &mut [u8]) {
-    let mut x: u64 = 1;
-    let mut i: usize = 0;
-    while i < out.len() {
-        x = (x * 1103515245 + 12345) % 0x8000_0000;
-        out[i] = (x / 65536 % 256) as u8;
-        i += 1;
-    }
-}
 
 fn line(s: &[u8]) {
     decimal(s.len() as u64);
@@ -48,7 +38,7 @@ fn block_lines(s: &[u8]) {
 
 fn main() {
     let mut space = io::large_buffer();
-    fill(&mut space);
+    family(&mut space);
     short_lines(&space);
     block_lines(&space);
 }

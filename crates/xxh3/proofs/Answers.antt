@@ -18,9 +18,10 @@ pub feed-takes : Every feed.ended feed-reads.Post
     (λ κs a r e. now (a .0) + length (now (a .1 .1 .1 .0)) ≤ mostFed
     → (r ≡ 0) × (stateOf (now (e .0)) (now (e .1 .0)) (now (e .1 .1 .0)) ≡ bytesMore (stateOf (now (a .0)) (now (a .1 .0)) (now (a .1 .1 .0))) (now (a .1 .1 .1 .0))))
 feed-takes κs a r e p h =
-    let fed = feed-taken (stateOf (now (a .0)) (now (a .1 .0)) (now (a .1 .1 .0))) (now (a .1 .1 .1 .0)) h in
-    (p .0 ∙ sym (told-fine _ (ap (λ (f : Fed). f .told) fed)),
-    (λ i. stateOf (p .1 .0 i) (p .1 .1 i) (p .1 .2 i)) ∙ ap (λ (f : Fed). f .state) fed)
+    let fed = feed-taken (stateOf (now (a .0)) (now (a .1 .0)) (now (a .1 .1 .0))) (now (a .1 .1 .1 .0)) h in (
+      p .0 ∙ sym (told-fine _ (ap (λ (f : Fed). f .told) fed)),
+      (λ i. stateOf (p .1 .0 i) (p .1 .1 i) (p .1 .2 i)) ∙ ap (λ (f : Fed). f .state) fed,
+    )
 
 -- past them: 27, and the parts stay
 pub feed-refuses : Every feed.ended feed-reads.Post
@@ -28,8 +29,9 @@ pub feed-refuses : Every feed.ended feed-reads.Post
     → (r ≡ 27) × (now (e .0) ≡ now (a .0)) × (now (e .1 .0) ≡ now (a .1 .0)) × (now (e .1 .1 .0) ≡ now (a .1 .1 .0)))
 feed-refuses κs a r e p h =
     let fed = feed-refused (stateOf (now (a .0)) (now (a .1 .0)) (now (a .1 .1 .0))) (now (a .1 .1 .1 .0)) h in
-    let state = ap (λ (f : Fed). f .state) fed in
-    (p .0 ∙ sym (told-bad _ Refusal.Chunk (ap (λ (f : Fed). f .told) fed) refl),
-    p .1 .0 ∙ ap (λ (st : State). st .total) state,
-    p .1 .1 ∙ ap (λ (st : State). st .lanes) state,
-    p .1 .2 ∙ ap (λ (st : State). st .buffer) state)
+    let state = ap (λ (f : Fed). f .state) fed in (
+      p .0 ∙ sym (told-bad _ Refusal.Chunk (ap (λ (f : Fed). f .told) fed) refl),
+      p .1 .0 ∙ ap (λ (st : State). st .total) state,
+      p .1 .1 ∙ ap (λ (st : State). st .lanes) state,
+      p .1 .2 ∙ ap (λ (st : State). st .buffer) state,
+    )

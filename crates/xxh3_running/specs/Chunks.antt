@@ -40,13 +40,13 @@ refused-exactly st c = (
 pub refused-leaves : (st : State) (c : List ℕ) (r : Refusal) → feedOf st c .told ≡ Check.Bad r → (r ≡ Refusal.Chunk) × (feedOf st c .state ≡ st)
 refused-leaves st c r e = elim (decLt mostFed (st .total + length c)) [
   | yes h ↦
-    let fed = feed-refused st c h in
-    let told = ap (λ (f : Fed). f .told) fed in
-    (cc, ap (λ (f : Fed). f .state) fed)
+      let fed = feed-refused st c h in
+      let told = ap (λ (f : Fed). f .told) fed in
+      (cc, ap (λ (f : Fed). f .state) fed)
   | no h ↦
-    let fine = ap (λ (f : Fed). f .told) (feed-taken st c (omega arith)) in
-    let z : _≡_ {A = ℕ} 0 1 = cc in
-    absurd (omega arith)
+      let fine = ap (λ (f : Fed). f .told) (feed-taken st c (omega arith)) in
+      let z : _≡_ {A = ℕ} 0 1 = cc in
+      absurd (omega arith)
 ]
 
 -- after more than 2^30 bytes, which only a state that nobody fed can say, every chunk is refused, the empty one too

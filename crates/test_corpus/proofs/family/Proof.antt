@@ -1,11 +1,11 @@
--- `test_xxh3::fill` meets its contract.
+-- `test_corpus::family` meets its contract.
 use Prim.Native.Nat.{_-_, _^_, _≤_, _<_}
 use mathlib.Core.Path.{_≡_}
 use lib.ListN.{length, length-set}
 use borrow.Author.Needs.{needs}
 use native.Mathlib.Omega.{arith}
-use Rattle.test_xxh3.proofs.fill.Statement.{statement}
-use Rattle.test_xxh3.proofs.fill.Tie as tie
+use Rattle.test_corpus.proofs.family.Statement.{statement}
+use Rattle.test_corpus.proofs.family.Tie as tie
 
 abbrev Inv-loop : tie.InvT-loop
 Inv-loop out₀ x₀ i₀ out x i = (i ≤ length out₀) × (length out ≡ length out₀) × (x < 2 ^ 31)
@@ -43,8 +43,8 @@ same-length c = search needs
 returns : tie.Need-returns Inv-loop μ-loop
 returns c = search needs
 
-pub fill-spec : {M : Type 1} → statement M
-fill-spec =
+pub family-spec : {M : Type 1} → statement M
+family-spec =
     tie.close
     (tie.spec
     Inv-loop
