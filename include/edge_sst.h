@@ -2,7 +2,7 @@
  *
  * docs/FORMAT.md says what a file and a batch are, byte by byte, and has a glossary.
  * tests/c/example.c looks up a key, example_check.c checks files, example_write.c
- * writes one.
+ * writes one, example_sum.c sums sections that come down in chunks.
  *
  * For every call:
  *
@@ -21,7 +21,7 @@
  *   a length of 0, lend that much and ask again.
  * - The calls keep no state and ask for no memory. They may run at the same time, also
  *   on the same file. The state of a running sum is the caller's, and is written in
- *   place: one call at a time may have it.
+ *   place: feeding wants it alone, asking may be done by several at once.
  *
  * The refusals of each call, in the order in which they are asked:
  *
@@ -37,7 +37,9 @@
  *   edge_sst_needed           24 and 25 record by record, 26
  *   edge_sst_write            24 and 25 record by record, 26, 20
  *   edge_sst_sum              none
+ *   edge_sst_running_new      none
  *   edge_sst_running_feed     27
+ *   edge_sst_running_asked    none
  *
  * The place of each, counted from 0:
  *
@@ -93,7 +95,8 @@ extern "C" {
 #define EDGE_SST_BATCH_DEAD 2
 #define EDGE_SST_BATCH_HEADING 3
 
-/* Bounds; exactly the bound is lawful. A file has at least EDGE_SST_LEAST_BYTES. */
+/* Bounds; exactly the bound is lawful. A file has at least EDGE_SST_LEAST_BYTES. A running
+ * sum has at most EDGE_SST_MOST_BYTES, as a file has. */
 #define EDGE_SST_LEAST_BYTES 84
 #define EDGE_SST_MOST_BYTES 1073741824
 #define EDGE_SST_MOST_KEYS 16777216

@@ -1,4 +1,10 @@
-/* XXH3-64, seed 0, default secret, of bytes at hand or in chunks. Link with libxxh3.a (`rt staticlib xxh3`), x86-64. */
+/* XXH3-64, seed 0, default secret, of bytes at hand or in chunks. Link with libxxh3.a (`rt staticlib xxh3`), x86-64.
+
+   For every call: no pointer is null, also where n is 0: any other address will do there. The parts of a state are
+   aligned as their types ask, and overlap neither each other nor the chunk. A call reads and writes only what it is lent,
+   and nobody writes what is lent while it runs: feeding wants the state alone, asking may be done by several threads at
+   once. The calls keep nothing of their own, allocate nothing and may run at the same time. Any bytes and any state may
+   be lent: every call returns. */
 #ifndef SAFFRON_XXH3_H
 #define SAFFRON_XXH3_H
 
@@ -9,13 +15,16 @@
 extern "C" {
 #endif
 
-/* The sum of the n bytes at p. p is not null, also where n is 0: any other address will do there. The bytes must stay as
-   they are during the call. It keeps no state, allocates nothing and may be called from several threads at once. */
+/* The most bytes of a running sum, which is lawful itself, and the number of a chunk that would pass it. */
+#define SAFFRON_XXH3_MOST 1073741824
+#define SAFFRON_XXH3_CHUNK 27
+
+/* The sum of the n bytes at p, however many. */
 uint64_t saffron_xxh3_64(const uint8_t *p, size_t n);
 
 /* A running sum: what is kept of the bytes so far. total counts them, lanes are XXH3's accumulators, and byte i of all,
    counted from 0, lies at i % 256 of buffer until a later one takes its place. The caller keeps it, one for each section
-   that comes down; it is plain data, and a copy goes on by itself. Any values may be lent: every call returns. */
+   that comes down; it is plain data, and a copy goes on by itself. */
 typedef struct SaffronXxh3State {
     uint64_t total;
     uint64_t lanes[8];
@@ -26,9 +35,8 @@ typedef struct SaffronXxh3State {
 SaffronXxh3State saffron_xxh3_new(void);
 
 /* Takes the n bytes at p as the next chunk; the state's parts are lent. 0: the chunk is taken, and the state is that of
-   all bytes, wherever they were cut. 27: total and n together pass 2^30, and nothing changes; a smaller chunk may follow.
-   2^30 itself is lawful. No pointer is null, also where n is 0; the parts and the chunk do not overlap, and nobody else
-   has the parts, or writes to the chunk, during the call. It allocates nothing; threads may feed states of their own. */
+   all bytes, wherever they were cut. SAFFRON_XXH3_CHUNK (27): total and n together pass SAFFRON_XXH3_MOST, and nothing
+   changes; a smaller chunk may follow. */
 uint32_t saffron_xxh3_feed(uint64_t *total, uint64_t *lanes, uint8_t *buffer, const uint8_t *p, size_t n);
 
 /* The sum of all bytes so far: of a state that came from saffron_xxh3_new and chunks, what saffron_xxh3_64 says of the

@@ -19,7 +19,7 @@ static void take_chunk(State *state, const uint8_t *p, size_t n) {
 static void hold_refused(State *state, const uint8_t *p, size_t n) {
     State before = *state;
     uint64_t told = update(state, p, n);
-    if (told != EDGE_SST_CHUNK)
+    if (told != PAST_MOST)
         differ("%lu bytes after %" PRIu64 ": told %" PRIu64, (unsigned long)n, before.total, told);
     if (!same_state(state, &before))
         differ("%lu bytes after %" PRIu64 ": the refused chunk changed the state", (unsigned long)n, before.total);
@@ -40,6 +40,8 @@ static void test_new(void) {
     memcpy(expected.lanes, first_lanes, sizeof expected.lanes);
     if (sizeof(State) != 8 + 64 + 256 || !same_state(&state, &expected))
         differ("the new state");
+    if (PAST_MOST != 27 || MOST_BYTES != 1 << 30)
+        differ("the header's numbers");
     hold_sum("no chunk", &state, 0x2d06800538d394c2);
 }
 
@@ -134,7 +136,7 @@ static void hold_at_bound(State state, const uint8_t *bytes, size_t large) {
     hold_refused(&state, bytes, 1);
     hold_refused(&state, bytes, large);
     take_chunk(&state, bytes, 0);
-    if (state.total != (uint64_t)1 << 30 || !same_state(&state, &before))
+    if (state.total != MOST_BYTES || !same_state(&state, &before))
         differ("an empty chunk after 2^30 bytes");
     hold_sum("2^30 bytes and an empty chunk", &state, LONGEST_SUM);
 }

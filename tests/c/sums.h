@@ -11,6 +11,8 @@
 
 typedef SaffronXxh3State State;
 
+enum { PAST_MOST = SAFFRON_XXH3_CHUNK, MOST_BYTES = SAFFRON_XXH3_MOST };
+
 static inline uint64_t at_once(const uint8_t *p, size_t n) {
     calls++;
     return saffron_xxh3_64(p, n);
@@ -45,6 +47,8 @@ static inline uint64_t sum(const State *state) {
 #else
 
 typedef EdgeSstRunning State;
+
+enum { PAST_MOST = EDGE_SST_CHUNK, MOST_BYTES = EDGE_SST_MOST_BYTES };
 
 static inline uint64_t at_once(const uint8_t *p, size_t n) {
     calls++;

@@ -54,6 +54,11 @@ impl RunningSum {
         refuse_if(told.number, told.place, told.beside)
     }
 
+    /// How many bytes were taken so far; those of a refused chunk do not count.
+    pub fn total(&self) -> u64 {
+        self.state.total
+    }
+
     /// The sum of all bytes so far. Asking changes nothing, and chunks may follow.
     pub fn sum(&self) -> u64 {
         let state = &self.state;

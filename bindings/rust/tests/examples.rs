@@ -53,6 +53,31 @@ fn check_tells_each_file() {
     assert_eq!(run("check", &[]), (String::new(), Some(2)));
 }
 
+/// A byte of the partners is another in the second file.
+#[test]
+fn sum_tells_each_section() {
+    let told = |third: &str| {
+        let rest = "entry 5: 5 bytes, fine\nentry 6: 13 bytes, fine\n";
+        format!(
+            "entry 1: 39 bytes, fine\nentry 0: 192 bytes, fine\nentry 2: 1 bytes, fine\n\
+             entry 4: 320 bytes, fine\nentry 3: 440 bytes, {third}\n{rest}"
+        )
+    };
+    assert_eq!(run("sum", &["board.edges"]), (told("fine"), Some(0)));
+
+    let mut file = std::fs::read(format!("{SAMPLES}/board.edges")).expect("a sample");
+    file[300] = 0xff;
+    let path = std::env::temp_dir().join(format!("edge-sst-{}-bad.edges", std::process::id()));
+    std::fs::write(&path, file).expect("written");
+    let ran = run("sum", &[path.to_str().expect("a path of text")]);
+    std::fs::remove_file(&path).expect("removed");
+    let other = "6f86b3c9a26678e9 where the table says b75aa235999b3e4f";
+    assert_eq!(ran, (told(other), Some(1)));
+
+    assert_eq!(run("sum", &["../README.md"]), (String::new(), Some(1)));
+    assert_eq!(run("sum", &[]), (String::new(), Some(2)));
+}
+
 #[test]
 fn write_makes_the_sample() {
     let path = std::env::temp_dir().join(format!("edge-sst-{}.edges", std::process::id()));

@@ -28,6 +28,20 @@ fn no_chunk_is_the_sum_of_no_bytes() {
 }
 
 #[test]
+fn the_total_counts_all_bytes() {
+    let bytes = family(1300);
+    let mut running = RunningSum::new();
+    assert_eq!(running.total(), 0);
+    let mut fed = 0;
+    for n in [0, 1, 255, 256, 257, 531] {
+        running.update(&bytes[fed..fed + n]).expect("few bytes");
+        fed += n;
+        assert_eq!(running.total(), fed as u64);
+    }
+    assert_eq!((fed, running.sum()), (1300, sum(&bytes)));
+}
+
+#[test]
 fn every_cut_gives_the_sum_of_the_whole() {
     let bytes = family(1300);
     for n in (0..=70).chain(236..=260).chain(509..=515).chain([1300]) {
@@ -122,7 +136,9 @@ fn a_chunk_past_the_bound_is_refused_and_the_state_stays() {
     assert_eq!(running.update(&bytes[..11]), refused);
     assert_eq!(running.update(&bytes), refused);
     assert_eq!(running, before);
+    assert_eq!(running.total(), (1 << 30) - 10);
     assert_eq!(running.update(rest), Ok(()));
+    assert_eq!(running.total(), 1 << 30);
     assert_eq!(running.sum(), 0x0a9b028adbce3fc2);
     assert_eq!(running.update(&[1]), refused);
     assert_eq!(running.update(&[]), Ok(()));

@@ -18,7 +18,7 @@ file. Seed 0 and the default secret, as the sections' checksums have them. Witho
 FILE it is the sum of standard input.
 
 A file is read in chunks and never held whole. One of more than 2^30 bytes is refused
-with 27, which is told on standard error, and the others are summed.
+with 27, and the others are summed.
 
   --json  an object for each file, with \"xxh3\"
 ",
