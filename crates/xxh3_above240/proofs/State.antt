@@ -28,10 +28,10 @@ pub finished : (q a s : List ℕ) (i n : ℕ) {x : List ℕ} {r : ℕ} → x ≡
 unfolding finish
 finished q a s i n e₀ e₁ = cc
 
-pub ended : (q s : List ℕ) {x : List ℕ} {r : ℕ} → x ≡ run q startLanes s ((length s - 1) / 64)
-    → r ≡ finish q x s (length s - 64) (length s) → r ≡ large q s
-unfolding large
-ended q s e₀ e₁ = cc
+pub ended : (q s : List ℕ) {x y : List ℕ} {r : ℕ} → x ≡ run q startLanes s ((length s - 1) / 64)
+    → y ≡ accumulate q x s (length s - 64) 121 → r ≡ merge q y (length s) → r ≡ large q s
+unfolding large finish
+ended q s e₀ e₁ e₂ = cc
 
 pub inside : (q a s : List ℕ) (i n : ℕ) {x : List ℕ} → x ≡ accumulate q a s i (8 * (n % 16)) → n % 16 < 15 → x ≡ turn q a s i n
 unfolding turn

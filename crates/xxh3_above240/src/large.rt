@@ -2,7 +2,7 @@
 ghost use mathlib.Core.Path.{_≡_};
 ghost use Prim.Native.Nat.{_+_, _*_, _^_, _<_, _≤_};
 ghost use lib.ListN.{length};
-ghost use Rattle.xxh3_spec.specs.Xxh3.{lane, accumulate, stir, scramble, turn, runOn, startLanes, twice, merge, finish, large, secret};
+ghost use Rattle.xxh3_spec.specs.Xxh3.{lane, accumulate, stir, scramble, runOn, run, startLanes, twice, merge, finish, large, secret};
 use codes::little::le64;
 use std::num::wrapping_add_u64;
 use xxh3_mix::mix::avalanche;
@@ -62,19 +62,27 @@ fn scramble(q: &[u8], a: [u64; 8]) -> [u64; 8]
     ]
 }
 
-// The state a after stripe n of all, the 64 bytes of s from at on. It ends a block where n is 15 more than a multiple of 16.
-fn turn(q: &[u8], a: [u64; 8], s: &[u8], at: usize, n: usize) -> [u64; 8]
-    requires { ⌜ (at + 64 ≤ length (now s)) × (length (now q) ≡ 192) ⌝ }
-    ensures { λ r. ⌜ r ≡ turn (now (q .entry)) a (now (s .entry)) at n ⌝ }
+// The state a after the first n stripes of s: the loop of the sum of bytes at hand.
+fn run(q: &[u8], a: [u64; 8], s: &[u8], n: usize) -> [u64; 8]
+    requires { ⌜ (64 * n ≤ length (now s)) × (length (now q) ≡ 192) ⌝ }
+    ensures { λ r. ⌜ r ≡ run (now (q .entry)) a (now (s .entry)) n ⌝ }
 {
-    let x = accumulate(q, a, s, at, 8 * (n % 16));
-    if n % 16 < 15 {
-        return x;
+    let mut r = a;
+    let mut i = 0;
+    while i < n {
+        let x = accumulate(q, r, s, 64 * i, 8 * (i % 16));
+        r = x;
+        if i % 16 == 15 {
+            let y = scramble(q, x);
+            r = y;
+        }
+        i += 1;
     }
-    scramble(q, x)
+    r
 }
 
-// The state a after n stripes of s, the first of them stripe k of all.
+// The state a after n stripes of s, the first of them stripe k of all: the loop of the running sum. It is a function of its
+// own, so that each loop stands in its caller's code.
 fn run_on(q: &[u8], a: [u64; 8], s: &[u8], k: usize, n: usize) -> [u64; 8]
     requires { ⌜ (64 * n ≤ length (now s)) × (length (now q) ≡ 192) × (k < 2 ^ 60) ⌝ }
     ensures { λ r. ⌜ r ≡ runOn (now (q .entry)) a (now (s .entry)) k n ⌝ }
@@ -82,8 +90,12 @@ fn run_on(q: &[u8], a: [u64; 8], s: &[u8], k: usize, n: usize) -> [u64; 8]
     let mut r = a;
     let mut i = 0;
     while i < n {
-        let next = turn(q, r, s, 64 * i, k + i);
-        r = next;
+        let x = accumulate(q, r, s, 64 * i, 8 * ((k + i) % 16));
+        r = x;
+        if (k + i) % 16 == 15 {
+            let y = scramble(q, x);
+            r = y;
+        }
         i += 1;
     }
     r
@@ -106,14 +118,6 @@ fn merge(q: &[u8], a: [u64; 8], n: u64) -> u64
     avalanche(wrapping_add_u64(h2, twice(q, a[6], a[7], 59)))
 }
 
-// The sum of n bytes: a is the state after all stripes before the last byte, the last 64 bytes are those of s from at on.
-fn finish(q: &[u8], a: [u64; 8], s: &[u8], at: usize, n: u64) -> u64
-    requires { ⌜ (at + 64 ≤ length (now s)) × (length (now q) ≡ 192) ⌝ }
-    ensures { λ r. ⌜ r ≡ finish (now (q .entry)) a (now (s .entry)) at n ⌝ }
-{
-    merge(q, accumulate(q, a, s, at, 121), n)
-}
-
 // The state before the first stripe.
 pub const START_LANES: [u64; 8] = [
     0xc2b2_ae3d,
@@ -131,11 +135,9 @@ fn large(q: &[u8], s: &[u8]) -> u64
     ensures { λ r. ⌜ r ≡ large (now (q .entry)) (now (s .entry)) ⌝ }
 {
     let n = s.len();
-    finish(
+    merge(
         q,
-        run_on(q, START_LANES, s, 0, (n - 1) / 64),
-        s,
-        n - 64,
+        accumulate(q, run(q, START_LANES, s, (n - 1) / 64), s, n - 64, 121),
         n as u64,
     )
 }
@@ -179,5 +181,5 @@ pub fn sum_after(a: [u64; 8], last: &[u8], n: u64) -> u64
     ensures { λ r. ⌜ r ≡ finish secret a (now (last .entry)) 0 n ⌝ }
 {
     let q = SECRET;
-    finish(&q, a, last, 0, n)
+    merge(&q, accumulate(&q, a, last, 0, 121), n)
 }

@@ -3,15 +3,18 @@ ghost use mathlib.Core.Path.{_≡_};
 ghost use Prim.Native.Nat.{_+_, _*_, _^_, _<_, _≤_};
 ghost use lib.ListN.{length};
 ghost use lib.Seq.{sets};
-ghost use Rattle.xxh3_spec.specs.Xxh3.{runOn, secret};
+ghost use Rattle.xxh3_spec.specs.Xxh3.{runOn, secret, xxh3};
 ghost use Rattle.xxh3_running.specs.Running.{stateOf, bytesMore, feedOf, Leaves, lastBytes, longSum, sumOf};
 ghost use Rattle.xxh3_running.specs.Running.Laws.{UntilFull, blocksIn, bufferAfter};
 use crate::State;
 use refusal::Check;
 use refusal::Refusal;
+use xxh3_above240::large::by_default;
 use xxh3_above240::large::lanes_after;
 use xxh3_above240::large::sum_after;
-use xxh3_whole::xxh3;
+use xxh3_upto240::medium::of17to128;
+use xxh3_upto240::medium::of129to240;
+use xxh3_upto240::small::small;
 
 // Writes s over the buffer from `at` on.
 fn put(buffer: &mut [u8], at: usize, s: &[u8])
@@ -123,13 +126,32 @@ fn long_sum(total: u64, lanes: &[u64; 8], buffer: &[u8]) -> u64
     sum_after(a, &last, total)
 }
 
+// The sum of up to 256 bytes. It is the sum of bytes at hand once more, so that the one for others stands whole in its caller's
+// code: short sums are three times as long where both share it.
+fn short_sum(s: &[u8]) -> u64
+    requires { ⌜ length (now s) ≤ 256 ⌝ }
+    ensures { λ r. ⌜ r ≡ xxh3 (now (s .entry)) ⌝ }
+{
+    let n = s.len();
+    if n <= 16 {
+        return small(s);
+    }
+    if n <= 128 {
+        return of17to128(s);
+    }
+    if n <= 240 {
+        return of129to240(s);
+    }
+    by_default(s)
+}
+
 // The sum of all bytes that were fed.
 pub fn sum_lent(total: u64, lanes: &[u64; 8], buffer: &[u8; 256]) -> u64
     ensures { λ r. ⌜ r ≡ sumOf (stateOf total (now (lanes .entry)) (now (buffer .entry))) ⌝ }
 {
     if total <= 256 {
         let all = &buffer[..];
-        return xxh3(&all[0..total as usize]);
+        return short_sum(&all[0..total as usize]);
     }
     long_sum(total, lanes, buffer)
 }

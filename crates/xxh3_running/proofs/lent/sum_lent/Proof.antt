@@ -3,20 +3,20 @@ use Rattle.xxh3_running.proofs.Steps.{sum-short, sum-long}
 use Rattle.xxh3_running.proofs.lent.sum_lent.Statement.{statement}
 use Rattle.xxh3_running.proofs.lent.sum_lent.Tie as tie
 
-sub-xxh3 : tie.Need-sub-xxh3
-sub-xxh3 c = search needs
+sub-short-sum : tie.Need-sub-short-sum
+sub-short-sum c = search needs
 
-part-xxh3-start : tie.Need-part-xxh3-start
-part-xxh3-start c = search needs
+part-short-sum-start : tie.Need-part-short-sum-start
+part-short-sum-start c = search needs
 
-part-xxh3-end : tie.Need-part-xxh3-end
-part-xxh3-end c = search needs
+part-short-sum-end : tie.Need-part-short-sum-end
+part-short-sum-end c = search needs
 
-xxh3-requires : tie.Need-xxh3-requires
-xxh3-requires c κs = search needs
+short-sum-requires : tie.Need-short-sum-requires
+short-sum-requires c κs = search needs
 
 returns : tie.Need-returns
-returns c = let a = c .before .before .before .before .args in sum-short (a .total) (a .lanes .now) (a .buffer .now) (c .before .before .before .if1 .taken) (c .xxh3 .ensures)
+returns c = let a = c .before .before .before .before .args in sum-short (a .total) (a .lanes .now) (a .buffer .now) (c .before .before .before .if1 .taken) (c .short-sum .ensures)
 
 long-sum-requires : tie.Need-long-sum-requires
 long-sum-requires c κs = search needs
@@ -28,10 +28,10 @@ pub sum-lent-spec : {M : Type 1} → statement M
 sum-lent-spec =
     tie.close
     (tie.spec
-    sub-xxh3
-    part-xxh3-start
-    part-xxh3-end
-    xxh3-requires
+    sub-short-sum
+    part-short-sum-start
+    part-short-sum-end
+    short-sum-requires
     returns
     long-sum-requires
     returns-2)
