@@ -1,8 +1,9 @@
 -- Over the contract of each call: what it tells, read back, is the library's answer; `number` is 0 exactly if nothing is
 -- refused; a refusal or absence leaves every output as it was; and every output is left as the library's own call leaves it.
-use mathlib.Core.Path.{_≡_, refl, ap, _∙_}
+use mathlib.Core.Path.{_≡_, refl, sym, ap, _∙_}
 use mathlib.Core.Bool.{true, false}
-use Prim.Native.Nat.{_/_, _≤_}
+use Prim.Native.Nat.{ℕ, _+_, _/_, _≤_, _<_}
+use mathlib.Core.List.{List, []}
 use lib.ListN.{length}
 use denote.Ref.{now}
 use Rattle.base.specs.Bytes.{Bytes}
@@ -23,7 +24,14 @@ use Rattle.write_file.specs.declared.Written.{Written}
 use Rattle.write_file.specs.Written.{neededOf, writtenOf, Wrote}
 use Rattle.listing.specs.declared.Listed.{Listed}
 use Rattle.listing.specs.List as list
-use Rattle.xxh3_running.specs.Running.{stateOf, feedOf, Leaves}
+use Rattle.xxh3_spec.specs.Xxh3.{xxh3}
+use Rattle.xxh3_running.specs.declared.Fed.{Fed}
+use Rattle.xxh3_running.specs.Running.{mostFed, stateOf, feedOf, Leaves}
+use Rattle.xxh3_running.specs.Running.Laws.{feed-taken, feed-refused}
+use Rattle.xxh3_running.specs.Running.Sums.{Holds, new-holds, sum-is}
+use Rattle.xxh3_running.specs.Chunks.{taking, taking-holds}
+use Rattle.edge_sst_c.specs.Desk.{check-told-fine, check-told-bad}
+use Rattle.refusal.specs.declared.Refusal.{Refusal}
 use Rattle.edge_sst_c.specs.Look.{recordLent}
 use Rattle.edge_sst_c.specs.Back.{openingFrom, headerFrom, lookedFrom, checkFrom, readOutFrom, writtenFrom, listedFrom, opening-back, header-back, header-bytes, looked-back, check-back, read-out-back, written-back, listed-back}
 use Rattle.edge_sst_c.specs.Refused.{Tells, Unfound, opened-tells, header-tells, looked-tells, check-tells, read-tells, written-tells, listed-tells, partners-stay, edges-stay, read-stays, write-stays, sections-stay, running-stays}
@@ -42,6 +50,10 @@ use Rattle.edge_sst_c.proofs.look.edge_sst_lookup_with as c-lookup-with
 use Rattle.edge_sst_c.proofs.look.edge_sst_lookup_with.Reads as c-lookup-with-reads
 use Rattle.edge_sst_c.proofs.desk.edge_sst_check as c-check
 use Rattle.edge_sst_c.proofs.desk.edge_sst_check.Reads as c-check-reads
+use Rattle.edge_sst_c.proofs.running.edge_sst_running_new as c-running-new
+use Rattle.edge_sst_c.proofs.running.edge_sst_running_new.Reads as c-running-new-reads
+use Rattle.edge_sst_c.proofs.running.edge_sst_running_asked as c-running-asked
+use Rattle.edge_sst_c.proofs.running.edge_sst_running_asked.Reads as c-running-asked-reads
 use Rattle.edge_sst_c.proofs.running.edge_sst_running_feed as c-running
 use Rattle.edge_sst_c.proofs.running.edge_sst_running_feed.Reads as c-running-reads
 use Rattle.edge_sst_c.proofs.desk.edge_sst_read_out as c-read-out
@@ -201,3 +213,28 @@ write-same κs a r e p = record { answer = write-says κs a r e p; output = p .o
 
 pub running-same : Every c-running.ended c-running-reads.Post (λ κs a r e. (checkFrom r ≡ feedOf (stateOf (now (a .0)) (now (a .1 .0)) (now (a .1 .1 .0))) (now (a .1 .1 .1 .0)) .told) × Leaves (feedOf (stateOf (now (a .0)) (now (a .1 .0)) (now (a .1 .1 .0))) (now (a .1 .1 .1 .0))) (now (e .0)) (now (e .1 .0)) (now (e .1 .1 .0)))
 running-same κs a r e p = (running-says κs a r e p, p .1)
+
+-- ---- the running sum
+
+-- up to 2^30 bytes in all: nothing is refused; past them: 27 at place 0
+pub running-takes : Every c-running.ended c-running-reads.Post
+    (λ κs a r e. now (a .0) + length (now (a .1 .1 .1 .0)) ≤ mostFed → r ≡ record { number = 0; place = 0; beside = 0 })
+running-takes κs a r e p h = p .0 ∙ sym (check-told-fine _ (ap (λ (f : Fed). f .told) (feed-taken (stateOf (now (a .0)) (now (a .1 .0)) (now (a .1 .1 .0))) (now (a .1 .1 .1 .0)) h)))
+
+pub running-refuses : Every c-running.ended c-running-reads.Post
+    (λ κs a r e. mostFed < now (a .0) + length (now (a .1 .1 .1 .0)) → r ≡ record { number = 27; place = 0; beside = 0 })
+running-refuses κs a r e p h =
+    p .0 ∙ sym (check-told-bad _ Refusal.Chunk (ap (λ (f : Fed). f .told) (feed-refused (stateOf (now (a .0)) (now (a .1 .0)) (now (a .1 .1 .0))) (now (a .1 .1 .1 .0)) h)) refl refl refl)
+
+-- ---- in chunks as in one: s is what was taken so far
+
+pub running-new-begins : Every c-running-new.ended c-running-new-reads.Post (λ κs a r e. Holds r [])
+running-new-begins κs a r e p = rw p new-holds
+
+pub running-feed-holds : Every c-running.ended c-running-reads.Post (λ κs a r e. (s : List ℕ) → Holds (stateOf (now (a .0)) (now (a .1 .0)) (now (a .1 .1 .0))) s → Holds (stateOf (now (e .0)) (now (e .1 .0)) (now (e .1 .1 .0))) (taking s (now (a .1 .1 .1 .0))))
+running-feed-holds κs a r e p s h =
+    let made : stateOf (now (e .0)) (now (e .1 .0)) (now (e .1 .1 .0)) ≡ feedOf (stateOf (now (a .0)) (now (a .1 .0)) (now (a .1 .1 .0))) (now (a .1 .1 .1 .0)) .state = λ i. stateOf (p .1 .0 i) (p .1 .1 i) (p .1 .2 i) in
+    rw made (taking-holds (stateOf (now (a .0)) (now (a .1 .0)) (now (a .1 .1 .0))) s (now (a .1 .1 .1 .0)) h)
+
+pub running-asked-sums : Every c-running-asked.ended c-running-asked-reads.Post (λ κs a r e. (s : List ℕ) → Holds (stateOf (a .0) (now (a .1 .0)) (now (a .1 .1 .0))) s → r ≡ xxh3 s)
+running-asked-sums κs a r e p s h = p ∙ sum-is (stateOf (a .0) (now (a .1 .0)) (now (a .1 .1 .0))) s h

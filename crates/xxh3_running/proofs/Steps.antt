@@ -15,7 +15,7 @@ use Rattle.xxh3_spec.specs.Xxh3.Laws.{run-none}
 use Rattle.xxh3_running.specs.declared.State.{State}
 use Rattle.xxh3_running.specs.declared.Fed.{Fed}
 use Rattle.xxh3_running.specs.Running.{mostFed, stateOf, bytesMore, feedOf, Leaves, lastBytes, longSum, sumOf, emptied}
-use Rattle.xxh3_running.specs.Running.Laws.{UntilFull, blockBefore, blocksIn, bufferAfter, sets-whole, bytes-total, fed-inside, fed-past, feed-taken, feed-refused}
+use Rattle.xxh3_running.specs.Running.Laws.{UntilFull, bufferBefore, buffersIn, bufferAfter, sets-whole, bytes-total, fed-inside, fed-past, feed-taken, feed-refused}
 
 -- one byte more of s is written
 pub put-step : (s b : List ℕ) (at i : ℕ) → i < length s → set (sets b at (take i s)) (at + i) (getD s i 0) ≡ sets b at (take (i + 1) s)
@@ -42,10 +42,10 @@ same-all n l m h h′ e = sym (take-all n l h) ∙ e ∙ take-all n m h′
 
 -- ---- the sum
 
-pub long-is : (t : ℕ) (l b : List ℕ) {a last : List ℕ} {r : ℕ} → a ≡ runOn secret l b (4 * ((t - 1) / 256)) ((t - 1) % 256 / 64) → last ≡ lastBytes t b
+pub long-of : (t : ℕ) (l b : List ℕ) {a last : List ℕ} {r : ℕ} → a ≡ runOn secret l b (4 * ((t - 1) / 256)) ((t - 1) % 256 / 64) → last ≡ lastBytes t b
     → r ≡ finish secret a last 0 t → r ≡ longSum (stateOf t l b)
 unfolding longSum
-long-is t l b e d q = q ∙ ap₂ (λ (x y : List ℕ). finish secret x y 0 t) e d
+long-of t l b e d q = q ∙ ap₂ (λ (x y : List ℕ). finish secret x y 0 t) e d
 
 pub sum-short : (t : ℕ) (l b : List ℕ) {r : ℕ} → t ≤ 256 → r ≡ xxh3 (part b 0 t) → r ≡ sumOf (stateOf t l b)
 unfolding sumOf
@@ -73,9 +73,9 @@ part-front s r = let n : r - 0 ≡ r = omega arith in ap (λ (k : ℕ). take k s
 part-back : (s : List ℕ) (r : ℕ) → part s r (length s) ≡ drop r s
 part-back s r = let n = length-drop r s in take-all (length s - r) (drop r s) (omega arith)
 
--- no whole block before the last byte
-pub flow-few : (a b s out : List ℕ) (k : ℕ) → blocksIn s ≡ 0 → out ≡ sets b 0 s
-    → (a ≡ runOn secret a s k (4 * blocksIn s)) × (out ≡ bufferAfter b s (blocksIn s))
+-- no whole buffer before the last byte
+pub flow-few : (a b s out : List ℕ) (k : ℕ) → buffersIn s ≡ 0 → out ≡ sets b 0 s
+    → (a ≡ runOn secret a s k (4 * buffersIn s)) × (out ≡ bufferAfter b s (buffersIn s))
 flow-few a b s out k e p = (rw e (sym (run-none secret a s k)), rw e p)
 
 -- the last block is written whole, and then the bytes after it
@@ -95,24 +95,24 @@ flow-many b s out out′ (suc k) z p h e e′ =
 -- the buffer is filled and emptied, and the rest of the chunk flows on
 pub pour-all : (t r : ℕ) (l b s : List ℕ) → UntilFull t r → length b ≡ 256 → r < length s
     → (filled a l′ b′ : List ℕ) → filled ≡ sets b (256 - r) (part s 0 r) → a ≡ runOn secret l filled ((t + r) / 64 - 4) 4
-    → l′ ≡ runOn secret a (part s r (length s)) ((t + r) / 64) (4 * blocksIn (part s r (length s)))
-    → b′ ≡ bufferAfter filled (part s r (length s)) (blocksIn (part s r (length s)))
+    → l′ ≡ runOn secret a (part s r (length s)) ((t + r) / 64) (4 * buffersIn (part s r (length s)))
+    → b′ ≡ bufferAfter filled (part s r (length s)) (buffersIn (part s r (length s)))
     → (l′ ≡ bytesMore (stateOf t l b) s .lanes) × (b′ ≡ bytesMore (stateOf t l b) s .buffer)
 unfolding emptied
 pour-all t r l b s u z h filled a l′ b′ p q w v =
     let f : filled ≡ sets b (256 - r) (take r s) = p ∙ ap (sets b (256 - r)) (part-front s r) in
     let all = fed-past t r l b s u z h in (
       w
-          ∙ ap₂ (λ (x y : List ℕ). runOn secret x y ((t + r) / 64) (4 * blocksIn y)) (q ∙ ap (λ (x : List ℕ). runOn secret l x ((t + r) / 64 - 4) 4) f) (part-back s r)
+          ∙ ap₂ (λ (x y : List ℕ). runOn secret x y ((t + r) / 64) (4 * buffersIn y)) (q ∙ ap (λ (x : List ℕ). runOn secret l x ((t + r) / 64 - 4) 4) f) (part-back s r)
           ∙ sym (ap (λ (st : State). st .lanes) all),
-      v ∙ ap₂ (λ (x y : List ℕ). bufferAfter x y (blocksIn y)) f (part-back s r) ∙ sym (ap (λ (st : State). st .buffer) all),
+      v ∙ ap₂ (λ (x y : List ℕ). bufferAfter x y (buffersIn y)) f (part-back s r) ∙ sym (ap (λ (st : State). st .buffer) all),
     )
 
 -- ---- what becomes of what was lent
 
 -- a chunk that is refused
-pub leaves : (t : ℕ) (l b s : List ℕ) → mostFed < t + length s → Parts (feedOf (stateOf t l b) s) (Check.Bad Refusal.Chunk) t l b
-leaves t l b s h = parts (feed-refused (stateOf t l b) s h)
+pub stays : (t : ℕ) (l b s : List ℕ) → mostFed < t + length s → Parts (feedOf (stateOf t l b) s) (Check.Bad Refusal.Chunk) t l b
+stays t l b s h = parts (feed-refused (stateOf t l b) s h)
 
 -- one that stays inside the buffer
 pub takes-few : (t r : ℕ) (l b s b′ : List ℕ) → t + length s ≤ mostFed → UntilFull t r → length s ≤ r → b′ ≡ sets b (256 - r) s

@@ -107,13 +107,13 @@ same-state cs ds st e h =
 
 -- what a user does with a state: another chunk, or a question for the sum
 pub data Step : Type 0 where
-  Chunk : List ℕ → Step
+  Feed : List ℕ → Step
   Ask : Step
 
 -- the answers, in their order
 unfoldable pub answers : State → List Step → List ℕ
 answers st [] = []
-answers st (Chunk c ∷ ss) = answers (feedOf st c .state) ss
+answers st (Feed c ∷ ss) = answers (feedOf st c .state) ss
 answers st (Ask ∷ ss) = sumOf st ∷ answers st ss
 
 -- the bytes s with a chunk more, where it is taken
@@ -123,10 +123,10 @@ taking s c = pick (leb (length s + length c) mostFed) (s ++ c) s
 -- the sums of all bytes that were taken before each question
 unfoldable pub sumsBefore : List ℕ → List Step → List ℕ
 sumsBefore s [] = []
-sumsBefore s (Chunk c ∷ ss) = sumsBefore (taking s c) ss
+sumsBefore s (Feed c ∷ ss) = sumsBefore (taking s c) ss
 sumsBefore s (Ask ∷ ss) = xxh3 s ∷ sumsBefore s ss
 
-taking-holds : (st : State) (s c : List ℕ) → Holds st s → Holds (feedOf st c .state) (taking s c)
+pub taking-holds : (st : State) (s c : List ℕ) → Holds st s → Holds (feedOf st c .state) (taking s c)
 taking-holds st s c h = let e = h .counts in elim (decLt mostFed (st .total + length c)) [
   | yes b ↦ rw (feed-refused st c b, lt-leb (length s + length c) mostFed (omega arith)) h
   | no b ↦ rw (feed-taken st c (omega arith), le-leb (length s + length c) mostFed (omega arith)) (bytes-hold c st s h)
@@ -135,10 +135,10 @@ taking-holds st s c h = let e = h .counts in elim (decLt mostFed (st .total + le
 answers-hold : (ss : List Step) (st : State) (s : List ℕ) → Holds st s → answers st ss ≡ sumsBefore s ss
 unfolding answers sumsBefore
 answers-hold [] st s h = refl
-answers-hold (Chunk c ∷ ss) st s h = answers-hold ss (feedOf st c .state) (taking s c) (taking-holds st s c h)
+answers-hold (Feed c ∷ ss) st s h = answers-hold ss (feedOf st c .state) (taking s c) (taking-holds st s c h)
 answers-hold (Ask ∷ ss) st s h = ap₂ (λ (x : ℕ) (l : List ℕ). x ∷ l) (sum-is st s h) (answers-hold ss st s h)
 
--- whatever is fed and asked, in any order: each answer is the sum of all bytes that were taken before it, so that no question and no
--- refused chunk shows in a later answer
+-- whatever is fed and asked, in any order: each answer is the sum of all bytes that were taken before it, and no refused chunk shows in a
+-- later one. That a question leaves the state is its call's type: the state is passed by value, or its parts are lent shared
 pub each-answer : (ss : List Step) → answers newState ss ≡ sumsBefore [] ss
 each-answer ss = answers-hold ss newState [] new-holds

@@ -5,7 +5,7 @@ ghost use lib.ListN.{length};
 ghost use lib.Seq.{sets};
 ghost use Rattle.xxh3_spec.specs.Xxh3.{runOn, secret, xxh3};
 ghost use Rattle.xxh3_running.specs.Running.{stateOf, bytesMore, feedOf, Leaves, lastBytes, longSum, sumOf};
-ghost use Rattle.xxh3_running.specs.Running.Laws.{UntilFull, blocksIn, bufferAfter};
+ghost use Rattle.xxh3_running.specs.Running.Laws.{UntilFull, buffersIn, bufferAfter};
 use crate::State;
 use refusal::Check;
 use refusal::Refusal;
@@ -42,18 +42,18 @@ fn room(total: u64) -> usize
 // blocks before the last byte join the lanes, and the buffer gets the last 256 bytes.
 fn flow(a: [u64; 8], buffer: &mut [u8], rest: &[u8], next: usize) -> [u64; 8]
     requires { ⌜ (length (now buffer) ≡ 256) × (0 < length (now rest)) × (next < 2 ^ 60) ⌝ }
-    ensures { λ r. ⌜ (r ≡ runOn secret a (now (rest .entry)) next (4 * blocksIn (now (rest .entry))))
-        × (now (buffer .exit) ≡ bufferAfter (now (buffer .entry)) (now (rest .entry)) (blocksIn (now (rest .entry)))) ⌝ }
+    ensures { λ r. ⌜ (r ≡ runOn secret a (now (rest .entry)) next (4 * buffersIn (now (rest .entry))))
+        × (now (buffer .exit) ≡ bufferAfter (now (buffer .entry)) (now (rest .entry)) (buffersIn (now (rest .entry)))) ⌝ }
 {
-    let blocks = (rest.len() - 1) / 256;
-    if blocks == 0 {
+    let whole = (rest.len() - 1) / 256;
+    if whole == 0 {
         put(buffer, 0, rest);
         return a;
     }
-    let end = 256 * blocks;
+    let end = 256 * whole;
     put(buffer, 0, &rest[end - 256..end]);
     put(buffer, 0, &rest[end..]);
-    lanes_after(a, rest, next, 4 * blocks)
+    lanes_after(a, rest, next, 4 * whole)
 }
 
 // A chunk that goes on past the buffer's end, after `fill` of its bytes.

@@ -59,7 +59,7 @@ pub fn feed(st: State, chunk: &[u8]) -> Fed
     Fed { told, state }
 }
 
-// The same in place.
+// The same for a state in its place, which is copied to `feed` and back. `feed_lent` copies nothing.
 pub fn update(st: &mut State, chunk: &[u8]) -> Check
     ensures { λ r. ⌜ (r ≡ feedOf (now (st .entry)) (now (chunk .entry)) .told) × (now (st .exit) ≡ feedOf (now (st .entry)) (now (chunk .entry)) .state) ⌝ }
 {

@@ -1,4 +1,4 @@
--- The laws by which a chunk is fed in larger pieces than bytes: up to the buffer's end, over it, and block by block.
+-- The laws by which a chunk is fed in larger pieces than bytes: up to the buffer's end, over it, and buffer by buffer.
 use mathlib.Core.Path.{_≡_, refl, sym, ap, ap₂, _∙_}
 use Prim.Native.Nat.{ℕ, zero, suc, _+_, _-_, _*_, _/_, _%_, _≤_, _<_}
 use native.Mathlib.Nat.{add-zero, zero-add, add-assoc}
@@ -108,23 +108,22 @@ pub sets-whole : (xs b : List ℕ) → length b ≡ length xs → sets b 0 xs �
 sets-whole xs b n =
     sets-over xs b (omega arith) ∙ ap (λ (r : List ℕ). xs ++ r) (drop-of-length-le b {i = length xs} (omega arith)) ∙ append-nil xs
 
--- the buffer after k whole blocks of s: the last of them, or b where there was none
-abbrev pub blockBefore : List ℕ → List ℕ → ℕ → List ℕ
-blockBefore b s zero = b
-blockBefore b s (suc k) = part s (256 * k) (256 * k + 256)
+-- what the buffer held before the last bytes of s came, of which k whole buffers come first: the last of those, or b where there is none
+abbrev pub bufferBefore : List ℕ → List ℕ → ℕ → List ℕ
+bufferBefore b s zero = b
+bufferBefore b s (suc k) = part s (256 * k) (256 * k + 256)
 
--- any number of bytes, of which k whole blocks come before the last byte: all those join the lanes too, and the buffer holds the last 256 bytes
 -- with the bytes after them over it
 abbrev pub bufferAfter : List ℕ → List ℕ → ℕ → List ℕ
-bufferAfter b s k = sets (blockBefore b s k) 0 (drop (256 * k) s)
+bufferAfter b s k = sets (bufferBefore b s k) 0 (drop (256 * k) s)
 
--- the whole blocks of s before its last byte
-abbrev pub blocksIn : List ℕ → ℕ
-blocksIn s = (length s - 1) / 256
+-- the whole buffers of s before its last byte
+abbrev pub buffersIn : List ℕ → ℕ
+buffersIn s = (length s - 1) / 256
 
-block-next : (k : ℕ) (s b : List ℕ) → blockBefore (take 256 s) (drop 256 s) k ≡ blockBefore b s (suc k)
-block-next zero s b = refl
-block-next (suc k) s b =
+buffer-next : (k : ℕ) (s b : List ℕ) → bufferBefore (take 256 s) (drop 256 s) k ≡ bufferBefore b s (suc k)
+buffer-next zero s b = refl
+buffer-next (suc k) s b =
     let n : 256 * k + 256 - 256 * k ≡ 256 * suc k + 256 - 256 * suc k = omega arith in
     let m : 256 + 256 * k ≡ 256 * suc k = omega arith in
     ap (take (256 * k + 256 - 256 * k)) (drop-drop (256 * k) 256 s) ∙ ap₂ (λ (u v : ℕ). take u (drop v s)) n m
@@ -142,7 +141,7 @@ lanes-next k t a s e =
     ∙ run-add secret a s (drop 256 s) (t / 64) 4 (4 * k) (λ j h. getD-drop 256 s (0 + j) 0 ∙ ap (λ (i : ℕ). getD s (256 + i) 0) (zero-add j))
     ∙ ap (runOn secret a s (t / 64)) all
 
--- any number of bytes, of which k whole blocks come before the last byte: those join the lanes too, and the buffer holds the last 256 bytes
+-- any number of bytes, of which k whole buffers come before the last byte: those join the lanes too, and the buffer holds the last 256 bytes
 pub poured : (k : ℕ) (s : List ℕ) (t : ℕ) (l b : List ℕ) → 0 < t → t % 256 ≡ 0 → length b ≡ 256 → 256 * k < length s → length s ≤ 256 * k + 256
     → bytesMore (stateOf t l b) s ≡ stateOf (t + length s) (runOn secret (emptied t l b) s (t / 64) (4 * k)) (bufferAfter b s k)
 poured zero s t l b p e n h h′ =
@@ -163,7 +162,7 @@ poured (suc k) s t l b p e n h h′ =
     ∙ poured k rest (t + 256) a block (omega arith) (omega arith) size (omega arith) (omega arith)
     ∙ ap₂ (λ (x : ℕ) (y : List ℕ). stateOf x y (bufferAfter block rest k)) all (lanes-next k t a s e)
     ∙ ap₂ (λ (x y : List ℕ). stateOf (t + length s) (runOn secret a s (t / 64) (4 * suc k)) (sets x 0 y))
-    (block-next k s b) (drop-drop (256 * k) 256 s ∙ ap (λ (x : ℕ). drop x s) place)
+    (buffer-next k s b) (drop-drop (256 * k) 256 s ∙ ap (λ (x : ℕ). drop x s) place)
 
 -- ---- the last bytes
 
@@ -226,11 +225,11 @@ module _ (t r : ℕ) (l b xs : List ℕ) (u : UntilFull t r) (z : length b ≡ 2
   abbrev rest : List ℕ
   rest = drop r xs
 
-  -- it goes on past the end: the buffer is filled and emptied, and so are the whole blocks of the rest before the last byte
+  -- it goes on past the end: the buffer is filled and emptied, and so are the whole buffers of the rest before the last byte
   pub fed-past : bytesMore (stateOf t l b) xs
-      ≡ stateOf (t + length xs) (runOn secret (emptied (t + r) l filled) rest ((t + r) / 64) (4 * blocksIn rest)) (bufferAfter filled rest (blocksIn rest))
+      ≡ stateOf (t + length xs) (runOn secret (emptied (t + r) l filled) rest ((t + r) / 64) (4 * buffersIn rest)) (bufferAfter filled rest (buffersIn rest))
   fed-past =
-      let k : ℕ = blocksIn rest in
+      let k : ℕ = buffersIn rest in
       let m : length (take r xs) ≡ r = length-take-le r xs (omega arith) in
       let n : length rest ≡ length xs - r = length-drop r xs in
       let all : t + r + length rest ≡ t + length xs = omega arith in

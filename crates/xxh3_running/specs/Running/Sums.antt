@@ -17,7 +17,7 @@ use Rattle.xxh3_running.specs.declared.State.{State}
 use Rattle.xxh3_running.specs.Running.{stateOf, newState, isFull, emptied, byteMore, bytesMore, inOrder, lastBytes, longSum, sumOf}
 use Rattle.xxh3_running.specs.Running.Laws.{full, not-full, bytes-none, bytes-one, byte-inside, byte-over, last-at}
 
--- the state is that of the bytes s: it counts them, its lanes have all blocks before the last byte, and the last 256 lie in the ring
+-- the state is that of the bytes s: it counts them, its lanes have all buffers before the last byte, and the last 256 lie in the ring
 pub record Holds (st : State) (s : List ℕ) : Type 0 where
   pub counts : st .total ≡ length s
   pub joined : st .lanes ≡ run secret startLanes s (4 * ((length s - 1) / 256))
@@ -33,9 +33,9 @@ new-holds = record {
   lies = λ i h h′. absurd (omega arith);
 }
 
--- the block of a full buffer lies in it from its start on
-block-lies : (st : State) (s : List ℕ) → Holds st s → 0 < length s → length s % 256 ≡ 0 → Alike (st .buffer) 0 s (64 * (4 * ((length s - 1) / 256))) 256
-block-lies st s h p e j l =
+-- the last 256 bytes of a full buffer lie in it from its start on
+buffer-lies : (st : State) (s : List ℕ) → Holds st s → 0 < length s → length s % 256 ≡ 0 → Alike (st .buffer) 0 s (64 * (4 * ((length s - 1) / 256))) 256
+buffer-lies st s h p e j l =
     let place : ℕ = 64 * (4 * ((length s - 1) / 256)) + j in
     let ring : place % 256 ≡ 0 + j = omega arith in
     ap (λ (i : ℕ). getD (st .buffer) i 0) (sym ring) ∙ h .lies place (omega arith) (omega arith)
@@ -100,7 +100,7 @@ module _ (st : State) (s : List ℕ) (c : ℕ) (h : Holds st s) where
       subst (λ (x : State). Holds x s′) (sym (byte-over (st .total) (st .lanes) (st .buffer) c (full (st .total) (omega arith) (omega arith))))
       (made (emptied (st .total) (st .lanes) (st .buffer))
       (ap₂ (λ (x : ℕ) (y : List ℕ). runOn secret y (st .buffer) x 4) first (h .joined)
-      ∙ run-add secret startLanes s (st .buffer) 0 n 4 (block-lies st s h p e)
+      ∙ run-add secret startLanes s (st .buffer) 0 n 4 (buffer-lies st s h p e)
       ∙ ap (run secret startLanes s) all
       ∙ same-lanes (4 * (t / 256)) (omega arith)))
 
@@ -136,22 +136,22 @@ module _ (st : State) (s : List ℕ) (h : Holds st s) where
       ∙ ap (λ (k : ℕ). getD (st .buffer) k 0) (sym place)
       ∙ h .lies i (omega arith) (omega arith))
 
-  abbrev blocks : ℕ
-  blocks = (length s - 1) / 256
+  abbrev emptyings : ℕ
+  emptyings = (length s - 1) / 256
 
   abbrev stripes : ℕ
   stripes = (length s - 1) % 256 / 64
 
   -- all stripes before the last byte
-  lanes-are : 0 < length s → runOn secret (st .lanes) (st .buffer) (4 * blocks) stripes ≡ run secret startLanes s ((length s - 1) / 64)
+  lanes-are : 0 < length s → runOn secret (st .lanes) (st .buffer) (4 * emptyings) stripes ≡ run secret startLanes s ((length s - 1) / 64)
   lanes-are p =
-      let first : 4 * blocks ≡ 0 + 4 * blocks = sym (zero-add (4 * blocks)) in
-      let all : 4 * blocks + stripes ≡ (length s - 1) / 64 = omega arith in
+      let first : 4 * emptyings ≡ 0 + 4 * emptyings = sym (zero-add (4 * emptyings)) in
+      let all : 4 * emptyings + stripes ≡ (length s - 1) / 64 = omega arith in
       ap₂ (λ (x : ℕ) (y : List ℕ). runOn secret y (st .buffer) x stripes) first (h .joined)
-      ∙ run-add secret startLanes s (st .buffer) 0 (4 * blocks) stripes
+      ∙ run-add secret startLanes s (st .buffer) 0 (4 * emptyings) stripes
       (λ j l.
-      let ring : (64 * (4 * blocks) + j) % 256 ≡ 0 + j = omega arith in
-      ap (λ (i : ℕ). getD (st .buffer) i 0) (sym ring) ∙ h .lies (64 * (4 * blocks) + j) (omega arith) (omega arith))
+      let ring : (64 * (4 * emptyings) + j) % 256 ≡ 0 + j = omega arith in
+      ap (λ (i : ℕ). getD (st .buffer) i 0) (sym ring) ∙ h .lies (64 * (4 * emptyings) + j) (omega arith) (omega arith))
       ∙ ap (run secret startLanes s) all
 
   -- the last 64 bytes
@@ -166,7 +166,7 @@ module _ (st : State) (s : List ℕ) (h : Holds st s) where
   unfolding longSum large
   long-is b =
       ap (λ (t : ℕ). finish secret (runOn secret (st .lanes) (st .buffer) (4 * ((t - 1) / 256)) ((t - 1) % 256 / 64)) (lastBytes t (st .buffer)) 0 t) (h .counts)
-      ∙ finish-same secret (runOn secret (st .lanes) (st .buffer) (4 * blocks) stripes) (lastBytes (length s) (st .buffer)) s 0 (length s - 64) (length s) (last-are (omega arith))
+      ∙ finish-same secret (runOn secret (st .lanes) (st .buffer) (4 * emptyings) stripes) (lastBytes (length s) (st .buffer)) s 0 (length s - 64) (length s) (last-are (omega arith))
       ∙ ap (λ (a : List ℕ). finish secret a s (length s - 64) (length s)) (lanes-are (omega arith))
 
   large-is : 256 < length s → xxh3 s ≡ large secret s

@@ -1,14 +1,14 @@
 use borrow.Author.Needs.{needs}
 use native.Mathlib.Omega.{arith}
-use Rattle.xxh3_running.proofs.Steps.{leaves, takes-few, takes-more}
+use Rattle.xxh3_running.proofs.Steps.{stays, takes-few, takes-more}
 use Rattle.xxh3_running.proofs.lent.feed_lent.Statement.{statement}
 use Rattle.xxh3_running.proofs.lent.feed_lent.Tie as tie
 
 returns : tie.Need-returns
-returns c = let a = c .before .before .before .args in leaves (a .total .now) (a .lanes .now) (a .buffer .now) (a .chunk .now) (omega arith)
+returns c = let a = c .before .before .before .args in stays (a .total .now) (a .lanes .now) (a .buffer .now) (a .chunk .now) (omega arith)
 
 returns-2 : tie.Need-returns-2
-returns-2 c = let a = c .before .before .before .before .args in leaves (a .total .now) (a .lanes .now) (a .buffer .now) (a .chunk .now) (omega arith)
+returns-2 c = let a = c .before .before .before .before .args in stays (a .total .now) (a .lanes .now) (a .buffer .now) (a .chunk .now) (omega arith)
 
 add-total : tie.Need-add-total
 add-total c = search needs

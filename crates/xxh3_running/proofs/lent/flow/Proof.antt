@@ -1,12 +1,12 @@
 use borrow.Author.Needs.{needs}
 use native.Mathlib.Omega.{arith}
-use Rattle.xxh3_running.specs.Running.Laws.{blocksIn}
+use Rattle.xxh3_running.specs.Running.Laws.{buffersIn}
 use Rattle.xxh3_running.proofs.Steps.{flow-few, flow-many}
 use Rattle.xxh3_running.proofs.lent.flow.Statement.{statement}
 use Rattle.xxh3_running.proofs.lent.flow.Tie as tie
 
-sub-blocks : tie.Need-sub-blocks
-sub-blocks c = search needs
+sub-whole : tie.Need-sub-whole
+sub-whole c = search needs
 
 put-requires : tie.Need-put-requires
 put-requires c κs = search needs
@@ -57,13 +57,13 @@ same-length-2 : tie.Need-same-length-2
 same-length-2 c = search needs
 
 returns-2 : tie.Need-returns-2
-returns-2 c = let a = c .before .before .before .before .before .before .before .before .before .before .before .before .before .before .args in let k = blocksIn (a .rest .now) in (c .lanes-after .ensures, flow-many (a .buffer .now) (a .rest .now) _ _ k (c .before .before .before .before .before .before .before .before .before .before .before .before .before .before .pre .0) (omega arith) (omega arith) (c .before .before .before .before .before .before .before .before .put2 .ensures) (c .before .before .before .put3 .ensures))
+returns-2 c = let a = c .before .before .before .before .before .before .before .before .before .before .before .before .before .before .args in let k = buffersIn (a .rest .now) in (c .lanes-after .ensures, flow-many (a .buffer .now) (a .rest .now) _ _ k (c .before .before .before .before .before .before .before .before .before .before .before .before .before .before .pre .0) (omega arith) (omega arith) (c .before .before .before .before .before .before .before .before .put2 .ensures) (c .before .before .before .put3 .ensures))
 
 pub flow-spec : {M : Type 1} → statement M
 flow-spec =
     tie.close
     (tie.spec
-    sub-blocks
+    sub-whole
     put-requires
     same-length
     returns

@@ -1,5 +1,5 @@
 use borrow.Author.Needs.{needs}
-use Rattle.xxh3_running.proofs.Steps.{long-is}
+use Rattle.xxh3_running.proofs.Steps.{long-of}
 use Rattle.xxh3_running.proofs.lent.long_sum.Statement.{statement}
 use Rattle.xxh3_running.proofs.lent.long_sum.Tie as tie
 
@@ -22,7 +22,7 @@ sum-after-requires : tie.Need-sum-after-requires
 sum-after-requires c κs = search needs
 
 returns : tie.Need-returns
-returns c = let a = c .before .before .before .before .before .before .args in long-is (a .total) (a .lanes .now) (a .buffer .now) (c .before .before .before .lanes-after .ensures) (c .before .before .last-bytes .ensures) (c .sum-after .ensures)
+returns c = let a = c .before .before .before .before .before .before .args in long-of (a .total) (a .lanes .now) (a .buffer .now) (c .before .before .before .lanes-after .ensures) (c .before .before .last-bytes .ensures) (c .sum-after .ensures)
 
 pub long-sum-spec : {M : Type 1} → statement M
 long-sum-spec =
