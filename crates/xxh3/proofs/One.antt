@@ -1,5 +1,5 @@
 -- Each public contract leaves one result and one content of lent memory.
-use mathlib.Core.Path.{_≡_, refl, sym, _∙_}
+use mathlib.Core.Path.{refl, sym, _∙_}
 use Rattle.base.proofs.Determined.{Determined}
 use Rattle.xxh3.proofs.saffron_xxh3_64 as whole
 use Rattle.xxh3.proofs.saffron_xxh3_64.Reads as whole-reads

@@ -1,5 +1,5 @@
 -- Each public contract of the crate leaves one result.
-use mathlib.Core.Path.{_≡_, refl, sym, _∙_}
+use mathlib.Core.Path.{refl, sym, _∙_}
 use Rattle.base.proofs.Determined.{Determined}
 use Rattle.xxh3_above240.proofs.large.by_default as by-default
 use Rattle.xxh3_above240.proofs.large.by_default.Reads as by-default-reads

@@ -1,5 +1,5 @@
 -- The steps of the loops, and what the calls of a function give together.
-use mathlib.Core.Path.{_≡_, refl, sym, ap, ap₂, _∙_}
+use mathlib.Core.Path.{_≡_, sym, ap, ap₂, _∙_}
 use Prim.Native.Nat.{ℕ, zero, suc, _+_, _-_, _*_, _/_, _%_, _≤_, _<_}
 use native.Mathlib.Numerals.{add-one}
 use native.Mathlib.Omega.{arith}
@@ -15,7 +15,7 @@ use Rattle.xxh3_spec.specs.Xxh3.Laws.{run-none}
 use Rattle.xxh3_running.specs.declared.State.{State}
 use Rattle.xxh3_running.specs.declared.Fed.{Fed}
 use Rattle.xxh3_running.specs.Running.{mostFed, stateOf, bytesMore, feedOf, Leaves, lastBytes, longSum, sumOf, emptied}
-use Rattle.xxh3_running.specs.Running.Laws.{UntilFull, bufferBefore, buffersIn, bufferAfter, sets-whole, bytes-total, fed-inside, fed-past, feed-taken, feed-refused}
+use Rattle.xxh3_running.specs.Running.Laws.{UntilFull, buffersIn, bufferAfter, sets-whole, bytes-total, fed-inside, fed-past, feed-taken, feed-refused}
 
 -- one byte more of s is written
 pub put-step : (s b : List ℕ) (at i : ℕ) → i < length s → set (sets b at (take i s)) (at + i) (getD s i 0) ≡ sets b at (take (i + 1) s)

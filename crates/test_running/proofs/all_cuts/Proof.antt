@@ -1,5 +1,5 @@
 use Rattle.test_running.proofs.all_cuts.Statement.{statement}
-use Prim.Native.Nat.{_+_, _-_, _<_, _≤_}
+use Prim.Native.Nat.{_-_, _≤_}
 use borrow.Author.Needs.{needs}
 use Rattle.test_running.proofs.all_cuts.Tie as tie
 

@@ -1,7 +1,7 @@
 -- `update` meets its contract: a walk of its code, by hand. The borrow is opened, the state is copied out and passed to `feed`, the
 -- state that it gave is stored, the borrow is closed at it, and the answer is returned. All that the proof knows of `feed` is that it
 -- meets its contract; of the state it uses the laws of any struct of plain data, so it holds whatever the fields are.
-use mathlib.Core.Path.{_≡_, refl, ap, subst}
+use mathlib.Core.Path.{_≡_, refl, ap}
 use Prim.Native.Nat.{ℕ}
 use mathlib.Core.List.{[], _∷_, List}
 use lib.ListN.{length}

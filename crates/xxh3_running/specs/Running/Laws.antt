@@ -1,19 +1,17 @@
 -- The laws by which a chunk is fed in larger pieces than bytes: up to the buffer's end, over it, and buffer by buffer.
 use mathlib.Core.Path.{_≡_, refl, sym, ap, ap₂, _∙_}
 use Prim.Native.Nat.{ℕ, zero, suc, _+_, _-_, _*_, _/_, _%_, _≤_, _<_}
-use native.Mathlib.Nat.{add-zero, zero-add, add-assoc}
-use native.Mathlib.Numerals.{add-one}
+use native.Mathlib.Nat.{add-zero, zero-add}
 use native.Mathlib.Decide.{decLt}
 use native.Mathlib.Omega.{arith}
 use mathlib.Core.Bool.{Bool, true, false, _&&_}
 use mathlib.Core.List.{List, [], _∷_, _++_, append-nil}
-use lib.Dec.{ltb, eqb}
+use lib.Dec.{ltb}
 use lib.ListN.{length, take, drop, set, getD, length-append, length-drop, take-append-drop, drop-of-length-le, List·getD-append}
-use lib.Seq.{sets, sets-eq, length-sets, length-take-le, getD-take, getD-drop, getD-append-add, drop-drop}
+use lib.Seq.{sets, length-sets, length-take-le, getD-take, getD-drop, getD-append-add, drop-drop}
 use borrow.Author.Tests.{lt-ltb, le-leb, lt-leb, eq-eqb, ne-eqb}
 use Rattle.refusal.specs.declared.Check.{Check}
 use Rattle.refusal.specs.declared.Refusal.{Refusal}
-use Rattle.base.specs.Pick.{pick}
 use Rattle.base.specs.Over.{part, sets-over}
 use Rattle.xxh3_spec.specs.Xxh3.{runOn, secret}
 use Rattle.xxh3_spec.specs.Xxh3.Laws.{run-none, run-same, run-add}

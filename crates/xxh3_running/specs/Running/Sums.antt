@@ -1,20 +1,18 @@
 -- What is summed is what was fed: the sum of a state is the XXH3-64 of all its bytes in a row.
 use mathlib.Core.Path.{_≡_, refl, sym, ap, ap₂, _∙_, subst}
-use Prim.Native.Nat.{ℕ, zero, suc, _+_, _-_, _*_, _/_, _%_, _≤_, _<_}
-use native.Mathlib.Nat.{add-zero, zero-add, add-assoc}
+use Prim.Native.Nat.{ℕ, _+_, _-_, _*_, _/_, _%_, _≤_, _<_}
+use native.Mathlib.Nat.{zero-add}
 use native.Mathlib.Decide.{decLt}
 use native.Mathlib.Omega.{arith}
-use mathlib.Core.Bool.{Bool, true, false}
+use mathlib.Core.Bool.{false}
 use mathlib.Core.List.{List, [], _∷_, _++_, append-nil}
-use lib.Dec.{leb}
-use lib.ListN.{length, take, drop, set, getD, replicate, length-set, length-take, length-drop, length-append, length-replicate, List·getD-append}
-use lib.Seq.{append-snoc, getD-set-same, getD-set-other, getD-append-seam, getD-append-add, getD-take, getD-drop, length-take-le, ext-getD}
+use lib.ListN.{length, take, set, getD, length-set, length-append, List·getD-append}
+use lib.Seq.{append-snoc, getD-set-same, getD-set-other, getD-append-seam, getD-take, length-take-le, ext-getD}
 use borrow.Author.Tests.{le-leb, lt-leb}
-use Rattle.base.specs.Pick.{pick}
 use Rattle.xxh3_spec.specs.Xxh3.{runOn, run, startLanes, finish, large, secret, xxh3}
 use Rattle.xxh3_spec.specs.Xxh3.Laws.{Alike, run-none, run-same, run-add, finish-same}
 use Rattle.xxh3_running.specs.declared.State.{State}
-use Rattle.xxh3_running.specs.Running.{stateOf, newState, isFull, emptied, byteMore, bytesMore, inOrder, lastBytes, longSum, sumOf}
+use Rattle.xxh3_running.specs.Running.{stateOf, newState, isFull, emptied, byteMore, bytesMore, lastBytes, longSum, sumOf}
 use Rattle.xxh3_running.specs.Running.Laws.{full, not-full, bytes-none, bytes-one, byte-inside, byte-over, last-at}
 
 -- the state is that of the bytes s: it counts them, its lanes have all buffers before the last byte, and the last 256 lie in the ring
