@@ -39,7 +39,7 @@ fn room(total: u64) -> usize
 }
 
 // The rest of a chunk, where a is the lanes with all bytes before it, and `next` the number of its first stripe: its whole
-// blocks before the last byte join the lanes, and the buffer gets the last 256 bytes.
+// buffers before the last byte join the lanes, and the buffer gets the last 256 bytes.
 fn flow(a: [u64; 8], buffer: &mut [u8], rest: &[u8], next: usize) -> [u64; 8]
     requires { ⌜ (length (now buffer) ≡ 256) × (0 < length (now rest)) × (next < 2 ^ 60) ⌝ }
     ensures { λ r. ⌜ (r ≡ runOn secret a (now (rest .entry)) next (4 * buffersIn (now (rest .entry))))
