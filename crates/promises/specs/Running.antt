@@ -1,4 +1,4 @@
--- What the users of the running sum may rely on, in one statement. Chunks are lists of bytes; s ++ .. are bytes in a row.
+-- What the users of the running sum may rely on, in one statement. Chunks are lists of bytes, and `inRow` is their bytes in a row.
 use mathlib.Core.Path.{_≡_}
 use mathlib.Core.Logic.{_↔_}
 use mathlib.Core.List.{List, []}

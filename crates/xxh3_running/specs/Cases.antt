@@ -14,6 +14,11 @@ use Rattle.xxh3_running.specs.Chunks.{feedAll}
 abbrev sevens : ℕ → List ℕ
 sevens n = replicate n 7
 
+-- a new state counts no bytes and holds zeros, which no sum sees
+pub new-state : (newState .total ≡ 0) × (newState .buffer ≡ replicate 256 0)
+unfolding newState
+new-state = (refl, refl)
+
 -- no chunk; an empty one; 240 bytes; a full buffer, and one byte more; 300 bytes, cut in the buffer, at its end and behind it; 1100 bytes, over a
 -- scramble
 pub sums :
