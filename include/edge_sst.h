@@ -140,8 +140,8 @@ enum {
     EDGE_SST_OFFSET,
     EDGE_SST_FENCES,
     EDGE_SST_TAG,
-    EDGE_SST_VARINT,
-    EDGE_SST_GROUP,
+    EDGE_SST_VARINT, /* no longer given: see 33 to 35 */
+    EDGE_SST_GROUP, /* no longer given: see 28 to 32 */
     EDGE_SST_DEGREES,
     EDGE_SST_ROOM,
     EDGE_SST_RECORD,
@@ -150,7 +150,15 @@ enum {
     EDGE_SST_BATCH,
     EDGE_SST_UNORDERED,
     EDGE_SST_BOUNDS,
-    EDGE_SST_CHUNK
+    EDGE_SST_CHUNK,
+    EDGE_SST_DEGREE_ZERO,
+    EDGE_SST_PARTNER_ORDER,
+    EDGE_SST_UPPER_HALF,
+    EDGE_SST_GROUP_CUT,
+    EDGE_SST_SPARE_BYTES,
+    EDGE_SST_VARINT_CUT,
+    EDGE_SST_VARINT_LONG,
+    EDGE_SST_VARINT_LARGE,
     /* numbers: to here */
 };
 
@@ -174,9 +182,9 @@ static inline const char *edge_sst_text(uint64_t number) {
         "key not above the one before",
         "offset",
         "fence section",
-        "unknown tag of a group",
-        "varint cut, too long or too large",
-        "group: degree 0, order, upper half too large, cut or overlong",
+        "unknown tag",
+        "no longer given: see 33 to 35",
+        "no longer given: see 28 to 32",
         "an earlier degree, or edges past the edge count",
         "output too short",
         "opened record that cannot be of this file",
@@ -186,6 +194,14 @@ static inline const char *edge_sst_text(uint64_t number) {
         "batch order",
         "more keys, edges or file bytes than the bounds",
         "chunk past 2^30 bytes in all",
+        "degree 0",
+        "partner order",
+        "upper half too large",
+        "group cut short",
+        "bytes left over",
+        "varint cut",
+        "varint not shortest",
+        "varint too large",
         /* texts: to here */
     };
     return number < sizeof texts / sizeof texts[0] ? texts[number] : "unknown refusal";

@@ -14,7 +14,7 @@ pub struct Refusal {
 
 /// The text of each number, as in the C header.
 // texts: from refusals.txt
-const TEXTS: [&str; 28] = [
+const TEXTS: [&str; 36] = [
     "no refusal",
     "file under 84 or over 2^30 bytes",
     "magic",
@@ -31,9 +31,9 @@ const TEXTS: [&str; 28] = [
     "key not above the one before",
     "offset",
     "fence section",
-    "unknown tag of a group",
-    "varint cut, too long or too large",
-    "group: degree 0, order, upper half too large, cut or overlong",
+    "unknown tag",
+    "no longer given: see 33 to 35",
+    "no longer given: see 28 to 32",
     "an earlier degree, or edges past the edge count",
     "output too short",
     "opened record that cannot be of this file",
@@ -43,12 +43,38 @@ const TEXTS: [&str; 28] = [
     "batch order",
     "more keys, edges or file bytes than the bounds",
     "chunk past 2^30 bytes in all",
+    "degree 0",
+    "partner order",
+    "upper half too large",
+    "group cut short",
+    "bytes left over",
+    "varint cut",
+    "varint not shortest",
+    "varint too large",
 ];
 // texts: to here
 
 impl Refusal {
     /// The number of a refusal for want of room; its place is what is needed.
     pub const ROOM: u64 = 20;
+
+    /// What `place` and `beside` count, of a number that has both.
+    fn places(&self) -> Option<(&'static str, &'static str)> {
+        match self.number {
+            // places: from refusals.txt
+            16 => Some(("byte", "group")),
+            28 => Some(("byte", "group")),
+            29 => Some(("byte", "group")),
+            30 => Some(("byte", "group")),
+            31 => Some(("byte", "group")),
+            32 => Some(("byte", "group")),
+            33 => Some(("byte", "group")),
+            34 => Some(("byte", "group")),
+            35 => Some(("byte", "group")),
+            // places: to here
+            _ => None,
+        }
+    }
 
     /// What the number says, for people.
     pub fn text(&self) -> &'static str {
@@ -59,13 +85,13 @@ impl Refusal {
 
 impl fmt::Display for Refusal {
     fn fmt(&self, f: &mut fmt::Formatter<'_>) -> fmt::Result {
-        write!(
-            f,
-            "refused {} at {}: {}",
-            self.number,
-            self.place,
-            self.text()
-        )
+        let (number, place, beside) = (self.number, self.place, self.beside);
+        write!(f, "refused {number} at ")?;
+        match self.places() {
+            Some((what, whose)) => write!(f, "{whose} {beside}, {what} {place}")?,
+            None => write!(f, "{place}")?,
+        }
+        write!(f, ": {}", self.text())
     }
 }
 

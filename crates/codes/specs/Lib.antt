@@ -1,4 +1,5 @@
 pub mod Little
 pub mod Ids
 pub mod Varint
+pub mod NoNumber
 pub mod Stood

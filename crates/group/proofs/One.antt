@@ -7,6 +7,8 @@ use Rattle.group.proofs.fault.refusal_of as refusal-of
 use Rattle.group.proofs.fault.refusal_of.Reads as refusal-of-reads
 use Rattle.group.proofs.head.head_of as head-of
 use Rattle.group.proofs.head.head_of.Reads as head-of-reads
+use Rattle.group.proofs.split.bad_step as bad-step
+use Rattle.group.proofs.split.bad_step.Reads as bad-step-reads
 use Rattle.group.proofs.split.split_step as split-step
 use Rattle.group.proofs.split.split_step.Reads as split-step-reads
 use Rattle.group.proofs.split.check_split as check-split
@@ -27,6 +29,9 @@ refusal-of-determined κs a pre r₁ r₂ w₁ w₂ p q = (p ∙ sym q, refl)
 
 pub head-of-determined : Determined head-of.ended head-of-reads.Pre head-of-reads.Post
 head-of-determined κs a pre r₁ r₂ w₁ w₂ p q = (p ∙ sym q, refl)
+
+pub bad-step-determined : Determined bad-step.ended bad-step-reads.Pre bad-step-reads.Post
+bad-step-determined κs a pre r₁ r₂ w₁ w₂ p q = (p ∙ sym q, refl)
 
 pub split-step-determined : Determined split-step.ended split-step-reads.Pre split-step-reads.Post
 split-step-determined κs a pre r₁ r₂ w₁ w₂ p q = (p ∙ sym q, refl)

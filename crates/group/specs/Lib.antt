@@ -2,5 +2,5 @@ pub mod Fault
 pub mod Group
 pub mod Written
 pub mod Good
-pub mod Tag
+pub mod Wrong
 pub mod Cases

@@ -1,45 +1,54 @@
 // Dense groups, tag 0x10: 16 bytes for each partner.
 ghost use mathlib.Core.Path.{_≡_};
 ghost use mathlib.Core.Bool.{true};
-ghost use Prim.Native.Nat.{_-_, _≤_};
+ghost use Prim.Native.Nat.{_+_, _-_, _*_, _≤_, _<_};
 ghost use lib.ListN.{length, drop};
 ghost use Rattle.base.specs.Over.{over};
-ghost use Rattle.group.specs.Group.{walkFrom, verdictOf};
+ghost use Rattle.group.specs.Group.{denseSize, walkFrom, verdictOf};
 use super::GroupVerdict;
 use super::Partner;
-use super::fault::Fault;
+use super::bad_group;
+use super::fault::Flaw;
 use codes::ids::be64;
 use codes::ids::precedes;
 
-// Checks the partners from `at` on. Every fault of a dense payload is a bad shape, so its length can be held against the
-// degree before any partner is read.
+// How many partners of the degree lie whole in so many bytes.
+fn whole(rest: usize, degree: u64) -> usize
+    ensures { λ r. ⌜ (r ≤ degree) × (denseSize * r ≤ rest) × (r < degree → rest < denseSize * (r + 1)) ⌝ }
+{
+    let most = rest / Partner::DENSE;
+    if degree < most as u64 {
+        return degree as usize;
+    }
+    most
+}
+
+// Checks the partners from `at` on. Those that lie whole are read first; only then is it seen whether one more is cut, or bytes
+// are left over.
 pub fn check_dense(g: &[u8], at: usize, degree: u64) -> GroupVerdict
     requires { ⌜ (at ≤ length (now g)) × (1 ≤ degree) ⌝ }
     ensures { λ r. ⌜ r ≡ verdictOf (walkFrom true degree (now (g .entry)) at 0 0) ⌝ }
 {
-    let rest = g.len() - at;
-    if rest % Partner::DENSE != 0 {
-        return GroupVerdict::Bad {
-            fault: Fault::Shape,
-        };
+    let count = whole(g.len() - at, degree);
+    if count == 0 {
+        return bad_group(Flaw::Cut, at);
     }
-    let count = (rest / Partner::DENSE) as u64;
-    if count != degree {
-        return GroupVerdict::Bad {
-            fault: Fault::Shape,
-        };
-    }
+    let end = at + Partner::DENSE * count;
     let mut last = be64(g, at);
     let mut i = at + Partner::DENSE;
-    while i < g.len() {
+    while i < end {
         let hi = be64(g, i);
         if !precedes(g, i - Partner::DENSE, i, last, hi) {
-            return GroupVerdict::Bad {
-                fault: Fault::Shape,
-            };
+            return bad_group(Flaw::Order, i);
         }
         last = hi;
         i = i + Partner::DENSE;
+    }
+    if (count as u64) < degree {
+        return bad_group(Flaw::Cut, i);
+    }
+    if i < g.len() {
+        return bad_group(Flaw::Spare, i);
     }
     GroupVerdict::Good {
         degree,

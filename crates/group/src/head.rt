@@ -1,7 +1,10 @@
 // What stands before the partners: the degree as a varint, and the tag.
 ghost use mathlib.Core.Path.{_≡_};
+ghost use Rattle.group.specs.declared.head.Head.{Head};
+ghost use Rattle.group.specs.Fault.{faultAt};
 ghost use Rattle.group.specs.Group.{headOf};
 use super::fault::Fault;
+use super::fault::Flaw;
 use codes::varint::Varint;
 use codes::varint::short_at;
 
@@ -21,6 +24,15 @@ pub enum Head {
     Bad { fault: Fault },
 }
 
+// A flaw at a byte of the head.
+fn bad_head(flaw: Flaw, at: usize) -> Head
+    ensures { λ r. ⌜ r ≡ Head.Bad (faultAt flaw at) ⌝ }
+{
+    Head::Bad {
+        fault: Fault { flaw, at },
+    }
+}
+
 // Degree 0 is told before the tag is looked at.
 pub fn head_of(g: &[u8]) -> Head
     ensures { λ r. ⌜ r ≡ headOf (now (g .entry)) ⌝ }
@@ -28,32 +40,21 @@ pub fn head_of(g: &[u8]) -> Head
     match short_at(g, 0) {
         Varint::Value { value, next } => {
             if value == 0 {
-                return Head::Bad {
-                    fault: Fault::Shape,
-                };
+                return bad_head(Flaw::Degree, 0);
             }
             if g.len() <= next {
-                return Head::Bad {
-                    fault: Fault::Shape,
-                };
+                return bad_head(Flaw::Cut, next);
             }
             let tag = g[next];
+            let at = next + 1;
             if tag == Tag::SPLIT {
-                return Head::Split {
-                    degree: value,
-                    at: next + 1,
-                };
+                return Head::Split { degree: value, at };
             }
             if tag == Tag::DENSE {
-                return Head::Dense {
-                    degree: value,
-                    at: next + 1,
-                };
+                return Head::Dense { degree: value, at };
             }
-            Head::Bad { fault: Fault::Tag }
+            bad_head(Flaw::Tag, next)
         }
-        Varint::Bad { why } => Head::Bad {
-            fault: Fault::Number { why },
-        },
+        Varint::Bad { why } => bad_head(Flaw::Number { why }, 0),
     }
 }

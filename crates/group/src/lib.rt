@@ -7,6 +7,8 @@ ghost use lib.ListN.{length};
 ghost use lib.Dec.{ltb};
 ghost use Rattle.base.specs.Over.{over};
 ghost use Rattle.codes.specs.Ids.{idNumber};
+ghost use Rattle.group.specs.declared.GroupVerdict.{GroupVerdict};
+ghost use Rattle.group.specs.Fault.{faultAt};
 ghost use Rattle.group.specs.Group.{denseSize, groupOf, verdictOf, isGood, partnersOf, bytesOf};
 
 pub mod dense;
@@ -18,6 +20,7 @@ use codes::ids::Id;
 use dense::check_dense;
 use dense::fill_dense;
 use fault::Fault;
+use fault::Flaw;
 use head::Head;
 use head::head_of;
 use split::check_split;
@@ -36,6 +39,15 @@ impl Partner {
 pub enum GroupVerdict {
     Good { degree: u64, dense: bool },
     Bad { fault: Fault },
+}
+
+// A flaw at a byte of the group.
+fn bad_group(flaw: Flaw, at: usize) -> GroupVerdict
+    ensures { λ r. ⌜ r ≡ GroupVerdict.Bad (faultAt flaw at) ⌝ }
+{
+    GroupVerdict::Bad {
+        fault: Fault { flaw, at },
+    }
 }
 
 // Is a partner above the last one?

@@ -7,10 +7,14 @@ ghost use lib.ListN.{length};
 ghost use lib.Dec.{leb};
 ghost use Rattle.base.specs.Over.{over};
 ghost use Rattle.codes.specs.Ids.{idNumber};
+ghost use Rattle.group.specs.declared.split.Step.{Step};
+ghost use Rattle.group.specs.Fault.{faultAt};
 ghost use Rattle.group.specs.Group.{denseSize, splitStep, floorOf, walkFrom, verdictOf, isGood, partnersOf, bytesOf};
 use super::GroupVerdict;
 use super::Partner;
+use super::bad_group;
 use super::fault::Fault;
+use super::fault::Flaw;
 use super::rises;
 use codes::ids::Id;
 use codes::ids::put_be64;
@@ -24,6 +28,15 @@ pub enum Step {
     Bad { fault: Fault },
 }
 
+// A flaw of a partner, at its first byte.
+pub fn bad_step(flaw: Flaw, at: usize) -> Step
+    ensures { λ r. ⌜ r ≡ Step.Bad (faultAt flaw at) ⌝ }
+{
+    Step::Bad {
+        fault: Fault { flaw, at },
+    }
+}
+
 // The partner at i, after one with the upper half hi; the first comes after 0.
 pub fn split_step(g: &[u8], i: usize, hi: u64) -> Step
     ensures { λ r. ⌜ r ≡ splitStep (now (g .entry)) i hi ⌝ }
@@ -31,25 +44,20 @@ pub fn split_step(g: &[u8], i: usize, hi: u64) -> Step
     match short_at(g, i) {
         Varint::Value { value, next } => {
             if 18446744073709551615 - hi < value {
-                return Step::Bad {
-                    fault: Fault::Shape,
-                };
+                return bad_step(Flaw::Upper, i);
             }
             let after = next + Partner::LOWER;
             if g.len() < after {
-                return Step::Bad {
-                    fault: Fault::Shape,
-                };
+                return bad_step(Flaw::Cut, i);
             }
+            let upper = hi + value;
             let lo = le64(g, next);
             Step::Partner {
-                id: Id { hi: hi + value, lo },
+                id: Id { hi: upper, lo },
                 next: after,
             }
         }
-        Varint::Bad { why } => Step::Bad {
-            fault: Fault::Number { why },
-        },
+        Varint::Bad { why } => bad_step(Flaw::Number { why }, i),
     }
 }
 
@@ -74,9 +82,7 @@ pub fn check_split(g: &[u8], at: usize, degree: u64) -> GroupVerdict
         match split_step(g, i, last.hi) {
             Step::Partner { id, next } => {
                 if !in_order(k, last, id) {
-                    return GroupVerdict::Bad {
-                        fault: Fault::Shape,
-                    };
+                    return bad_group(Flaw::Order, i);
                 }
                 last = id;
                 i = next;
@@ -93,9 +99,7 @@ pub fn check_split(g: &[u8], at: usize, degree: u64) -> GroupVerdict
             dense: false,
         };
     }
-    GroupVerdict::Bad {
-        fault: Fault::Shape,
-    }
+    bad_group(Flaw::Spare, i)
 }
 
 // Writes the partners from `at` on, which were checked.

@@ -1,4 +1,5 @@
 pub mod Given
+pub mod Faults
 pub mod Later
 pub mod Calls
 pub mod Marked

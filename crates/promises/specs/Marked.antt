@@ -59,15 +59,15 @@ pub record Marked : Type 0 where
   pub c2 : (varBytes 127 ≡ 0x7f ∷ []) × (varintAt (0x7f ∷ []) 0 ≡ Value 127 1)
   pub c3 : (varBytes 128 ≡ 0x80 ∷ 0x01 ∷ []) × (varintAt (0x80 ∷ 0x01 ∷ []) 0 ≡ Value 128 2)
   pub c4 : (varBytes 300 ≡ 0xac ∷ 0x02 ∷ []) × (varintAt (0xac ∷ 0x02 ∷ []) 0 ≡ Value 300 2)
-  -- "5. `80 00` is refused": as a group's degree, 17 at the group
-  pub c5 : (varintAt (0x80 ∷ 0x00 ∷ []) 0 ≡ Bad Long) × ((g : ℕ) → Gives Check.Bad (groupCheck g (groupOf (0x80 ∷ 0x00 ∷ []))) 17 g 0)
+  -- "5. `80 00` is refused": as a group's degree, 34 at byte 0 of the group
+  pub c5 : (varintAt (0x80 ∷ 0x00 ∷ []) 0 ≡ Bad Long) × ((g : ℕ) → Gives Check.Bad (groupCheck g (groupOf (0x80 ∷ 0x00 ∷ []))) 34 0 g)
   -- "6. One partner, upper half 2^49 − 1: cost 15, split. 7. 2^49: cost 16, dense."
   pub c6 : (splitCost 0 (id (2 ^ 49 - 1) 1 ∷ []) ≡ 15) × (isDense 1 (id (2 ^ 49 - 1) 1 ∷ []) ≡ false)
   pub c7 : (splitCost 0 (id (2 ^ 49) 1 ∷ []) ≡ 16) × (isDense 1 (id (2 ^ 49) 1 ∷ []) ≡ true)
   -- "8. Two partners, upper halves 5 and 5, lower 1 and 2: .., 20 bytes."
   pub c8 : (groupBytes 1 (id 5 1 ∷ id 5 2 ∷ []) ≡ two 1 2) × (length (two 1 2) ≡ 20) × (groupOf (two 1 2) ≡ good false (id 5 1 ∷ id 5 2 ∷ []))
-  -- "9. The same with lower 2 and 2: 18."
-  pub c9 : (g : ℕ) → Gives Check.Bad (groupCheck g (groupOf (two 2 2))) 18 g 0
+  -- "9. The same with lower 2 and 2": 29 at the second partner, byte 11 of the group
+  pub c9 : (g : ℕ) → Gives Check.Bad (groupCheck g (groupOf (two 2 2))) 29 11 g
   -- "10. Degree 1,025 with 65,536 keys is dense; 1,024 isn't forced": any 1,025 partners; and 1,024 by their cost alone, so that
   -- those of the upper half 5 are split
   pub c10 : ((ps : List Id) → length ps ≡ 1025 → isDense 65536 ps ≡ true)
@@ -100,11 +100,11 @@ marked = record {
   c2 = (refl, refl);
   c3 = (refl, refl);
   c4 = (refl, refl);
-  c5 = (refl, λ g. record { refusal = Refusal.Varint g; is = refl; number = refl; place = refl; beside = refl });
+  c5 = (refl, λ g. record { refusal = Refusal.VarintLong 0 g; is = refl; number = refl; place = refl; beside = refl });
   c6 = (refl, refl);
   c7 = (refl, refl);
   c8 = (refl, refl, refl);
-  c9 = λ g. record { refusal = Refusal.Group g; is = refl; number = refl; place = refl; beside = refl };
+  c9 = λ g. record { refusal = Refusal.PartnerOrder 11 g; is = refl; number = refl; place = refl; beside = refl };
   c10 = (by-degree, by-cost, refl);
   c11 = (refl, refl);
   c12 = (refl, refl);

@@ -14,10 +14,11 @@ use codes::ids::id_at;
 use codes::little::le64;
 use frame::kind::Logs;
 use group::Partner;
-use group::fault::Fault;
+use group::fault::Flaw;
 use group::head::Head;
 use group::head::head_of;
 use group::split::Step;
+use group::split::bad_step;
 use group::split::split_step;
 use lookup::known::mark_at;
 
@@ -26,14 +27,10 @@ fn dense_step(g: &[u8], i: usize) -> Step
     ensures { λ r. ⌜ r ≡ denseStep (now (g .entry)) i ⌝ }
 {
     if g.len() < Partner::DENSE {
-        return Step::Bad {
-            fault: Fault::Shape,
-        };
+        return bad_step(Flaw::Cut, i);
     }
     if g.len() - Partner::DENSE < i {
-        return Step::Bad {
-            fault: Fault::Shape,
-        };
+        return bad_step(Flaw::Cut, i);
     }
     Step::Partner {
         id: id_at(g, i),

@@ -1,7 +1,9 @@
 -- The documents' table of refusals: the number of each case, and its place. Both are made from refusals.txt.
 use Prim.Native.Nat.{ℕ, _-_}
 use mathlib.Core.List.{List, [], _∷_}
+use mathlib.Core.Bool.{Bool, false, _||_}
 use lib.ListN.{getD}
+use lib.Dec.{eqb}
 use Rattle.refusal.specs.declared.Refusal.{Refusal}
 pub mod Laws
 
@@ -38,11 +40,7 @@ numberOf (Refusal.Offset index) = 14
 -- the fences break a rule
 numberOf Refusal.Fences = 15
 -- the group's tag is unknown
-numberOf (Refusal.Tag group) = 16
--- a varint is cut by the group's end, too long or too large
-numberOf (Refusal.Varint group) = 17
--- degree 0, order, upper half too large, group cut or overlong
-numberOf (Refusal.Group group) = 18
+numberOf (Refusal.Tag byte group) = 16
 -- an earlier degree is unreadable or 0, or the sum through this group is above the edge count
 numberOf (Refusal.Degrees group) = 19
 -- an output is too short
@@ -61,15 +59,38 @@ numberOf (Refusal.Unordered at) = 25
 numberOf Refusal.Bounds = 26
 -- a chunk would take the bytes of a running sum past 2^30
 numberOf Refusal.Chunk = 27
+-- the degree is 0
+numberOf (Refusal.DegreeZero byte group) = 28
+-- a partner is not above the one before
+numberOf (Refusal.PartnerOrder byte group) = 29
+-- a partner's upper half passes 2^64 - 1
+numberOf (Refusal.UpperHalf byte group) = 30
+-- the tag is missing, or a partner is cut, by the group's end
+numberOf (Refusal.GroupCut byte group) = 31
+-- bytes are left after the last partner
+numberOf (Refusal.SpareBytes byte group) = 32
+-- a varint is cut by the group's end, no byte left too
+numberOf (Refusal.VarintCut byte group) = 33
+-- a varint is not the shortest for its number
+numberOf (Refusal.VarintLong byte group) = 34
+-- a varint is 2^64 or more
+numberOf (Refusal.VarintLarge byte group) = 35
 
 -- numbers: to here
 
 -- the last of them
 abbrev pub lastNumber : ℕ
 -- last: from refusals.txt
-lastNumber = 27
+lastNumber = 35
 
 -- last: to here
+
+-- those that no refusal has any more
+abbrev pub isGone : ℕ → Bool
+-- gone: from refusals.txt
+isGone n = eqb n 17 || eqb n 18 || false
+
+-- gone: to here
 
 abbrev pub placeOf : Refusal → ℕ
 -- places: from refusals.txt
@@ -88,9 +109,7 @@ placeOf Refusal.Counts = 0
 placeOf (Refusal.Key index) = index
 placeOf (Refusal.Offset index) = index
 placeOf Refusal.Fences = 0
-placeOf (Refusal.Tag group) = group
-placeOf (Refusal.Varint group) = group
-placeOf (Refusal.Group group) = group
+placeOf (Refusal.Tag byte group) = byte
 placeOf (Refusal.Degrees group) = group
 placeOf (Refusal.Room needed) = needed
 placeOf Refusal.Record = 0
@@ -100,6 +119,14 @@ placeOf (Refusal.Batch at) = at
 placeOf (Refusal.Unordered at) = at
 placeOf Refusal.Bounds = 0
 placeOf Refusal.Chunk = 0
+placeOf (Refusal.DegreeZero byte group) = byte
+placeOf (Refusal.PartnerOrder byte group) = byte
+placeOf (Refusal.UpperHalf byte group) = byte
+placeOf (Refusal.GroupCut byte group) = byte
+placeOf (Refusal.SpareBytes byte group) = byte
+placeOf (Refusal.VarintCut byte group) = byte
+placeOf (Refusal.VarintLong byte group) = byte
+placeOf (Refusal.VarintLarge byte group) = byte
 
 -- places: to here
 
@@ -121,9 +148,7 @@ besideOf Refusal.Counts = 0
 besideOf (Refusal.Key index) = 0
 besideOf (Refusal.Offset index) = 0
 besideOf Refusal.Fences = 0
-besideOf (Refusal.Tag group) = 0
-besideOf (Refusal.Varint group) = 0
-besideOf (Refusal.Group group) = 0
+besideOf (Refusal.Tag byte group) = group
 besideOf (Refusal.Degrees group) = 0
 besideOf (Refusal.Room needed) = 0
 besideOf Refusal.Record = 0
@@ -133,6 +158,14 @@ besideOf (Refusal.Batch at) = 0
 besideOf (Refusal.Unordered at) = 0
 besideOf Refusal.Bounds = 0
 besideOf Refusal.Chunk = 0
+besideOf (Refusal.DegreeZero byte group) = group
+besideOf (Refusal.PartnerOrder byte group) = group
+besideOf (Refusal.UpperHalf byte group) = group
+besideOf (Refusal.GroupCut byte group) = group
+besideOf (Refusal.SpareBytes byte group) = group
+besideOf (Refusal.VarintCut byte group) = group
+besideOf (Refusal.VarintLong byte group) = group
+besideOf (Refusal.VarintLarge byte group) = group
 
 -- places beside: to here
 
@@ -141,8 +174,9 @@ abbrev pub refusalsAt : ℕ → ℕ → List Refusal
 -- all: from refusals.txt
 refusalsAt p q =
     Refusal.Size ∷ Refusal.Magic ∷ Refusal.Major ∷ Refusal.HeaderSize ∷ Refusal.Flags ∷ Refusal.TailMagic ∷ Refusal.FooterLength ∷ Refusal.FooterSum ∷ Refusal.Table ∷ Refusal.Codec p
-    ∷ Refusal.Range p ∷ Refusal.Counts ∷ Refusal.Key p ∷ Refusal.Offset p ∷ Refusal.Fences ∷ Refusal.Tag p ∷ Refusal.Varint p ∷ Refusal.Group p ∷ Refusal.Degrees p ∷ Refusal.Room p
-    ∷ Refusal.Record ∷ Refusal.Sum p ∷ Refusal.Data ∷ Refusal.Batch p ∷ Refusal.Unordered p ∷ Refusal.Bounds ∷ Refusal.Chunk ∷ []
+    ∷ Refusal.Range p ∷ Refusal.Counts ∷ Refusal.Key p ∷ Refusal.Offset p ∷ Refusal.Fences ∷ Refusal.Tag p q ∷ Refusal.Size ∷ Refusal.Size ∷ Refusal.Degrees p ∷ Refusal.Room p
+    ∷ Refusal.Record ∷ Refusal.Sum p ∷ Refusal.Data ∷ Refusal.Batch p ∷ Refusal.Unordered p ∷ Refusal.Bounds ∷ Refusal.Chunk ∷ Refusal.DegreeZero p q ∷ Refusal.PartnerOrder p q ∷ Refusal.UpperHalf p q
+    ∷ Refusal.GroupCut p q ∷ Refusal.SpareBytes p q ∷ Refusal.VarintCut p q ∷ Refusal.VarintLong p q ∷ Refusal.VarintLarge p q ∷ []
 
 -- all: to here
 

@@ -22,9 +22,7 @@ pub enum Refusal {
     Offset { index: u64 },
     Fences,
     // groups and lookups
-    Tag { group: u64 },
-    Varint { group: u64 },
-    Group { group: u64 },
+    Tag { byte: u64, group: u64 },
     Degrees { group: u64 },
     Room { needed: u64 },
     Record,
@@ -37,6 +35,15 @@ pub enum Refusal {
     Bounds,
     // the running sum
     Chunk,
+    // what is wrong with a group
+    DegreeZero { byte: u64, group: u64 },
+    PartnerOrder { byte: u64, group: u64 },
+    UpperHalf { byte: u64, group: u64 },
+    GroupCut { byte: u64, group: u64 },
+    SpareBytes { byte: u64, group: u64 },
+    VarintCut { byte: u64, group: u64 },
+    VarintLong { byte: u64, group: u64 },
+    VarintLarge { byte: u64, group: u64 },
     // cases: to here
 }
 
@@ -84,9 +91,7 @@ pub fn told_of(r: Refusal) -> Told
         Refusal::Key { index } => tell(13, index, 0),
         Refusal::Offset { index } => tell(14, index, 0),
         Refusal::Fences => tell(15, 0, 0),
-        Refusal::Tag { group } => tell(16, group, 0),
-        Refusal::Varint { group } => tell(17, group, 0),
-        Refusal::Group { group } => tell(18, group, 0),
+        Refusal::Tag { byte, group } => tell(16, byte, group),
         Refusal::Degrees { group } => tell(19, group, 0),
         Refusal::Room { needed } => tell(20, needed, 0),
         Refusal::Record => tell(21, 0, 0),
@@ -96,6 +101,14 @@ pub fn told_of(r: Refusal) -> Told
         Refusal::Unordered { at } => tell(25, at, 0),
         Refusal::Bounds => tell(26, 0, 0),
         Refusal::Chunk => tell(27, 0, 0),
+        Refusal::DegreeZero { byte, group } => tell(28, byte, group),
+        Refusal::PartnerOrder { byte, group } => tell(29, byte, group),
+        Refusal::UpperHalf { byte, group } => tell(30, byte, group),
+        Refusal::GroupCut { byte, group } => tell(31, byte, group),
+        Refusal::SpareBytes { byte, group } => tell(32, byte, group),
+        Refusal::VarintCut { byte, group } => tell(33, byte, group),
+        Refusal::VarintLong { byte, group } => tell(34, byte, group),
+        Refusal::VarintLarge { byte, group } => tell(35, byte, group),
         // told: to here
     }
 }

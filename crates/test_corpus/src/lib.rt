@@ -5,6 +5,7 @@ use codes::little::byte;
 use codes::little::le32;
 use refusal::Check;
 use refusal::Refusal;
+use refusal::told_of;
 use text::put_refused;
 use xxh3_whole::xxh3;
 
@@ -46,11 +47,13 @@ pub fn line(name: &[u8], said: &[u8]) {
     word(said);
 }
 
-// `refused N at P`, as the printed form has it.
+// `refused N at P`, as the printed form has it, and the place beside it.
 pub fn refused(refusal: Refusal) {
     let mut room = [0u8; 64];
     let n = put_refused(&mut room, 0, refusal);
     word(&room[0..n]);
+    word(b" beside");
+    number(told_of(refusal).beside);
 }
 
 // What a check says of a file.

@@ -19,25 +19,27 @@ use Rattle.codes.specs.Ids.{halvesAt, idNumber, idBytes}
 use Rattle.codes.specs.Ids.Laws.{length-idBytes}
 use Rattle.codes.specs.Varint.{varintAt}
 use Rattle.codes.specs.Varint.Laws.{varint-next}
+use Rattle.group.specs.declared.fault.Flaw.{Flaw}
 use Rattle.group.specs.declared.fault.Fault.{Fault}
 use Rattle.group.specs.declared.head.Head.{Head}
 use Rattle.group.specs.declared.split.Step.{Step}
 use Rattle.group.specs.declared.GroupVerdict.{GroupVerdict}
+use Rattle.group.specs.Fault.{faultAt}
 use Rattle.group.specs.Group.{splitTag, denseTag, Decoded, good, bad, onVarint, splitStep, denseStep, stepAt, onStep, cons, walkFrom, floorOf, degreeOf, headOf, onHead, groupOf, isGood, partnersOf, bytesOf, verdictOf}
 
 -- ---- a partner of a split group
 
 module _ (g : List ℕ) (i hi : ℕ) where
-  pub split-unread : (why : Unread) → varintAt g i ≡ Varint.Bad why → splitStep g i hi ≡ Step.Bad (Fault.Number why)
+  pub split-unread : (why : Unread) → varintAt g i ≡ Varint.Bad why → splitStep g i hi ≡ Step.Bad (faultAt (Flaw.Number why) i)
   unfolding splitStep onVarint
   split-unread why e = rw e
 
   module _ (v n : ℕ) (e : varintAt g i ≡ Value v n) where
-    pub split-over : 2 ^ 64 ≤ hi + v → splitStep g i hi ≡ Step.Bad Fault.Shape
+    pub split-over : 2 ^ 64 ≤ hi + v → splitStep g i hi ≡ Step.Bad (faultAt Flaw.Upper i)
     unfolding splitStep onVarint
     split-over h = rw e (simp (le-ltb (hi + v) (2 ^ 64) h))
 
-    pub split-short : hi + v < 2 ^ 64 → length g < n + 8 → splitStep g i hi ≡ Step.Bad Fault.Shape
+    pub split-short : hi + v < 2 ^ 64 → length g < n + 8 → splitStep g i hi ≡ Step.Bad (faultAt Flaw.Cut i)
     unfolding splitStep onVarint
     split-short h s = rw e (simp (lt-ltb (hi + v) (2 ^ 64) h, lt-leb (n + 8) (length g) s))
 
@@ -61,11 +63,11 @@ module _ (g : List ℕ) (i hi : ℕ) (p : Id) (m : ℕ) (e : splitStep g i hi �
               let r = sym (split-good g i hi v n q h s) ∙ e in
               record { fits = h; room = s; partner = cc; place = cc }
           | no s ↦
-              let r : Step.Bad Fault.Shape ≡ Step.Partner p m = sym (split-short g i hi v n q h (omega arith)) ∙ e in
+              let r : Step.Bad (faultAt Flaw.Cut i) ≡ Step.Partner p m = sym (split-short g i hi v n q h (omega arith)) ∙ e in
               let z : _≡_ {A = ℕ} 0 1 = cc in absurd (omega arith)
         ]
         | no h ↦
-            let r : Step.Bad Fault.Shape ≡ Step.Partner p m = sym (split-over g i hi v n q (omega arith)) ∙ e in
+            let r : Step.Bad (faultAt Flaw.Upper i) ≡ Step.Partner p m = sym (split-over g i hi v n q (omega arith)) ∙ e in
             let z : _≡_ {A = ℕ} 0 1 = cc in absurd (omega arith)
       ]
 
@@ -76,12 +78,12 @@ module _ (g : List ℕ) (i hi : ℕ) (p : Id) (m : ℕ) (e : splitStep g i hi �
       go : (t : Varint) → varintAt g i ≡ t → (v : ℕ) × (n : ℕ) × (varintAt g i ≡ Value v n)
       go (Value v n) q = (v, n, q)
       go (Varint.Bad why) q =
-          let r : Step.Bad (Fault.Number why) ≡ Step.Partner p m = sym (split-unread g i hi why q) ∙ e in
+          let r : Step.Bad (faultAt (Flaw.Number why) i) ≡ Step.Partner p m = sym (split-unread g i hi why q) ∙ e in
           let z : _≡_ {A = ℕ} 0 1 = cc in absurd (omega arith)
 
 -- ---- a partner of a dense group
 
-pub dense-short : (g : List ℕ) (i : ℕ) → length g < i + 16 → denseStep g i ≡ Step.Bad Fault.Shape
+pub dense-short : (g : List ℕ) (i : ℕ) → length g < i + 16 → denseStep g i ≡ Step.Bad (faultAt Flaw.Cut i)
 unfolding denseStep
 dense-short g i h = simp (lt-leb (i + 16) (length g) h)
 
@@ -94,7 +96,7 @@ dense-read g i p m e =
     elim (decLe (i + 16) (length g)) [
       | yes h ↦ let r = sym (dense-good g i h) ∙ e in (h, cc, cc)
       | no h ↦
-          let r : Step.Bad Fault.Shape ≡ Step.Partner p m = sym (dense-short g i (omega arith)) ∙ e in
+          let r : Step.Bad (faultAt Flaw.Cut i) ≡ Step.Partner p m = sym (dense-short g i (omega arith)) ∙ e in
           let z : _≡_ {A = ℕ} 0 1 = cc in absurd (omega arith)
     ]
 
@@ -139,17 +141,17 @@ above-next k last p h = simp (ne-eqb k 0 h)
 -- ---- what stands before the partners
 
 module _ (g : List ℕ) where
-  pub head-unread : (why : Unread) → varintAt g 0 ≡ Varint.Bad why → headOf g ≡ Head.Bad (Fault.Number why)
+  pub head-unread : (why : Unread) → varintAt g 0 ≡ Varint.Bad why → headOf g ≡ Head.Bad (faultAt (Flaw.Number why) 0)
   unfolding headOf degreeOf onVarint
   head-unread why e = rw e
 
   module _ (d n : ℕ) (e : varintAt g 0 ≡ Value d n) where
-    pub head-none : d ≡ 0 → headOf g ≡ Head.Bad Fault.Shape
+    pub head-none : d ≡ 0 → headOf g ≡ Head.Bad (faultAt Flaw.Degree 0)
     unfolding headOf degreeOf onVarint
     head-none h = rw e (simp (eq-eqb d 0 h))
 
     module _ (some : d ≡ 0 → ⊥) where
-      pub head-short : length g ≤ n → headOf g ≡ Head.Bad Fault.Shape
+      pub head-short : length g ≤ n → headOf g ≡ Head.Bad (faultAt Flaw.Cut n)
       unfolding headOf degreeOf onVarint
       head-short h = rw e (simp (ne-eqb d 0 some, le-leb (length g) n h))
 
@@ -163,7 +165,7 @@ module _ (g : List ℕ) where
         head-dense t =
             rw e (simp (ne-eqb d 0 some, lt-leb (length g) n h, ne-eqb (getD g n 0) 0x01 (λ q. omega arith), eq-eqb (getD g n 0) 0x10 t))
 
-        pub head-tag : (getD g n 0 ≡ 0x01 → ⊥) → (getD g n 0 ≡ 0x10 → ⊥) → headOf g ≡ Head.Bad Fault.Tag
+        pub head-tag : (getD g n 0 ≡ 0x01 → ⊥) → (getD g n 0 ≡ 0x10 → ⊥) → headOf g ≡ Head.Bad (faultAt Flaw.Tag n)
         unfolding headOf degreeOf onVarint
         head-tag a b = rw e (simp (ne-eqb d 0 some, lt-leb (length g) n h, ne-eqb (getD g n 0) 0x01 a, ne-eqb (getD g n 0) 0x10 b))
 
@@ -211,12 +213,12 @@ head-headed g dense d i e = go (varintAt g 0) refl
         let z : _≡_ {A = ℕ} 0 1 = cc in absurd (omega arith)
 
     go : (t : Varint) → varintAt g 0 ≡ t → Headed g dense d i
-    go (Varint.Bad why) q = not (Fault.Number why) (head-unread g why q)
+    go (Varint.Bad why) q = not (faultAt (Flaw.Number why) 0) (head-unread g why q)
     go (Value c n) q =
         elim (ℕ-discrete c 0) [
-          | yes z ↦ not Fault.Shape (head-none g c n q z)
+          | yes z ↦ not (faultAt Flaw.Degree 0) (head-none g c n q z)
           | no z ↦ elim (decLt n (length g)) [
-            | no h ↦ not Fault.Shape (head-short g c n q z (omega arith))
+            | no h ↦ not (faultAt Flaw.Cut n) (head-short g c n q z (omega arith))
             | yes h ↦ elim (ℕ-discrete (getD g n 0) 0x01) [
               | yes t ↦
                   let (k, same, place) = is-split dense c (n + 1) d i (sym (head-split g c n q z h t) ∙ e) in
@@ -225,7 +227,7 @@ head-headed g dense d i e = go (varintAt g 0) refl
                 | yes u ↦
                     let (k, same, place) = is-dense dense c (n + 1) d i (sym (head-dense g c n q z h u) ∙ e) in
                     record { some = omega arith; tag = n; degree = cc; tagged = rw k u; within = h; place = sym place }
-                | no u ↦ not Fault.Tag (head-tag g c n q z h t u)
+                | no u ↦ not (faultAt Flaw.Tag n) (head-tag g c n q z h t u)
               ]
             ]
           ]
@@ -249,7 +251,7 @@ module _ (dense : Bool) (g : List ℕ) (i hi floor : ℕ) where
   unfolding walkFrom
   walk-end h = simp (eq-eqb i (length g) h)
 
-  pub walk-over : (i ≡ length g → ⊥) → walkFrom dense 0 g i hi floor ≡ bad Fault.Shape
+  pub walk-over : (i ≡ length g → ⊥) → walkFrom dense 0 g i hi floor ≡ bad (faultAt Flaw.Spare i)
   unfolding walkFrom
   walk-over h = simp (ne-eqb i (length g) h)
 
@@ -259,7 +261,7 @@ module _ (dense : Bool) (g : List ℕ) (i hi floor : ℕ) where
     walk-bad f e = rw e
 
     module _ (p : Id) (n : ℕ) (e : stepAt dense g i hi ≡ Step.Partner p n) where
-      pub walk-low : leb floor (idNumber p) ≡ false → walkFrom dense (suc d) g i hi floor ≡ bad Fault.Shape
+      pub walk-low : leb floor (idNumber p) ≡ false → walkFrom dense (suc d) g i hi floor ≡ bad (faultAt Flaw.Order i)
       unfolding walkFrom onStep
       walk-low h = rw (e, h)
 
@@ -294,7 +296,7 @@ module _ (dense : Bool) (g : List ℕ) (i hi floor : ℕ) (b : Bool) (ps : List 
           let (qs, r, all) = cons-good p w b ps (sym (walk-more dense g i hi floor d p n q l) ∙ e) in
           record { partner = p; next = n; others = qs; step = q; order = leb-true floor (idNumber p) l; rest = r; all = all }
       low p n q false l =
-          let r : bad Fault.Shape ≡ good b ps = sym (walk-low dense g i hi floor d p n q l) ∙ e in
+          let r : bad (faultAt Flaw.Order i) ≡ good b ps = sym (walk-low dense g i hi floor d p n q l) ∙ e in
           let z : _≡_ {A = ℕ} 0 1 = cc in absurd (omega arith)
 
       go : (t : Step) → stepAt dense g i hi ≡ t → Turn dense d g i hi floor b ps
@@ -309,7 +311,7 @@ module _ (dense : Bool) (g : List ℕ) (i hi floor : ℕ) (b : Bool) (ps : List 
       elim (ℕ-discrete i (length g)) [
         | yes h ↦ let r = sym (walk-end dense g i hi floor h) ∙ e in (h, cc, cc)
         | no h ↦
-            let r : bad Fault.Shape ≡ good b ps = sym (walk-over dense g i hi floor h) ∙ e in
+            let r : bad (faultAt Flaw.Spare i) ≡ good b ps = sym (walk-over dense g i hi floor h) ∙ e in
             let z : _≡_ {A = ℕ} 0 1 = cc in absurd (omega arith)
       ]
 
@@ -398,7 +400,7 @@ module _ (dense : Bool) (g : List ℕ) (at degree : ℕ) where
           check-last ∙ ap (λ (w : Decoded). counted k (verdictOf w)) (walk-end dense g i hi floor e)
           ∙ ap (λ (t : ℕ). GroupVerdict.Good t dense) (omega arith)
 
-      pub check-over : (i ≡ length g → ⊥) → answered ≡ GroupVerdict.Bad Fault.Shape
+      pub check-over : (i ≡ length g → ⊥) → answered ≡ GroupVerdict.Bad (faultAt Flaw.Spare i)
       unfolding counted verdictOf
       check-over e = check-last ∙ ap (λ (w : Decoded). counted k (verdictOf w)) (walk-over dense g i hi floor e)
 
@@ -412,7 +414,7 @@ module _ (dense : Bool) (g : List ℕ) (at degree : ℕ) where
       check-bad f e = check-rest ∙ ap (λ (w : Decoded). counted k (verdictOf w)) (walk-bad dense g i hi floor (degree - (k + 1)) f e)
 
       module _ (p : Id) (n : ℕ) (e : stepAt dense g i hi ≡ Step.Partner p n) where
-        pub check-low : leb floor (idNumber p) ≡ false → answered ≡ GroupVerdict.Bad Fault.Shape
+        pub check-low : leb floor (idNumber p) ≡ false → answered ≡ GroupVerdict.Bad (faultAt Flaw.Order i)
         unfolding counted verdictOf
         check-low q = check-rest ∙ ap (λ (w : Decoded). counted k (verdictOf w)) (walk-low dense g i hi floor (degree - (k + 1)) p n e q)
 
@@ -429,23 +431,6 @@ floor-first k last h = simp (eq-eqb k 0 h)
 pub floor-next : (k : ℕ) (last : Id) → (k ≡ 0 → ⊥) → floorOf k last ≡ suc (idNumber last)
 unfolding floorOf
 floor-next k last h = simp (ne-eqb k 0 h)
-
--- a dense payload of another length has a fault, and every fault of it is a bad shape
-pub dense-unfit : (d : ℕ) (g : List ℕ) (i hi floor : ℕ) → (i + 16 * d ≡ length g → ⊥) → walkFrom true d g i hi floor ≡ bad Fault.Shape
-unfolding cons
-dense-unfit zero g i hi floor h = walk-over true g i hi floor (λ q. h (omega arith))
-dense-unfit (suc d) g i hi floor h =
-    let p = halvesAt g i in
-    let ih = dense-unfit d g (i + 16) (p .hi) (suc (idNumber p)) (λ q. h (omega arith)) in
-    elim (decLe (i + 16) (length g)) [
-      | yes r ↦
-          let s : stepAt true g i hi ≡ Step.Partner p (i + 16) = step-dense g i hi ∙ dense-good g i r in
-          elim (decLe floor (idNumber p)) [
-            | yes o ↦ walk-more true g i hi floor d p (i + 16) s (le-leb floor (idNumber p) o) ∙ ap (cons p) ih
-            | no o ↦ walk-low true g i hi floor d p (i + 16) s (lt-leb floor (idNumber p) (omega arith))
-          ]
-      | no r ↦ walk-bad true g i hi floor d Fault.Shape (step-dense g i hi ∙ dense-short g i (omega arith))
-    ]
 
 -- ---- as a fill meets them: the rest of a good group is good
 
@@ -485,7 +470,7 @@ module _ (g : List ℕ) (i hi floor : ℕ) where
         }
 
     pub fill-read : (why : Unread) → varintAt g i ≡ Varint.Bad why → ⊥
-    fill-read why q = not-bad ok (walk-bad false g i hi floor d (Fault.Number why) (step-split g i hi ∙ split-unread g i hi why q))
+    fill-read why q = not-bad ok (walk-bad false g i hi floor d (faultAt (Flaw.Number why) i) (step-split g i hi ∙ split-unread g i hi why q))
 
   -- nothing is left
   pub fill-end : bytesOf (partnersOf (walkFrom false 0 g i hi floor)) ≡ []

@@ -120,59 +120,95 @@ enum-known-r-7 c = search needs
 tell-requires-18 : tie.Need-tell-requires-18
 tell-requires-18 c κs = search needs
 
-enum-known-r-8 : tie.Need-enum-known-r-8
-enum-known-r-8 c = search needs
+enum-told-12 : tie.Need-enum-told-12
+enum-told-12 c = search needs
 
 tell-requires-19 : tie.Need-tell-requires-19
 tell-requires-19 c κs = search needs
 
-enum-known-r-9 : tie.Need-enum-known-r-9
-enum-known-r-9 c = search needs
+enum-known-r-8 : tie.Need-enum-known-r-8
+enum-known-r-8 c = search needs
 
 tell-requires-20 : tie.Need-tell-requires-20
 tell-requires-20 c κs = search needs
 
-enum-told-12 : tie.Need-enum-told-12
-enum-told-12 c = search needs
+enum-told-13 : tie.Need-enum-told-13
+enum-told-13 c = search needs
 
 tell-requires-21 : tie.Need-tell-requires-21
 tell-requires-21 c κs = search needs
 
-enum-known-r-10 : tie.Need-enum-known-r-10
-enum-known-r-10 c = search needs
+enum-known-r-9 : tie.Need-enum-known-r-9
+enum-known-r-9 c = search needs
 
 tell-requires-22 : tie.Need-tell-requires-22
 tell-requires-22 c κs = search needs
 
-enum-told-13 : tie.Need-enum-told-13
-enum-told-13 c = search needs
+enum-known-r-10 : tie.Need-enum-known-r-10
+enum-known-r-10 c = search needs
 
 tell-requires-23 : tie.Need-tell-requires-23
 tell-requires-23 c κs = search needs
 
-enum-known-r-11 : tie.Need-enum-known-r-11
-enum-known-r-11 c = search needs
+enum-told-14 : tie.Need-enum-told-14
+enum-told-14 c = search needs
 
 tell-requires-24 : tie.Need-tell-requires-24
 tell-requires-24 c κs = search needs
 
-enum-known-r-12 : tie.Need-enum-known-r-12
-enum-known-r-12 c = search needs
+enum-told-15 : tie.Need-enum-told-15
+enum-told-15 c = search needs
 
 tell-requires-25 : tie.Need-tell-requires-25
 tell-requires-25 c κs = search needs
 
-enum-told-14 : tie.Need-enum-told-14
-enum-told-14 c = search needs
+enum-known-r-11 : tie.Need-enum-known-r-11
+enum-known-r-11 c = search needs
 
 tell-requires-26 : tie.Need-tell-requires-26
 tell-requires-26 c κs = search needs
 
-enum-told-15 : tie.Need-enum-told-15
-enum-told-15 c = search needs
+enum-known-r-12 : tie.Need-enum-known-r-12
+enum-known-r-12 c = search needs
 
 tell-requires-27 : tie.Need-tell-requires-27
 tell-requires-27 c κs = search needs
+
+enum-known-r-13 : tie.Need-enum-known-r-13
+enum-known-r-13 c = search needs
+
+tell-requires-28 : tie.Need-tell-requires-28
+tell-requires-28 c κs = search needs
+
+enum-known-r-14 : tie.Need-enum-known-r-14
+enum-known-r-14 c = search needs
+
+tell-requires-29 : tie.Need-tell-requires-29
+tell-requires-29 c κs = search needs
+
+enum-known-r-15 : tie.Need-enum-known-r-15
+enum-known-r-15 c = search needs
+
+tell-requires-30 : tie.Need-tell-requires-30
+tell-requires-30 c κs = search needs
+
+enum-known-r-16 : tie.Need-enum-known-r-16
+enum-known-r-16 c = search needs
+
+tell-requires-31 : tie.Need-tell-requires-31
+tell-requires-31 c κs = search needs
+
+enum-known-r-17 : tie.Need-enum-known-r-17
+enum-known-r-17 c = search needs
+
+tell-requires-32 : tie.Need-tell-requires-32
+tell-requires-32 c κs = search needs
+
+enum-known-r-18 : tie.Need-enum-known-r-18
+enum-known-r-18 c = search needs
+
+tell-requires-33 : tie.Need-tell-requires-33
+tell-requires-33 c κs = search needs
 
 returns : tie.Need-returns
 returns c = is (c .before .enum-told .given .1) (c .tell .ensures)
@@ -229,31 +265,49 @@ returns-18 : tie.Need-returns-18
 returns-18 c = is (c .before .before .r7 .given .1) (c .tell18 .ensures)
 
 returns-19 : tie.Need-returns-19
-returns-19 c = is (c .before .before .r8 .given .1) (c .tell19 .ensures)
+returns-19 c = is (c .before .enum-told12 .given .1) (c .tell19 .ensures)
 
 returns-20 : tie.Need-returns-20
-returns-20 c = is (c .before .before .r9 .given .1) (c .tell20 .ensures)
+returns-20 c = is (c .before .before .r8 .given .1) (c .tell20 .ensures)
 
 returns-21 : tie.Need-returns-21
-returns-21 c = is (c .before .enum-told12 .given .1) (c .tell21 .ensures)
+returns-21 c = is (c .before .enum-told13 .given .1) (c .tell21 .ensures)
 
 returns-22 : tie.Need-returns-22
-returns-22 c = is (c .before .before .r10 .given .1) (c .tell22 .ensures)
+returns-22 c = is (c .before .before .r9 .given .1) (c .tell22 .ensures)
 
 returns-23 : tie.Need-returns-23
-returns-23 c = is (c .before .enum-told13 .given .1) (c .tell23 .ensures)
+returns-23 c = is (c .before .before .r10 .given .1) (c .tell23 .ensures)
 
 returns-24 : tie.Need-returns-24
-returns-24 c = is (c .before .before .r11 .given .1) (c .tell24 .ensures)
+returns-24 c = is (c .before .enum-told14 .given .1) (c .tell24 .ensures)
 
 returns-25 : tie.Need-returns-25
-returns-25 c = is (c .before .before .r12 .given .1) (c .tell25 .ensures)
+returns-25 c = is (c .before .enum-told15 .given .1) (c .tell25 .ensures)
 
 returns-26 : tie.Need-returns-26
-returns-26 c = is (c .before .enum-told14 .given .1) (c .tell26 .ensures)
+returns-26 c = is (c .before .before .r11 .given .1) (c .tell26 .ensures)
 
 returns-27 : tie.Need-returns-27
-returns-27 c = is (c .before .enum-told15 .given .1) (c .tell27 .ensures)
+returns-27 c = is (c .before .before .r12 .given .1) (c .tell27 .ensures)
+
+returns-28 : tie.Need-returns-28
+returns-28 c = is (c .before .before .r13 .given .1) (c .tell28 .ensures)
+
+returns-29 : tie.Need-returns-29
+returns-29 c = is (c .before .before .r14 .given .1) (c .tell29 .ensures)
+
+returns-30 : tie.Need-returns-30
+returns-30 c = is (c .before .before .r15 .given .1) (c .tell30 .ensures)
+
+returns-31 : tie.Need-returns-31
+returns-31 c = is (c .before .before .r16 .given .1) (c .tell31 .ensures)
+
+returns-32 : tie.Need-returns-32
+returns-32 c = is (c .before .before .r17 .given .1) (c .tell32 .ensures)
+
+returns-33 : tie.Need-returns-33
+returns-33 c = is (c .before .before .r18 .given .1) (c .tell33 .ensures)
 
 pub told-of-spec : {M : Type 1} → statement M
 told-of-spec =
@@ -295,24 +349,36 @@ told-of-spec =
     tell-requires-17
     enum-known-r-7
     tell-requires-18
-    enum-known-r-8
-    tell-requires-19
-    enum-known-r-9
-    tell-requires-20
     enum-told-12
-    tell-requires-21
-    enum-known-r-10
-    tell-requires-22
+    tell-requires-19
+    enum-known-r-8
+    tell-requires-20
     enum-told-13
+    tell-requires-21
+    enum-known-r-9
+    tell-requires-22
+    enum-known-r-10
     tell-requires-23
-    enum-known-r-11
-    tell-requires-24
-    enum-known-r-12
-    tell-requires-25
     enum-told-14
-    tell-requires-26
+    tell-requires-24
     enum-told-15
+    tell-requires-25
+    enum-known-r-11
+    tell-requires-26
+    enum-known-r-12
     tell-requires-27
+    enum-known-r-13
+    tell-requires-28
+    enum-known-r-14
+    tell-requires-29
+    enum-known-r-15
+    tell-requires-30
+    enum-known-r-16
+    tell-requires-31
+    enum-known-r-17
+    tell-requires-32
+    enum-known-r-18
+    tell-requires-33
     returns
     returns-2
     returns-3
@@ -339,4 +405,10 @@ told-of-spec =
     returns-24
     returns-25
     returns-26
-    returns-27)
+    returns-27
+    returns-28
+    returns-29
+    returns-30
+    returns-31
+    returns-32
+    returns-33)

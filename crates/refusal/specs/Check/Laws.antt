@@ -1,11 +1,13 @@
 -- The laws of rules in their order, and of the tests that they are made of.
 use mathlib.Core.Path.{_≡_, refl, sym, ap, _∙_}
 use mathlib.Core.Logic.{_↔_, _⊎_, inl, inr, ⊎-elim}
-use Prim.Native.Nat.{ℕ, _≤_, _<_}
+use Prim.Native.Nat.{ℕ, zero, suc, _≤_, _<_}
 use native.Mathlib.Omega.{arith}
 use mathlib.Core.Bool.{Bool, true, false, not, _&&_, _||_}
+use mathlib.Core.List.{List, [], _∷_}
+use lib.ListN.{length, getD}
 use lib.Dec.{leb}
-use borrow.Author.Tests.{leb-true}
+use borrow.Author.Tests.{le-leb, leb-true}
 use Rattle.base.specs.Pick.{pick}
 use Rattle.refusal.specs.declared.Refusal.{Refusal}
 use Rattle.refusal.specs.declared.Check.{Check}
@@ -135,6 +137,30 @@ module _ (low high : ℕ) where
   pub numbers-pick : (t : Bool) (a b : Check) → Numbers low high a → Numbers low high b → Numbers low high (pick t a b)
   numbers-pick true a b m n = m
   numbers-pick false a b m n = n
+
+-- the same as a test of the number
+abbrev pub between : ℕ → ℕ → ℕ → Bool
+between low high n = leb low n && leb n high
+
+abbrev pub Among : (ℕ → Bool) → Check → Type 0
+Among test c = (r : Refusal) → c ≡ Check.Bad r → test (numberOf r) ≡ true
+
+pub numbers-among : (low high : ℕ) {c : Check} → Numbers low high c → Among (between low high) c
+numbers-among low high n r e = let h = n r e in and-both (le-leb low (numberOf r) (h .0)) (le-leb (numberOf r) high (h .1))
+
+-- no number of a list passes a test
+abbrev pub noneOf : (ℕ → Bool) → List ℕ → Bool
+noneOf test [] = true
+noneOf test (n ∷ ns) = not (test n) && noneOf test ns
+
+pub none-at : (test : ℕ → Bool) (ns : List ℕ) (k : ℕ) → k < length ns → noneOf test ns ≡ true → test (getD ns k 0) ≡ false
+none-at test [] k h e = absurd (omega arith)
+none-at test (n ∷ ns) zero h e = fails (test n) (and-parts (not (test n)) (noneOf test ns) e .0)
+  where
+    fails : (b : Bool) → not b ≡ true → b ≡ false
+    fails true q = let z : _≡_ {A = ℕ} 0 1 = cc in absurd (omega arith)
+    fails false q = refl
+none-at test (n ∷ ns) (suc k) h e = none-at test ns k (omega arith) (and-parts (not (test n)) (noneOf test ns) e .1)
 
 -- another number is never given
 pub below : (low high : ℕ) {c : Check} → Numbers low high c → (r : Refusal) → numberOf r < low → c ≡ Check.Bad r → ⊥

@@ -23,6 +23,18 @@ part-word-end c = let n = length-refused (c .before .before .before .before .arg
 word-requires : tie.Need-word-requires
 word-requires c κs = search needs
 
+slice-aggregate-word : tie.Need-slice-aggregate-word
+slice-aggregate-word c = search needs
+
+word-requires-2 : tie.Need-word-requires-2
+word-requires-2 c κs = search needs
+
+told-of-requires : tie.Need-told-of-requires
+told-of-requires c κs = search needs
+
+number-requires : tie.Need-number-requires
+number-requires c κs = search needs
+
 returns : tie.Need-returns
 returns c = search needs
 
@@ -36,4 +48,8 @@ refused-spec =
     part-word-start
     part-word-end
     word-requires
+    slice-aggregate-word
+    word-requires-2
+    told-of-requires
+    number-requires
     returns)

@@ -10,9 +10,9 @@ use borrow.Author.Tests.{not-true, not-false, le-leb}
 use Rattle.codes.specs.Ids.{beAt, idAt, halvesAt, idNumber}
 use Rattle.codes.specs.Ids.Laws.{number-halves}
 use Rattle.group.specs.declared.GroupVerdict.{GroupVerdict}
-use Rattle.group.specs.declared.fault.Fault.{Fault}
-use Rattle.group.specs.Group.{verdictOf}
-use Rattle.group.specs.Group.Laws.{answered, Checked, check-start, check-end, check-low, check-more, dense-at, dense-unfit, answer-bad}
+use Rattle.group.specs.declared.fault.Flaw.{Flaw}
+use Rattle.group.specs.Fault.{faultAt}
+use Rattle.group.specs.Group.Laws.{answered, Checked, check-start, check-end, check-over, check-bad, check-low, check-more, step-dense, dense-short, dense-at}
 use borrow.Author.Needs.{needs}
 use Rattle.group.proofs.dense.check_dense.Statement.{statement}
 use Rattle.group.proofs.dense.check_dense.Tie as tie
@@ -43,7 +43,7 @@ module _ (g : List ℕ) (at degree : ℕ) where
     compared : (b : Bool) → ltb (idAt g (i - 16)) (idAt g i) ≡ b → ltb (idNumber (halvesAt g (i - 16))) (idNumber (halvesAt g i)) ≡ b
     compared b q = ap₂ ltb (number-halves g (i - 16)) (number-halves g i) ∙ q
 
-    passed-low : ltb (idAt g (i - 16)) (idAt g i) ≡ false → answered true g at degree ≡ GroupVerdict.Bad Fault.Shape
+    passed-low : ltb (idAt g (i - 16)) (idAt g i) ≡ false → answered true g at degree ≡ GroupVerdict.Bad (faultAt Flaw.Order i)
     passed-low q =
         check-low true g at degree i k (halvesAt g (i - 16) .hi) (suc (idNumber (halvesAt g (i - 16)))) (l .4) lt
         (halvesAt g i) (i + 16) (dense-at g i (halvesAt g (i - 16) .hi) refl room) (compared false q)
@@ -59,24 +59,36 @@ module _ (g : List ℕ) (at degree : ℕ) where
         let place = l .1 in
         (omega arith, omega arith, omega arith, rw back e, rw back (next q))
 
+  -- the next partner does not lie whole
+  cut : (i k hi floor : ℕ) → Checked true g at degree i k hi floor → k < degree → length g < i + 16 → answered true g at degree ≡ GroupVerdict.Bad (faultAt Flaw.Cut i)
+  cut i k hi floor l lt few = check-bad true g at degree i k hi floor l lt (faultAt Flaw.Cut i) (step-dense g i hi ∙ dense-short g i few)
+
 abbrev Inv-loop : tie.InvT-loop
-Inv-loop g at degree rest count last₀ i₀ last i = (k : ℕ) × Passed g at degree last i k
+Inv-loop g at degree count end last₀ i₀ last i = (k : ℕ) × (k ≤ count) × Passed g at degree last i k
 
 abbrev μ-loop : tie.MeasureT-loop
-μ-loop g at degree rest count last₀ i₀ last i = length g - i
+μ-loop g at degree count end last₀ i₀ last i = length g - i
 
-sub-rest : tie.Need-sub-rest Inv-loop μ-loop
-sub-rest c = omega arith
+sub-whole : tie.Need-sub-whole Inv-loop μ-loop
+sub-whole c = omega arith
+
+whole-requires : tie.Need-whole-requires Inv-loop μ-loop
+whole-requires c κs = search needs
+
+bad-group-requires : tie.Need-bad-group-requires Inv-loop μ-loop
+bad-group-requires c κs = search needs
 
 returns : tie.Need-returns Inv-loop μ-loop
 returns c =
-    let a = c .before .before .args in
-    sym (ap verdictOf (dense-unfit (a .degree) (a .g .now) (a .at) 0 0 (λ q. omega arith)) ∙ answer-bad _)
+    let a = c .before .before .before .before .args in
+    let few = c .before .before .whole .ensures .2 (omega arith) in
+    c .bad-group .ensures ∙ sym (cut (a .g .now) (a .at) (a .degree) (a .at) 0 0 0 (check-start true (a .g .now) (a .at) (a .degree)) (omega arith) (omega arith))
 
-returns-2 : tie.Need-returns-2 Inv-loop μ-loop
-returns-2 c =
-    let a = c .before .before .before .args in
-    sym (ap verdictOf (dense-unfit (a .degree) (a .g .now) (a .at) 0 0 (λ q. omega arith)) ∙ answer-bad _)
+mul-end : tie.Need-mul-end Inv-loop μ-loop
+mul-end c = omega arith
+
+add-end : tie.Need-add-end Inv-loop μ-loop
+add-end c = omega arith
 
 be64-requires : tie.Need-be64-requires Inv-loop μ-loop
 be64-requires c κs = omega arith
@@ -87,7 +99,7 @@ add-i c = omega arith
 loop-holds : tie.Need-loop-holds Inv-loop μ-loop
 loop-holds c =
     let a = c .before .before .before .before .args in
-    (1, passed-first (a .g .now) (a .at) (a .degree) (omega arith) (omega arith) (c .be64 .ensures))
+    (1, omega arith, passed-first (a .g .now) (a .at) (a .degree) (omega arith) (omega arith) (c .be64 .ensures))
 
 be64-requires-2 : tie.Need-be64-requires-2 Inv-loop μ-loop
 be64-requires-2 c κs = omega arith
@@ -97,14 +109,19 @@ sub-precedes c = omega arith
 
 precedes-requires : tie.Need-precedes-requires Inv-loop μ-loop
 precedes-requires c κs =
-    let l = c .before .before .loop .inv .1 in
+    let l = c .before .before .loop .inv .2 in
     (omega arith, omega arith, l .3, c .be642 .ensures)
 
-returns-3 : tie.Need-returns-3 Inv-loop μ-loop
-returns-3 c =
-    let a = c .before .before .before .before .before .before .before .before .before .args in
-    let l = c .before .before .before .before .loop in
-    sym (passed-low (a .g .now) (a .at) (a .degree) (l .last) (l .i) (l .inv .0) (l .inv .1) (omega arith) (omega arith) (sym (c .before .precedes .ensures) ∙ not-true _ (c .if3 .taken)))
+bad-group-requires-2 : tie.Need-bad-group-requires-2 Inv-loop μ-loop
+bad-group-requires-2 c κs = search needs
+
+returns-2 : tie.Need-returns-2 Inv-loop μ-loop
+returns-2 c =
+    let p = c .before in
+    let a = p .before .before .before .before .before .before .before .before .before .args in
+    let l = p .before .before .before .before .loop in
+    c .bad-group2 .ensures
+    ∙ sym (passed-low (a .g .now) (a .at) (a .degree) (l .last) (l .i) (l .inv .0) (l .inv .2) (omega arith) (omega arith) (sym (p .before .precedes .ensures) ∙ not-true _ (p .if2 .taken)))
 
 add-i-2 : tie.Need-add-i-2 Inv-loop μ-loop
 add-i-2 c = omega arith
@@ -116,13 +133,34 @@ loop-again : tie.Need-loop-again Inv-loop μ-loop
 loop-again c =
     let a = c .before .before .before .before .before .before .before .before .before .args in
     let l = c .before .before .before .before .loop in
-    (l .inv .0 + 1, passed-on (a .g .now) (a .at) (a .degree) (l .last) (l .i) (l .inv .0) (l .inv .1) (omega arith) (omega arith) (c .before .before .be642 .ensures) (sym (c .before .precedes .ensures) ∙ not-false _ (c .if3 .left)))
+    (l .inv .0 + 1, omega arith, passed-on (a .g .now) (a .at) (a .degree) (l .last) (l .i) (l .inv .0) (l .inv .2) (omega arith) (omega arith) (c .before .before .be642 .ensures) (sym (c .before .precedes .ensures) ∙ not-false _ (c .if2 .left)))
+
+bad-group-requires-3 : tie.Need-bad-group-requires-3 Inv-loop μ-loop
+bad-group-requires-3 c κs = search needs
+
+returns-3 : tie.Need-returns-3 Inv-loop μ-loop
+returns-3 c =
+    let p = c .before in
+    let a = p .before .before .before .before .before .before .before .args in
+    let l = p .before .before .loop in
+    let few = p .before .before .before .before .before .whole .ensures .2 (p .if3 .taken) in
+    c .bad-group3 .ensures ∙ sym (cut (a .g .now) (a .at) (a .degree) (l .i) (l .inv .0) _ _ (l .inv .2 .4) (omega arith) (omega arith))
+
+bad-group-requires-4 : tie.Need-bad-group-requires-4 Inv-loop μ-loop
+bad-group-requires-4 c κs = search needs
 
 returns-4 : tie.Need-returns-4 Inv-loop μ-loop
 returns-4 c =
-    let a = c .before .before .before .before .before .before .args in
-    let l = c .before .loop in
-    sym (check-end true (a .g .now) (a .at) (a .degree) (l .i) (l .inv .0) _ _ (l .inv .1 .4) (omega arith) (omega arith) (omega arith))
+    let p = c .before in
+    let a = p .before .before .before .before .before .before .before .before .args in
+    let l = p .before .before .before .loop in
+    c .bad-group4 .ensures ∙ sym (check-over true (a .g .now) (a .at) (a .degree) (l .i) (l .inv .0) _ _ (l .inv .2 .4) (omega arith) (λ q. omega arith))
+
+returns-5 : tie.Need-returns-5 Inv-loop μ-loop
+returns-5 c =
+    let a = c .before .before .before .before .before .before .before .before .args in
+    let l = c .before .before .before .loop in
+    sym (check-end true (a .g .now) (a .at) (a .degree) (l .i) (l .inv .0) _ _ (l .inv .2 .4) (omega arith) (omega arith) (omega arith))
 
 pub check-dense-spec : {M : Type 1} → statement M
 check-dense-spec =
@@ -130,17 +168,25 @@ check-dense-spec =
     (tie.spec
     Inv-loop
     μ-loop
-    sub-rest
+    sub-whole
+    whole-requires
+    bad-group-requires
     returns
-    returns-2
+    mul-end
+    add-end
     be64-requires
     add-i
     loop-holds
     be64-requires-2
     sub-precedes
     precedes-requires
-    returns-3
+    bad-group-requires-2
+    returns-2
     add-i-2
     loop-less
     loop-again
-    returns-4)
+    bad-group-requires-3
+    returns-3
+    bad-group-requires-4
+    returns-4
+    returns-5)

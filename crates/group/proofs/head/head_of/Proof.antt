@@ -17,27 +17,33 @@ short-at-requires c κs = search needs
 enum-known-value : tie.Need-enum-known-value
 enum-known-value c = search needs
 
+bad-head-requires : tie.Need-bad-head-requires
+bad-head-requires c κs = search needs
+
 returns : tie.Need-returns
 returns c =
-    let p = c .before in
-    let a = p .before .before .before .before .before .args in
-    let d = p .before .value .given .0 .0 in
-    let n = p .before .value .given .0 .1 .0 in
-    sym (head-none (a .g .now) d n (got p) (c .if1 .taken))
-
-returns-2 : tie.Need-returns-2
-returns-2 c =
     let p = c .before .before in
     let a = p .before .before .before .before .before .args in
     let d = p .before .value .given .0 .0 in
     let n = p .before .value .given .0 .1 .0 in
-    sym (head-short (a .g .now) d n (got p) (c .before .if1 .left) (c .if2 .taken))
+    c .bad-head .ensures ∙ sym (head-none (a .g .now) d n (got p) (c .before .if1 .taken))
+
+bad-head-requires-2 : tie.Need-bad-head-requires-2
+bad-head-requires-2 c κs = search needs
+
+returns-2 : tie.Need-returns-2
+returns-2 c =
+    let p = c .before .before .before in
+    let a = p .before .before .before .before .before .args in
+    let d = p .before .value .given .0 .0 in
+    let n = p .before .value .given .0 .1 .0 in
+    c .bad-head2 .ensures ∙ sym (head-short (a .g .now) d n (got p) (c .before .before .if1 .left) (c .before .if2 .taken))
 
 shared-slice-read-tag : tie.Need-shared-slice-read-tag
 shared-slice-read-tag c = search needs
 
-add-t14 : tie.Need-add-t14
-add-t14 c = search needs
+add-at : tie.Need-add-at
+add-at c = search needs
 
 returns-3 : tie.Need-returns-3
 returns-3 c =
@@ -45,10 +51,7 @@ returns-3 c =
     let a = p .before .before .before .before .before .args in
     let d = p .before .value .given .0 .0 in
     let n = p .before .value .given .0 .1 .0 in
-    let e = head-split (a .g .now) d n (got p) (c .before .before .before .if1 .left) (c .before .before .if2 .left) (c .if3 .taken) in sym e
-
-add-t15 : tie.Need-add-t15
-add-t15 c = search needs
+    sym (head-split (a .g .now) d n (got p) (c .before .before .before .if1 .left) (c .before .before .if2 .left) (c .if3 .taken))
 
 returns-4 : tie.Need-returns-4
 returns-4 c =
@@ -56,21 +59,30 @@ returns-4 c =
     let a = p .before .before .before .before .before .args in
     let d = p .before .value .given .0 .0 in
     let n = p .before .value .given .0 .1 .0 in
-    let e = head-dense (a .g .now) d n (got p) (c .before .before .before .before .if1 .left) (c .before .before .before .if2 .left) (c .if4 .taken) in sym e
+    sym (head-dense (a .g .now) d n (got p) (c .before .before .before .before .if1 .left) (c .before .before .before .if2 .left) (c .if4 .taken))
+
+bad-head-requires-3 : tie.Need-bad-head-requires-3
+bad-head-requires-3 c κs = search needs
+
+returns-5 : tie.Need-returns-5
+returns-5 c =
+    let p = c .before .before .before .before .before .before in
+    let a = p .before .before .before .before .before .args in
+    let d = p .before .value .given .0 .0 in
+    let n = p .before .value .given .0 .1 .0 in
+    c .bad-head3 .ensures
+    ∙ sym (head-tag (a .g .now) d n (got p) (c .before .before .before .before .before .if1 .left) (c .before .before .before .before .if2 .left) (c .before .before .if3 .left) (c .before .if4 .left))
 
 enum-known-why : tie.Need-enum-known-why
 enum-known-why c = search needs
 
-returns-5 : tie.Need-returns-5
-returns-5 c =
-    let p = c .before .before .before .before .before in
-    let a = p .before .before .before .before .before .args in
-    let d = p .before .value .given .0 .0 in
-    let n = p .before .value .given .0 .1 .0 in
-    sym (head-tag (a .g .now) d n (got p) (c .before .before .before .before .if1 .left) (c .before .before .before .if2 .left) (c .before .if3 .left) (c .if4 .left))
+bad-head-requires-4 : tie.Need-bad-head-requires-4
+bad-head-requires-4 c κs = search needs
 
 returns-6 : tie.Need-returns-6
-returns-6 c = sym (head-unread (c .before .before .before .before .before .args .g .now) _ (sym (c .before .before .before .short-at .ensures) ∙ c .before .why .given .1))
+returns-6 c =
+    let p = c .before in
+    c .bad-head4 .ensures ∙ sym (head-unread (p .before .before .before .before .before .args .g .now) _ (sym (p .before .before .before .short-at .ensures) ∙ p .before .why .given .1))
 
 pub head-of-spec : {M : Type 1} → statement M
 head-of-spec =
@@ -78,13 +90,16 @@ head-of-spec =
     (tie.spec
     short-at-requires
     enum-known-value
+    bad-head-requires
     returns
+    bad-head-requires-2
     returns-2
     shared-slice-read-tag
-    add-t14
+    add-at
     returns-3
-    add-t15
     returns-4
+    bad-head-requires-3
     enum-known-why
+    bad-head-requires-4
     returns-5
     returns-6)

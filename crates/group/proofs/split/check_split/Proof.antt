@@ -30,14 +30,19 @@ enum-known-id c = search needs
 in-order-requires : tie.Need-in-order-requires Inv-loop μ-loop
 in-order-requires c κs = search needs
 
+bad-group-requires : tie.Need-bad-group-requires Inv-loop μ-loop
+bad-group-requires c κs = search needs
+
 returns : tie.Need-returns Inv-loop μ-loop
 returns c =
-    let a = c .before .before .before .before .before .before .before .before .before .args in
-    let l = c .before .before .before .before .before .before .before .loop in
-    let p = c .before .before .before .id .given .0 .0 in
-    let n = c .before .before .before .id .given .0 .1 .0 in
-    let e = step-split (a .g .now) (l .i) (l .last .hi) ∙ sym (c .before .before .before .before .before .split-step .ensures) ∙ c .before .before .before .id .given .1 in
-    sym (check-low false (a .g .now) (a .at) (a .degree) (l .i) (l .k) (l .last .hi) (floorOf (l .k) (l .last)) (l .inv .1) (c .before .before .before .before .before .before .loop-test .taken) p n e (sym (c .before .in-order .ensures) ∙ not-true _ (c .if1 .taken)))
+    let p = c .before in
+    let a = p .before .before .before .before .before .before .before .before .before .args in
+    let l = p .before .before .before .before .before .before .before .loop in
+    let q = p .before .before .before .id .given .0 .0 in
+    let n = p .before .before .before .id .given .0 .1 .0 in
+    let e = step-split (a .g .now) (l .i) (l .last .hi) ∙ sym (p .before .before .before .before .before .split-step .ensures) ∙ p .before .before .before .id .given .1 in
+    c .bad-group .ensures
+    ∙ sym (check-low false (a .g .now) (a .at) (a .degree) (l .i) (l .k) (l .last .hi) (floorOf (l .k) (l .last)) (l .inv .1) (p .before .before .before .before .before .before .loop-test .taken) q n e (sym (p .before .in-order .ensures) ∙ not-true _ (p .if1 .taken)))
 
 add-k : tie.Need-add-k Inv-loop μ-loop
 add-k c = omega arith
@@ -70,11 +75,16 @@ returns-3 c =
     let l = c .before .before .loop in
     sym (check-end false (a .g .now) (a .at) (a .degree) (l .i) (l .k) (l .last .hi) (floorOf (l .k) (l .last)) (l .inv .1) (c .before .loop-test .left) (l .inv .0) (c .if2 .taken))
 
+bad-group-requires-2 : tie.Need-bad-group-requires-2 Inv-loop μ-loop
+bad-group-requires-2 c κs = search needs
+
 returns-4 : tie.Need-returns-4 Inv-loop μ-loop
 returns-4 c =
-    let a = c .before .before .before .before .args in
-    let l = c .before .before .loop in
-    sym (check-over false (a .g .now) (a .at) (a .degree) (l .i) (l .k) (l .last .hi) (floorOf (l .k) (l .last)) (l .inv .1) (c .before .loop-test .left) (c .if2 .left))
+    let p = c .before in
+    let a = p .before .before .before .before .args in
+    let l = p .before .before .loop in
+    c .bad-group2 .ensures
+    ∙ sym (check-over false (a .g .now) (a .at) (a .degree) (l .i) (l .k) (l .last .hi) (floorOf (l .k) (l .last)) (l .inv .1) (p .before .loop-test .left) (p .if2 .left))
 
 pub check-split-spec : {M : Type 1} → statement M
 check-split-spec =
@@ -86,6 +96,7 @@ check-split-spec =
     split-step-requires
     enum-known-id
     in-order-requires
+    bad-group-requires
     returns
     add-k
     loop-less
@@ -93,4 +104,5 @@ check-split-spec =
     enum-known-fault
     returns-2
     returns-3
+    bad-group-requires-2
     returns-4)

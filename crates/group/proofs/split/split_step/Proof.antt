@@ -31,13 +31,17 @@ enum-known-value c = search needs
 sub-if1 : tie.Need-sub-if1
 sub-if1 c = search needs
 
+bad-step-requires : tie.Need-bad-step-requires
+bad-step-requires c κs = search needs
+
 returns : tie.Need-returns
 returns c =
-    let p = c .before in
+    let p = c .before .before in
     let a = p .before .before .before .before .before .args in
     let v = p .before .value .given .0 .0 in
     let n = p .before .value .given .0 .1 .0 in
-    sym (split-over (a .g .now) (a .i) (a .hi) v n (got p) (passes (a .hi) v (p .before .before .before .before .before .fits .hi .fits) (c .if1 .taken)))
+    c .bad-step .ensures
+    ∙ sym (split-over (a .g .now) (a .i) (a .hi) v n (got p) (passes (a .hi) v (p .before .before .before .before .before .fits .hi .fits) (c .before .if1 .taken)))
 
 add-after : tie.Need-add-after
 add-after c =
@@ -48,22 +52,29 @@ add-after c =
     let next = varint-next (a .g .now) (a .i) v n (got p) .1 in
     omega arith
 
+bad-step-requires-2 : tie.Need-bad-step-requires-2
+bad-step-requires-2 c κs = search needs
+
 returns-2 : tie.Need-returns-2
 returns-2 c =
-    let p = c .before .before in
+    let p = c .before .before .before in
     let a = p .before .before .before .before .before .args in
     let v = p .before .value .given .0 .0 in
     let n = p .before .value .given .0 .1 .0 in
-    sym (split-short (a .g .now) (a .i) (a .hi) v n (got p) (keeps (a .hi) v (p .before .before .before .before .before .fits .hi .fits) (c .before .if1 .left)) (c .if2 .taken))
+    c .bad-step2 .ensures
+    ∙ sym (split-short (a .g .now) (a .i) (a .hi) v n (got p) (keeps (a .hi) v (p .before .before .before .before .before .fits .hi .fits) (c .before .before .if1 .left)) (c .before .if2 .taken))
+
+add-upper : tie.Need-add-upper
+add-upper c = search needs
 
 le64-requires : tie.Need-le64-requires
 le64-requires c κs = search needs
 
-add-t11 : tie.Need-add-t11
-add-t11 c = search needs
-
 enum-known-why : tie.Need-enum-known-why
 enum-known-why c = search needs
+
+bad-step-requires-3 : tie.Need-bad-step-requires-3
+bad-step-requires-3 c κs = search needs
 
 returns-3 : tie.Need-returns-3
 returns-3 c =
@@ -75,7 +86,10 @@ returns-3 c =
     ∙ sym (split-good (a .g .now) (a .i) (a .hi) v n (got p) (keeps (a .hi) v (p .before .before .before .before .before .fits .hi .fits) (c .before .before .if1 .left)) (c .before .if2 .left))
 
 returns-4 : tie.Need-returns-4
-returns-4 c = let a = c .before .before .before .before .before .args in sym (split-unread (a .g .now) (a .i) (a .hi) _ (sym (c .before .before .before .short-at .ensures) ∙ c .before .why .given .1))
+returns-4 c =
+    let p = c .before in
+    let a = p .before .before .before .before .before .args in
+    c .bad-step3 .ensures ∙ sym (split-unread (a .g .now) (a .i) (a .hi) _ (sym (p .before .before .before .short-at .ensures) ∙ p .before .why .given .1))
 
 pub split-step-spec : {M : Type 1} → statement M
 split-step-spec =
@@ -84,11 +98,14 @@ split-step-spec =
     short-at-requires
     enum-known-value
     sub-if1
+    bad-step-requires
     returns
     add-after
+    bad-step-requires-2
     returns-2
+    add-upper
     le64-requires
-    add-t11
     enum-known-why
+    bad-step-requires-3
     returns-3
     returns-4)
