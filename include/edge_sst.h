@@ -13,8 +13,8 @@
  * - A call reads and writes only what it is lent. An output overlaps nothing else that
  *   is lent, and nobody writes what is lent while the call runs.
  * - number is 0 where there is no refusal, otherwise the refusal's number. place is
- *   its place; beside is a second place beside it, which no refusal of this version
- *   has. Fields that do not apply are 0.
+ *   its place; beside is a second place beside it, which only the faults of a group
+ *   have. Fields that do not apply are 0.
  * - A refusal, or the absence of a key, leaves every output as it was. Of an answer,
  *   what lies past it stays.
  * - Not enough room is EDGE_SST_ROOM (20), and its place is what is needed: ask with
@@ -28,11 +28,11 @@
  *   edge_sst_open             1 to 15
  *   edge_sst_header           1 to 15
  *   edge_sst_sections, list   1 to 15, 20
- *   edge_sst_partners         1 to 15, 16 to 18, 20
- *   edge_sst_lookup           1 to 15, 16 to 18, 19, 20
- *   edge_sst_partners_with    21, 14, 16 to 18, 20
- *   edge_sst_lookup_with      21, 14, 16 to 18, 19, 20
- *   edge_sst_check            1 to 15, 22, 16 to 18, 23
+ *   edge_sst_partners         1 to 15, the group's, 20
+ *   edge_sst_lookup           1 to 15, the group's, 19, 20
+ *   edge_sst_partners_with    21, 14, the group's, 20
+ *   edge_sst_lookup_with      21, 14, the group's, 19, 20
+ *   edge_sst_check            1 to 15, 22, each group's, 23
  *   edge_sst_read_out         those of edge_sst_check, 20
  *   edge_sst_needed           24 and 25 record by record, 26
  *   edge_sst_write            24 and 25 record by record, 26, 20
@@ -41,13 +41,21 @@
  *   edge_sst_running_feed     27
  *   edge_sst_running_asked    none
  *
+ * The group's are 16 and 28 to 35: its first fault in reading order.
+ *
  * The place of each, counted from 0:
  *
  *   10, 11, 22                the entry of the section table, skipped kinds counted
  *   13                        the key that is not above the one before
  *   14                        the offset, of key count plus one; from the lookups by a
  *                             record the group, whose offsets fall or leave the partners
- *   16, 17, 18                the group, which is the index of its key
+ *   16, 28 to 35              the byte in the group, counted from the group's first;
+ *                             beside: the group, which is the index of its key.
+ *                             16: the tag. 28, 30, 33 to 35: the varint. 29: the later
+ *                             of the two partners. 31: the tag, or the partner that is
+ *                             cut. 32: the spare bytes. Of each its first byte, or the
+ *                             group's length where none of it is left; a split partner
+ *                             begins with its upper half
  *   19                        the group asked for, not the earlier one at fault
  *   20                        what is needed. Lookups: the degree, whichever output is
  *                             short. Section list: rows. Read-out and writer: bytes
@@ -205,6 +213,27 @@ static inline const char *edge_sst_text(uint64_t number) {
         /* texts: to here */
     };
     return number < sizeof texts / sizeof texts[0] ? texts[number] : "unknown refusal";
+}
+
+/* Whether a number has a second place: its place is then a byte in a group, and beside is
+ * the group. */
+static inline int edge_sst_has_beside(uint64_t number) {
+    switch (number) {
+        /* beside: from refusals.txt */
+    case EDGE_SST_TAG:
+    case EDGE_SST_DEGREE_ZERO:
+    case EDGE_SST_PARTNER_ORDER:
+    case EDGE_SST_UPPER_HALF:
+    case EDGE_SST_GROUP_CUT:
+    case EDGE_SST_SPARE_BYTES:
+    case EDGE_SST_VARINT_CUT:
+    case EDGE_SST_VARINT_LONG:
+    case EDGE_SST_VARINT_LARGE:
+        /* beside: to here */
+        return 1;
+    default:
+        return 0;
+    }
 }
 
 /* The opened record: what opening a file gives. Where it is refused, all but the

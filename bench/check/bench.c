@@ -82,7 +82,7 @@ uint64_t call(function *f, uint64_t last) { return ((checker *)f)(input.bytes + 
 static EdgeSstTold same(const char *name, bytes f) {
     EdgeSstTold a = edge_sst_check(f.bytes, f.size), b = plain_check(f.bytes, f.size);
     EdgeSstTold c = sparing_check(f.bytes, f.size);
-    if (a.number != b.number || a.place != b.place || b.number != c.number || b.place != c.place)
+    if (memcmp(&a, &b, sizeof a) != 0 || memcmp(&b, &c, sizeof b) != 0)
         stop(1, "the answers differ on '%s': %llu at %llu and %llu at %llu", name, (unsigned long long)a.number,
              (unsigned long long)a.place, (unsigned long long)b.number, (unsigned long long)b.place);
     return a;
@@ -95,7 +95,8 @@ static void answered(bytes *answers, const char *name, EdgeSstTold told) {
     if (told.number == 0)
         strcpy(line + n, "fine");
     else
-        sprintf(line + n, "refused %llu at %llu", (unsigned long long)told.number, (unsigned long long)told.place);
+        sprintf(line + n, "refused %llu at %llu beside %llu", (unsigned long long)told.number,
+                (unsigned long long)told.place, (unsigned long long)told.beside);
     while (answers->size > 0) {
         const char *p = (const char *)answers->bytes, *end = memchr(p, '\n', answers->size);
         size_t length = end != NULL ? (size_t)(end - p) : answers->size, taken = length + (end != NULL);

@@ -1,6 +1,7 @@
 /* The full check in plain C: opening, 22, all groups, 23. */
 #include "../common/sum.h"
 
+#include "../common/fault.h"
 #include "../common/group.h"
 
 static inline int any_set(const uint8_t *p, size_t n) {
@@ -20,9 +21,8 @@ EdgeSstTold plain_edges(const uint8_t *file, const EdgeSstOpened *o) {
     for (uint64_t i = 0; i < o->keycount; i++, start = end) {
         offset += width;
         end = partners + offset_at(offset, width);
-        int fault = group_fault(start, end, &degree, &dense);
-        if (fault)
-            return (EdgeSstTold){.number = (uint64_t)fault, .place = i};
+        if (!group_good(start, end, &degree, &dense))
+            return fault_of(start, end, i);
         sum += degree;
         some_dense |= dense;
     }

@@ -55,51 +55,47 @@ static inline int dense_rises(const uint8_t *p, const uint8_t *end) {
     return 1;
 }
 
-/* The next partner of a split group: its upper half's difference and its lower half. 0 or the fault. */
+/* The next partner of a split group: its upper half's difference and its lower half. 1 if it is a good one. */
 static inline int split_partner(const uint8_t **at, const uint8_t *end, uint64_t *difference, uint64_t *low) {
     if (!varint(at, end, difference))
-        return EDGE_SST_VARINT;
+        return 0;
     if (end - *at < HALF)
-        return EDGE_SST_GROUP;
+        return 0;
     *low = le64(*at);
     *at += HALF;
-    return 0;
+    return 1;
 }
 
-static inline int split_fault(const uint8_t *p, const uint8_t *end, uint64_t degree) {
+static inline int split_good(const uint8_t *p, const uint8_t *end, uint64_t degree) {
     uint64_t high, last_low, difference, low;
-    int fault = split_partner(&p, end, &high, &last_low);
-    if (fault)
-        return fault;
+    if (!split_partner(&p, end, &high, &last_low))
+        return 0;
     for (uint64_t k = 1; k < degree; k++) {
-        fault = split_partner(&p, end, &difference, &low);
-        if (fault)
-            return fault;
+        if (!split_partner(&p, end, &difference, &low))
+            return 0;
         if (difference == 0 && low <= last_low)
-            return EDGE_SST_GROUP;
+            return 0;
         if (__builtin_add_overflow(high, difference, &high))
-            return EDGE_SST_GROUP;
+            return 0;
         last_low = low;
     }
-    return p == end ? 0 : EDGE_SST_GROUP;
+    return p == end;
 }
 
-/* 0 and the degree and whether the group is dense, or the fault. */
-static inline int group_fault(const uint8_t *p, const uint8_t *end, uint64_t *degree, int *dense) {
+/* Whether a group is good, and then its degree and whether it is dense. fault.h says what is wrong with another. */
+static inline int group_good(const uint8_t *p, const uint8_t *end, uint64_t *degree, int *dense) {
     if (!varint(&p, end, degree))
-        return EDGE_SST_VARINT;
+        return 0;
     if (*degree == 0 || p == end)
-        return EDGE_SST_GROUP;
+        return 0;
     uint8_t tag = *p++;
     *dense = tag == DENSE;
     if (tag == SPLIT)
-        return split_fault(p, end, *degree);
+        return split_good(p, end, *degree);
     if (tag != DENSE)
-        return EDGE_SST_TAG;
+        return 0;
     size_t size = (size_t)(end - p);
-    if (size % ID != 0 || size / ID != *degree || !dense_rises(p, end))
-        return EDGE_SST_GROUP;
-    return 0;
+    return size % ID == 0 && size / ID == *degree && dense_rises(p, end);
 }
 
 #endif

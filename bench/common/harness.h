@@ -56,7 +56,7 @@ int next_entry(bytes *corpus, char name[256], bytes *out);
 bytes entry(const char *path, const char *wanted);
 
 /* How often each number was told. */
-enum { NUMBERS = 32 };
+enum { NUMBERS = 64 };
 void print_told(const uint64_t told[NUMBERS]);
 
 #endif

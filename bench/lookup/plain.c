@@ -1,5 +1,6 @@
 /* A record lookup in plain C: partners alone. Offsets, varints and groups are read in a
  * form of its own; bench/README.md says what that of group.h would take. */
+#include "../common/fault.h"
 #include "../common/format.h"
 #include "../common/plain.h"
 
@@ -70,37 +71,37 @@ __attribute__((noinline)) static int dense_rise(const uint8_t *p, const uint8_t 
     return 1;
 }
 
-/* 0 and the degree and whether it is dense, or the refusal. */
+/* Whether a group is good, and then its degree and whether it is dense. fault.h says what is wrong with another. */
 static int check_group(const uint8_t *p, const uint8_t *end, uint64_t *degree, int *dense) {
     uint64_t d, v, hi = 0, lo = 0;
     if (!varint(&p, end, &d))
-        return 17;
+        return 0;
     if (d == 0 || p == end)
-        return 18;
+        return 0;
     uint8_t tag = *p++;
     *degree = d;
     if (tag == DENSE) {
         *dense = 1;
         if ((uint64_t)(end - p) / 16 != d || (end - p) % 16 != 0)
-            return 18;
-        return dense_rise(p, end) ? 0 : 18;
+            return 0;
+        return dense_rise(p, end);
     }
     if (tag != SPLIT)
-        return 16;
+        return 0;
     *dense = 0;
     for (uint64_t k = 0; k < d; k++) {
         if (!varint(&p, end, &v))
-            return 17;
+            return 0;
         if (hi + v < hi || end - p < 8)
-            return 18;
+            return 0;
         uint64_t l = le64(p);
         if (k > 0 && v == 0 && l <= lo)
-            return 18;
+            return 0;
         hi += v;
         lo = l;
         p += 8;
     }
-    return p == end ? 0 : 18;
+    return p == end;
 }
 
 static void fill_group(const uint8_t *p, const uint8_t *end, int dense, uint8_t *out) {
@@ -135,9 +136,10 @@ EdgeSstLooked plain_partners_with(const uint8_t *p, size_t n, const EdgeSstOpene
             int dense;
             if (e < a || o->partnerlen < e)
                 return (EdgeSstLooked){.number = 14, .place = i};
-            int fault = check_group(partners + a, partners + e, &d, &dense);
-            if (fault)
-                return (EdgeSstLooked){.number = (uint64_t)fault, .place = i};
+            if (!check_group(partners + a, partners + e, &d, &dense)) {
+                EdgeSstTold told = fault_of(partners + a, partners + e, i);
+                return (EdgeSstLooked){.number = told.number, .place = told.place, .beside = told.beside};
+            }
             if (m / 16 < d)
                 return (EdgeSstLooked){.number = 20, .place = d};
             fill_group(partners + a, partners + e, dense, out);

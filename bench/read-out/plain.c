@@ -68,7 +68,7 @@ EdgeSstDone plain_read_out(const uint8_t *p, size_t n, uint8_t *out, size_t m) {
     if (told.number == 0)
         told = plain_edges(p, &o);
     if (told.number != 0)
-        return (EdgeSstDone){.number = told.number, .place = told.place};
+        return (EdgeSstDone){.number = told.number, .place = told.place, .beside = told.beside};
     uint64_t needed = HEADING + EDGE * o.edgecount;
     if (m < needed)
         return (EdgeSstDone){.number = EDGE_SST_ROOM, .place = needed};

@@ -93,6 +93,7 @@ impl Refused {
             .number("number", self.refusal.number)
             .string("text", self.refusal.text())
             .number("place", self.refusal.place)
+            .number("beside", self.refusal.beside)
             .string("where", &self.place)
     }
 }

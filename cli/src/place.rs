@@ -23,6 +23,8 @@ enum Counts {
     Keys,
     Offsets,
     Groups,
+    /// The bytes of a group; the group stands beside.
+    GroupBytes,
     Needed,
     Bytes,
     /// A number that is not known here.
@@ -36,7 +38,8 @@ impl Counts {
             10 | 11 | 22 => Counts::Entries,
             13 => Counts::Keys,
             14 => Counts::Offsets,
-            16..=19 => Counts::Groups,
+            16 | 28..=35 => Counts::GroupBytes,
+            19 => Counts::Groups,
             20 => Counts::Needed,
             24 | 25 => Counts::Bytes,
             _ => Counts::Unknown,
@@ -60,7 +63,8 @@ fn words(refusal: &Refusal, source: &Source) -> String {
         Counts::Entries => with("entry", place, section(source, place)),
         Counts::Keys => with("key", place, None),
         Counts::Offsets => with("offset", place, None),
-        Counts::Groups => with("group", place, key(source, place)),
+        Counts::Groups => group(source, place),
+        Counts::GroupBytes => format!("{}, byte {place}", group(source, refusal.beside)),
         Counts::Needed => format!("{place} needed"),
         Counts::Bytes => record(source, place),
         Counts::Unknown => with("place", place, None),
@@ -82,6 +86,10 @@ fn section(source: &Source, entry: u64) -> Option<String> {
     let sections = EdgeSst::open(bytes).ok()?.sections().ok()?;
     let section = sections.get(usize::try_from(entry).ok()?)?;
     Some(kinds::describe(section))
+}
+
+fn group(source: &Source, group: u64) -> String {
+    with("group", group, key(source, group))
 }
 
 /// The key of a group, where the file opens.

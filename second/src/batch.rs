@@ -3,7 +3,7 @@
 
 use crate::groups::Edge;
 use crate::numbers::{compare_ids, read_le, Id};
-use crate::open::Refusal;
+use crate::refusal::Refusal;
 use std::cmp::Ordering;
 
 /// Kind, direction and three ids.
@@ -62,7 +62,7 @@ impl Batch {
 pub fn parse(bytes: &[u8]) -> Result<Batch, Refusal> {
     let refuse = |number, place| {
         let place = place as u64;
-        Err(Refusal { number, place })
+        Err(Refusal::at(number, place))
     };
     let Some(mut batch) = heading(bytes) else {
         return refuse(24, 0);

@@ -2,6 +2,7 @@
 //! any, against a second way to the same result where there are none.
 
 mod checking;
+mod groups;
 mod listing;
 mod lookups;
 mod opening;
@@ -49,10 +50,12 @@ pub fn all() -> Tally {
     check_numbers(&mut tally);
     check_ids(&mut tally);
     check_varint_cases(&mut tally);
+    check_varint_refusals(&mut tally);
     check_varint_round_trips(&mut tally);
     check_corpus(&mut tally);
     opening::check(&mut tally);
     listing::check(&mut tally);
+    groups::check(&mut tally);
     lookups::check(&mut tally);
     checking::check(&mut tally);
     printing::check(&mut tally);
@@ -167,6 +170,9 @@ fn check_varint_cases(tally: &mut Tally) {
             Read::Value { value, next },
         );
     }
+}
+
+fn check_varint_refusals(tally: &mut Tally) {
     let mut refused = |head: u8, times: usize, tail: &[u8], expected: Read| {
         let bytes = [&vec![head; times][..], tail].concat();
         tally.same(&format!("{bytes:02X?}"), varint::read(&bytes, 0), expected);
@@ -182,6 +188,12 @@ fn check_varint_cases(tally: &mut Tally) {
     refused(0x80, 9, &[0x80, 0x00], Read::Large);
     refused(0xFF, 10, &[], Read::Large);
     refused(0xFF, 11, &[], Read::Large);
+    // A tenth byte above 1, its top bit counted, is too large whatever follows.
+    for tenth in [0x02, 0x7F, 0x80, 0x81, 0xFF] {
+        for after in [&[][..], &[0x00], &[0x01], &[0x80, 0x00]] {
+            refused(0x80, 9, &[&[tenth], after].concat(), Read::Large);
+        }
+    }
     tally.same("place at the end", varint::read(&[0x00], 1), Read::Cut);
     tally.same("place past the end", varint::read(&[0x00], 2), Read::Cut);
 }

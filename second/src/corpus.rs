@@ -1,5 +1,6 @@
 //! The vector files: inputs and expected outputs for the programs under test.
 
+pub mod bad_groups;
 pub mod check_files;
 mod codes_vectors;
 pub mod list_files;

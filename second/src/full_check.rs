@@ -6,7 +6,8 @@ use crate::groups::{Edge, Form, Group};
 use crate::header::{self, HeaderFields};
 use crate::lookup::{group, Sections};
 use crate::numbers::Id;
-use crate::open::{bytes_of, open, refuse_at, refuse_if, OpenedRecord, Refusal, SectionRow};
+use crate::open::{bytes_of, open, refuse_at, refuse_if, OpenedRecord, SectionRow};
+use crate::refusal::Refusal;
 use crate::xxh3::xxh3_64;
 
 /// What a file that passes holds.
@@ -53,10 +54,7 @@ fn all_partners(
         .map(|index| {
             let bytes = sections.group(index as usize);
             let bytes = bytes.expect("opening has looked at the offsets");
-            group::read(bytes).map_err(|fault| Refusal {
-                number: fault.number(),
-                place: index,
-            })
+            group::read(bytes).map_err(|fault| fault.refusal(index))
         })
         .collect()
 }

@@ -13,7 +13,7 @@ pub struct Edge {
 }
 
 /// How the partners of a group are written.
-#[derive(Clone, Copy, Debug, PartialEq, Eq)]
+#[derive(Clone, Copy, Debug, PartialEq, Eq, PartialOrd, Ord)]
 pub enum Form {
     /// Tag 0x01: upper halves as differences, lower halves as they are.
     Split,

@@ -2,7 +2,8 @@
 
 use crate::format::flag;
 use crate::numbers::{read_le, Id};
-use crate::open::{open, Refusal};
+use crate::open::open;
+use crate::refusal::Refusal;
 
 #[derive(Clone, Copy, Debug, PartialEq, Eq)]
 pub struct HeaderFields {

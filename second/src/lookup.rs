@@ -8,7 +8,8 @@ mod record;
 mod search;
 
 use crate::numbers::{id_number, read_le, Id};
-use crate::open::{bytes_of, open, OpenedRecord, Refusal};
+use crate::open::{bytes_of, open, OpenedRecord};
+use crate::refusal::Refusal;
 
 /// What a lookup says that is not refused. It carries the count of keys that
 /// the search compared.
@@ -69,7 +70,7 @@ pub fn partners_from_record(
 }
 
 fn refuse<T>(number: u8, place: u64) -> Result<T, Refusal> {
-    Err(Refusal { number, place })
+    Err(Refusal::at(number, place))
 }
 
 /// The bytes of a file that a record says are to be read for its edges.
@@ -135,7 +136,7 @@ impl<'a> Sections<'a> {
         };
         let partners = match group::partners(group) {
             Ok(partners) => partners,
-            Err(fault) => return refuse(fault.number(), index as u64),
+            Err(fault) => return Err(fault.refusal(index as u64)),
         };
         write(index, &partners)?;
         Ok(Answer::Found {

@@ -18,6 +18,7 @@ mod open;
 mod print;
 mod random;
 mod read_out;
+mod refusal;
 mod running;
 mod varint;
 mod write;

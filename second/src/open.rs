@@ -5,20 +5,8 @@ use crate::format::{
     bound, flag, kind, COUNTS, ENTRY, FENCE, FENCE_HEAD, HEADER, MAGIC, MAJOR, OFFSET_BITS, TRAILER,
 };
 use crate::numbers::{id_number, read_le, Id};
+use crate::refusal::Refusal;
 use crate::xxh3::xxh3_64;
-use std::fmt;
-
-#[derive(Clone, Copy, Debug, PartialEq, Eq)]
-pub struct Refusal {
-    pub number: u8,
-    pub place: u64,
-}
-
-impl fmt::Display for Refusal {
-    fn fmt(&self, f: &mut fmt::Formatter) -> fmt::Result {
-        write!(f, "refused {} at {}", self.number, self.place)
-    }
-}
 
 #[derive(Clone, Copy, Debug, PartialEq, Eq)]
 pub struct Range {
@@ -105,10 +93,7 @@ pub fn refuse_if(number: u8, fault: bool) -> Result<(), Refusal> {
 pub fn refuse_at(number: u8, faulty: Option<usize>) -> Result<(), Refusal> {
     match faulty {
         None => Ok(()),
-        Some(place) => Err(Refusal {
-            number,
-            place: place as u64,
-        }),
+        Some(place) => Err(Refusal::at(number, place as u64)),
     }
 }
 

@@ -12,7 +12,7 @@ pub fn print(file: &[u8]) -> String {
         return "too long\n".to_string();
     }
     match full_check(file) {
-        Err(refusal) => format!("{refusal}\n"),
+        Err(refusal) => format!("{}\n", refusal.printed()),
         Ok(contents) => listing(&contents),
     }
 }

@@ -3,7 +3,8 @@
 
 use crate::batch::{Batch, KeyedEdge};
 use crate::full_check::{full_check, Contents};
-use crate::open::{refuse_at, Refusal};
+use crate::open::refuse_at;
+use crate::refusal::Refusal;
 
 /// Writes the batch and says how many bytes it has. A refusal writes nothing,
 /// and what lies past the batch stays.

@@ -2,7 +2,7 @@
 //! when the byte after it comes: until then it may be the last one, which the
 //! checksum treats on its own.
 
-use crate::open::Refusal;
+use crate::refusal::Refusal;
 use crate::xxh3::{accumulate, finish, scramble, xxh3_64, Accumulators, BEGINNING, MEDIUM, STRIPE};
 use std::collections::VecDeque;
 
@@ -32,10 +32,7 @@ impl Running {
     /// A chunk that would pass the bound is refused and changes nothing.
     pub fn feed(&mut self, chunk: &[u8]) -> Result<(), Refusal> {
         if passes(self.total, chunk.len() as u64) {
-            return Err(Refusal {
-                number: 27,
-                place: 0,
-            });
+            return Err(Refusal::at(27, 0));
         }
         chunk.iter().for_each(|&byte| self.take(byte));
         Ok(())

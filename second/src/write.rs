@@ -6,8 +6,9 @@ use crate::format::{bound, flag};
 use crate::groups::{self, Edge, Form, Group};
 use crate::layout::Layout;
 use crate::numbers::id_number;
-use crate::open::{refuse_if, Refusal};
+use crate::open::refuse_if;
 use crate::read_out::put;
+use crate::refusal::Refusal;
 use crate::varint;
 
 /// Keys from one fence to the next.

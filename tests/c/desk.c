@@ -14,20 +14,37 @@ static EdgeSstDone call(Call *f, Bytes in, Lent out) {
     return f(in.p, in.n, out.bytes, out.n);
 }
 
-static void hold_done(const char *name, EdgeSstDone got, uint64_t number, uint64_t place, uint64_t bytes) {
-    if (got.number != number || got.place != place || got.bytes != bytes)
-        differ("%s: %" PRIu64 " at %" PRIu64 ", %" PRIu64 " bytes; expected %" PRIu64 " at %" PRIu64 ", %" PRIu64, name,
-               got.number, got.place, got.bytes, number, place, bytes);
+static int same_done(EdgeSstDone a, EdgeSstDone b) {
+    return a.number == b.number && a.place == b.place && a.beside == b.beside && a.bytes == b.bytes;
+}
+
+static void hold_done(const char *name, EdgeSstDone got, EdgeSstDone expected) {
+    if (!same_done(got, expected))
+        differ("%s: %" PRIu64 " at %" PRIu64 " beside %" PRIu64 ", %" PRIu64 " bytes; expected %" PRIu64 " at %" PRIu64
+               " beside %" PRIu64 ", %" PRIu64,
+               name, got.number, got.place, got.beside, got.bytes, expected.number, expected.place, expected.beside,
+               expected.bytes);
+}
+
+/* So many bytes were written, or are needed. */
+static EdgeSstDone done(uint64_t bytes) {
+    EdgeSstDone d = {0, 0, 0, 0};
+    d.bytes = bytes;
+    return d;
+}
+
+/* So many bytes do not fit. */
+static EdgeSstDone too_short(uint64_t bytes) {
+    EdgeSstDone d = {EDGE_SST_ROOM, 0, 0, 0};
+    d.place = bytes;
+    return d;
 }
 
 /* With this room: all bytes of the answer, or refusal 20 and the output as it was. */
 static void hold_room(const char *name, Call *f, Bytes in, Bytes answer, size_t room) {
     Lent out = lend(room, AS_BYTES);
     EdgeSstDone got = call(f, in, out);
-    if (room >= answer.n)
-        hold_done(name, got, 0, 0, answer.n);
-    else
-        hold_done(name, got, EDGE_SST_ROOM, answer.n, 0);
+    hold_done(name, got, room >= answer.n ? done(answer.n) : too_short(answer.n));
     hold_output(name, "output", out, AS_BYTES, room >= answer.n ? answer.p : NULL, answer.n);
     take_back(out);
 }
@@ -42,7 +59,7 @@ static void hold_rooms(const char *name, Call *f, Bytes in, Bytes answer) {
 /* A refusal comes with any room, and the output stays. */
 static void hold_refusal(const char *name, Call *f, Bytes in, EdgeSstDone told, size_t room) {
     Lent out = lend(room, AS_BYTES);
-    hold_done(name, call(f, in, out), told.number, told.place, 0);
+    hold_done(name, call(f, in, out), told);
     hold_output(name, "output", out, AS_BYTES, NULL, 0);
     take_back(out);
 }
@@ -57,8 +74,8 @@ static Bytes bytes_of(const uint8_t *p, uint64_t n) {
 /* Refused, as the line says, whose last word is the sum of the output. */
 static void hold_refused_line(const char *name, const char *what, const char *word, EdgeSstDone got, Lent out,
                               const char *line) {
-    hold_line(name, line, "%s refused %" PRIu64 " at %" PRIu64 " %s %016" PRIx64, what, got.number, got.place, word,
-              whole_sum(name, out));
+    hold_line(name, line, "%s refused %" PRIu64 " at %" PRIu64 " beside %" PRIu64 " %s %016" PRIx64, what, got.number,
+              got.place, got.beside, word, whole_sum(name, out));
     if (got.bytes != 0)
         differ("%s: bytes of a refused call", name);
 }
@@ -78,10 +95,11 @@ static EdgeSstTold check(Bytes file) {
 
 static void hold_check(const char *name, Bytes file, const char *line) {
     EdgeSstTold told = check(file);
-    if (told.number == 0 && told.place == 0)
+    if (told.number == 0 && told.place == 0 && told.beside == 0)
         hold_line(name, line, "check fine");
     else
-        hold_line(name, line, "check refused %" PRIu64 " at %" PRIu64, told.number, told.place);
+        hold_line(name, line, "check refused %" PRIu64 " at %" PRIu64 " beside %" PRIu64, told.number, told.place,
+                  told.beside);
 }
 
 /* A file that passes: its read-out with other rooms, its keys, its batch written. */
@@ -150,7 +168,7 @@ void test_again(const char *name, Bytes batch) {
     Lent out = lend((size_t)n.bytes, AS_BYTES);
     if (n.number != 0)
         differ("%s: the batch of a read-out is refused", name);
-    hold_done(name, call(edge_sst_write, batch, out), 0, 0, n.bytes);
+    hold_done(name, call(edge_sst_write, batch, out), done(n.bytes));
     hold_back(name, bytes_of(out.bytes, n.bytes), batch);
     take_back(out);
 }
@@ -158,10 +176,11 @@ void test_again(const char *name, Bytes batch) {
 static void hold_needed(const char *name, EdgeSstDone n, const char *line) {
     if (n.number == 0) {
         hold_line(name, line, "needed %" PRIu64, n.bytes);
-        hold_done(name, n, 0, 0, n.bytes);
+        hold_done(name, n, done(n.bytes));
     } else {
-        hold_line(name, line, "needed refused %" PRIu64 " at %" PRIu64, n.number, n.place);
-        hold_done(name, n, n.number, n.place, 0);
+        hold_line(name, line, "needed refused %" PRIu64 " at %" PRIu64 " beside %" PRIu64, n.number, n.place, n.beside);
+        if (n.bytes != 0)
+            differ("%s: bytes of a refused batch", name);
     }
 }
 
@@ -202,7 +221,7 @@ static void write_batch(const char *name, Bytes batch, Lines *lines) {
         Bytes file = bytes_of(out.bytes, got.bytes);
         hold_line(name, line + strlen(name) + 2, "wrote %" PRIu64 " sum %016" PRIx64 " all %016" PRIx64, got.bytes,
                   edge_sst_sum(file.p, file.n), whole_sum(name, out));
-        hold_done(name, got, 0, 0, n.bytes);
+        hold_done(name, got, done(n.bytes));
         batch_written(name, batch, file, lines);
     }
     take_back(out);

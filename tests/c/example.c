@@ -13,10 +13,13 @@
 #include "edge_sst.h"
 #include "read_file.h"
 
-/* A refusal is a number and a place; the header has a text for each number. */
-static int refused(uint64_t number, uint64_t place) {
-    fprintf(stderr, "refused %llu at %llu: %s\n", (unsigned long long)number, (unsigned long long)place,
-            edge_sst_text(number));
+/* A refusal is a number and a place; the header has a text for each number. Of a group's
+ * fault the place is a byte in the group, and the group is told beside it. */
+static int refused(uint64_t number, uint64_t place, uint64_t beside) {
+    fprintf(stderr, "refused %llu at ", (unsigned long long)number);
+    if (edge_sst_has_beside(number))
+        fprintf(stderr, "group %llu, byte ", (unsigned long long)beside);
+    fprintf(stderr, "%llu: %s\n", (unsigned long long)place, edge_sst_text(number));
     return 1;
 }
 
@@ -80,10 +83,10 @@ int main(int argc, char **argv) {
     /* Open once; the record serves any number of lookups in these bytes. */
     o = edge_sst_open(bytes, n);
     if (o.number != 0)
-        return refused(o.number, o.place);
+        return refused(o.number, o.place, o.beside);
     l = look(bytes, n, &o, key, &partners);
     if (l.number != 0)
-        return refused(l.number, l.place);
+        return refused(l.number, l.place, l.beside);
     if (!l.found)
         puts("absent");
     for (i = 0; l.found && i < l.degree; i++)

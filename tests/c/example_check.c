@@ -25,8 +25,10 @@ int main(int argc, char **argv) {
         if (told.number == 0) {
             printf("%s: fine\n", argv[i]);
         } else {
-            printf("%s: refused %llu at %llu: %s\n", argv[i], (unsigned long long)told.number,
-                   (unsigned long long)told.place, edge_sst_text(told.number));
+            printf("%s: refused %llu at ", argv[i], (unsigned long long)told.number);
+            if (edge_sst_has_beside(told.number))
+                printf("group %llu, byte ", (unsigned long long)told.beside);
+            printf("%llu: %s\n", (unsigned long long)told.place, edge_sst_text(told.number));
             status = 1;
         }
         free(bytes);

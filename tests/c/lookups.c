@@ -58,15 +58,15 @@ static EdgeSstLooked ask(const Question *q, Outputs o) {
 }
 
 static int same_told(EdgeSstLooked a, EdgeSstLooked b) {
-    return a.number == b.number && a.place == b.place && a.found == b.found && a.degree == b.degree &&
-           a.index == b.index && a.compared == b.compared;
+    return a.number == b.number && a.place == b.place && a.beside == b.beside && a.found == b.found &&
+           a.degree == b.degree && a.index == b.index && a.compared == b.compared;
 }
 
 static void hold_told(const char *name, EdgeSstLooked got, EdgeSstLooked expected) {
     if (!same_told(got, expected))
-        differ("%s: told %" PRIu64 " at %" PRIu64 ", found %" PRIu64 " degree %" PRIu64 " index %" PRIu64
-               " compared %" PRIu64,
-               name, got.number, got.place, got.found, got.degree, got.index, got.compared);
+        differ("%s: told %" PRIu64 " at %" PRIu64 " beside %" PRIu64 ", found %" PRIu64 " degree %" PRIu64
+               " index %" PRIu64 " compared %" PRIu64,
+               name, got.number, got.place, got.beside, got.found, got.degree, got.index, got.compared);
 }
 
 static void hold_outputs(const char *name, Outputs o, const Answer *e, int full) {
@@ -195,7 +195,7 @@ static EdgeSstLooked told_by(const char *name, const char *line) {
     if (sscanf(line, "found %" SCNu64 " at %" SCNu64 " compared %" SCNu64, &t.degree, &t.index, &t.compared) == 3)
         t.found = 1;
     else if (sscanf(line, "absent compared %" SCNu64, &t.compared) != 1 &&
-             sscanf(line, "refused %" SCNu64 " at %" SCNu64, &t.number, &t.place) != 2)
+             sscanf(line, "refused %" SCNu64 " at %" SCNu64 " beside %" SCNu64, &t.number, &t.place, &t.beside) != 3)
         differ("%s: no answer in '%s'", name, line);
     return t;
 }

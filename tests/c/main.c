@@ -20,6 +20,7 @@ static const Part parts[] = {
 #ifndef ALONE
     {"opening and records", test_opening},
     {"lookups and keys", test_lookups},
+    {"groups", test_groups},
     {"checks", test_checks},
     {"writing", test_writes},
 #endif

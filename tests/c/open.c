@@ -6,7 +6,7 @@
 
 #include "test.h"
 
-/* All that follows a refusal or an absence is 0. */
+/* All that follows a refusal's number and place is 0. */
 static int nothing_else(const EdgeSstOpened *o) {
     EdgeSstOpened none;
     memset(&none, 0, sizeof none);
@@ -27,13 +27,13 @@ static void hold_dead(const char *name, const EdgeSstOpened *o, char text[64]) {
 static void hold_opened(const char *name, const EdgeSstOpened *o, const char *expected) {
     char dead[64];
     if (o->number != 0) {
-        hold_line(name, expected, "refused %" PRIu64 " at %" PRIu64, o->number, o->place);
+        hold_line(name, expected, "refused %" PRIu64 " at %" PRIu64 " beside %" PRIu64, o->number, o->place, o->beside);
         if (!nothing_else(o))
             differ("%s: a refusal with other numbers", name);
         return;
     }
     hold_dead(name, o, dead);
-    if (o->place != 0)
+    if (o->place != 0 || o->beside != 0)
         differ("%s: opens with a place", name);
     hold_line(name, expected,
               "opens keys %" PRIu64 " %" PRIu64 " offsets %" PRIu64 " %" PRIu64 " partners %" PRIu64 " %" PRIu64
@@ -66,7 +66,8 @@ static void hold_header(const char *name, Bytes file, Lines *lines) {
         return;
     }
     if (h.number != 0) {
-        hold_line(name, line, "  header refused %" PRIu64 " at %" PRIu64, h.number, h.place);
+        hold_line(name, line, "  header refused %" PRIu64 " at %" PRIu64 " beside %" PRIu64, h.number, h.place,
+                  h.beside);
         if (!no_header(&h))
             differ("%s: a refusal with a header", name);
         return;
@@ -88,7 +89,7 @@ static EdgeSstListed list(Bytes file, Lent rows) {
 }
 
 static void hold_listed(const char *name, EdgeSstListed got, uint64_t number, uint64_t place, uint64_t rows) {
-    if (got.number != number || got.place != place || got.rows != rows)
+    if (got.number != number || got.place != place || got.beside != 0 || got.rows != rows)
         differ("%s: sections %" PRIu64 " at %" PRIu64 ", %" PRIu64 " rows", name, got.number, got.place, got.rows);
 }
 

@@ -83,13 +83,14 @@ static void other_marks(const char *name, Bytes file, const EdgeSstOpened *o, co
     }
 }
 
-/* The number and the place are not looked at: with any, the answer is the same. */
+/* The number and the places are not looked at: with any, the answer is the same. */
 static void other_head(const char *name, Bytes file, const EdgeSstOpened *o, const uint8_t key[ID]) {
     EdgeSstOpened other = *o;
     uint8_t a[64] = {0}, b[64] = {0};
     EdgeSstLooked x, y;
     other.number = 21;
     other.place = UINT64_MAX;
+    other.beside = UINT64_MAX;
     x = edge_sst_partners_with(file.p, file.n, o, key, a, sizeof a);
     y = edge_sst_partners_with(file.p, file.n, &other, key, b, sizeof b);
     calls += 2;

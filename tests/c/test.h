@@ -87,6 +87,7 @@ void test_sums(const char *dir);
 void test_running(const char *dir);
 void test_opening(const char *dir);
 void test_lookups(const char *dir);
+void test_groups(const char *dir);
 void test_checks(const char *dir);
 void test_writes(const char *dir);
 

@@ -36,7 +36,7 @@ pub use running::RunningSum;
 use refusal::refuse_if;
 
 /// Checks a file in full: opening, the checksum of every section, every group, and
-/// what they say together. Refusals 1 to 18, 22 and 23.
+/// what they say together. Refusals 1 to 16, 22, 23 and 28 to 35.
 pub fn check(file: &[u8]) -> Result<(), Refusal> {
     // SAFETY: the pointer and length are of one slice, and not null.
     let told = unsafe { ffi::edge_sst_check(file.as_ptr(), file.len()) };

@@ -106,13 +106,13 @@ impl<'a> Opened<'a> {
             .map(|key| key.try_into().expect("16 bytes"))
     }
 
-    /// The partners of a key, `None` where it is absent: refusals 16 to 18.
+    /// The partners of a key, `None` where it is absent: refusals 16 and 28 to 35.
     pub fn partners(&self, key: &Id) -> Result<Option<Partners>, Refusal> {
         with_room(|room| self.partners_in(key, room))
     }
 
     /// The edges of a key with log numbers and dead marks, `None` where it is
-    /// absent: refusals 16 to 19.
+    /// absent: refusals 16, 19 and 28 to 35.
     pub fn lookup(&self, key: &Id) -> Result<Option<Edges>, Refusal> {
         with_room(|room| self.lookup_in(key, room))
     }

@@ -4,7 +4,7 @@ use std::error::Error;
 use std::fmt;
 
 /// A refusal's number and its place: an index, a count or a byte, by the number. `beside` is a second
-/// place beside it, 0 where there is none.
+/// place beside it, 0 where there is none: of a fault at a byte of a group it is the group.
 #[derive(Clone, Copy, Debug, PartialEq, Eq, Hash)]
 pub struct Refusal {
     pub number: u64,

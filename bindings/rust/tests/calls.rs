@@ -209,6 +209,89 @@ fn texts_are_the_headers() {
     assert_eq!(error.to_string(), "refused 14 at 3: offset");
 }
 
+/// A fault within a group is told with both places, every other refusal with one.
+#[test]
+fn the_text_of_a_groups_fault_has_both_places() {
+    let refusal = |number: u64| Refusal {
+        number,
+        place: 17,
+        beside: 3,
+    };
+    for number in [16, 28, 29, 30, 31, 32, 33, 34, 35] {
+        let text = refusal(number).text();
+        let expected = format!("refused {number} at group 3, byte 17: {text}");
+        assert_eq!(refusal(number).to_string(), expected);
+    }
+    let order = "refused 29 at group 3, byte 17: partner order";
+    assert_eq!(refusal(29).to_string(), order);
+    for number in [14, 19, 20, 24] {
+        let told = refusal(number).to_string();
+        assert!(told.starts_with(&format!("refused {number} at 17: ")));
+    }
+}
+
+/// Bytes put over a group of the board: the group and where it begins in the file, where
+/// in the group the bytes are put; the number and the byte in the group that are told.
+type Damage = (u64, usize, usize, &'static [u8], u64, u64);
+
+/// The varint of 2^64 - 1.
+const MOST: &[u8] = b"\xff\xff\xff\xff\xff\xff\xff\xff\xff\x01";
+
+/// The partner section of the board.
+const PARTNERS: std::ops::Range<usize> = 296..736;
+
+/// Group 1 is dense and has three partners, at 2, 18 and 34; group 4 is dense and has one.
+/// Groups 2 and 3 are split, with two and five partners, at 2, 11, 20 and so on.
+const DAMAGES: [Damage; 11] = [
+    (1, 307, 1, &[0x55], 16, 1),
+    (1, 307, 18, &[0], 29, 18),
+    (1, 307, 0, &[2], 32, 34),
+    (2, 357, 0, &[0], 28, 0),
+    (2, 357, 0, &[3], 33, 20),
+    (2, 357, 11, &[0x80, 0], 34, 11),
+    (2, 357, 11, &[0x80, 1], 31, 11),
+    (3, 377, 11, &[0xff; 10], 35, 11),
+    (3, 377, 11, MOST, 30, 11),
+    (3, 377, 0, &[0x80; 10], 35, 0),
+    (4, 424, 0, &[2], 31, 18),
+];
+
+/// The board with the sum of its partners, which was this one, and that of its footer set
+/// right.
+fn mended(mut file: Vec<u8>, old: u64) -> Vec<u8> {
+    let new = sum(&file[PARTNERS]).to_le_bytes();
+    let at = file.windows(8).position(|bytes| bytes == old.to_le_bytes());
+    let at = at.expect("the sum in the table");
+    file[at..at + 8].copy_from_slice(&new);
+    let end = file.len() - 20;
+    let length = u32::from_le_bytes(file[end + 8..end + 12].try_into().unwrap());
+    let footer = sum(&file[file.len() - length as usize..end]);
+    file[end..end + 8].copy_from_slice(&footer.to_le_bytes());
+    file
+}
+
+#[test]
+fn faults_of_groups_are_told_with_their_byte() {
+    let board = sample("board");
+    let old = sum(&board[PARTNERS]);
+    for (group, begin, at, bytes, number, byte) in DAMAGES {
+        let mut file = board.clone();
+        file[begin + at..][..bytes.len()].copy_from_slice(bytes);
+        let refusal = Refusal {
+            number,
+            place: byte,
+            beside: group,
+        };
+        let opened = EdgeSst::open(&file).unwrap();
+        let key = opened.keys().nth(group as usize).unwrap();
+        assert_eq!(opened.partners(key), Err(refusal));
+        assert_eq!(opened.lookup(key), Err(refusal));
+        let file = mended(file.clone(), old);
+        assert_eq!(check(&file), Err(refusal));
+        assert_eq!(read_out(&file), Err(refusal));
+    }
+}
+
 #[test]
 fn sections_of_the_example() {
     let file = sample("example");

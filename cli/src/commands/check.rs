@@ -21,7 +21,8 @@ A file that cannot be read is told on standard error, and the others are checked
 
   -j N, --jobs N  checks N files at once; each is held in memory while it is checked
   --json          a line for each file: {\"file\":..,\"ok\":true}, or with \"ok\":false and
-                  {\"refused\":{\"number\":..,\"text\":..,\"place\":..,\"where\":..}} or \"error\"
+                  {\"refused\":{\"number\":..,\"text\":..,\"place\":..,\"beside\":..,
+                  \"where\":..}} or \"error\"
 ",
     choices: &[&JOBS, &JSON],
     run,

@@ -1,6 +1,6 @@
 //! `edge-sst check`.
 
-use crate::corpora::{inputs, refusals, Named};
+use crate::corpora::{inputs, refusals, Named, Told};
 use crate::json::Json;
 use crate::run::{folder, ran, run, run_on, sample, Folder, PROGRAM};
 use std::process::Command;
@@ -42,20 +42,35 @@ fn the_corpus_is_told_as_by_the_second_program() {
         assert_eq!(told.at("file").text(), folder.file(&file.name));
         let refused = expected.get(&file.name);
         assert_eq!(told.at("ok").truth(), refused.is_none(), "{}", file.name);
-        if let Some((number, place)) = refused {
-            let refused = told.at("refused");
-            assert_eq!(refused.names(), ["number", "text", "place", "where"]);
-            assert_eq!(refused.at("number").number(), *number, "{}", file.name);
-            assert_eq!(refused.at("place").number(), *place, "{}", file.name);
-            // A place in words has its number in it, but where there is no place.
-            let words = refused.at("where").text();
-            let placeless = [1, 2, 3, 4, 5, 6, 7, 8, 9, 12, 15, 23].contains(number);
-            assert_eq!(words.is_empty(), placeless, "{}", file.name);
-            let counted = words.split(' ').nth(1).unwrap_or("0");
-            assert_eq!(counted, place.to_string(), "{}", file.name);
+        if let Some(refused) = refused {
+            told_as(told.at("refused"), refused, &file.name);
         } else {
             assert_eq!(told.names(), ["file", "ok"]);
         }
+    }
+}
+
+/// The object has the numbers of the corpus, and its words have the places in them.
+fn told_as(refused: &Json, expected: &Told, name: &str) {
+    let names = ["number", "text", "place", "beside", "where"];
+    assert_eq!(refused.names(), names);
+    let number = |name: &str| refused.at(name).number();
+    let told = Told {
+        number: number("number"),
+        place: number("place"),
+        beside: number("beside"),
+    };
+    assert_eq!(told, *expected, "{name}");
+    let words = refused.at("where").text();
+    let placeless = [1, 2, 3, 4, 5, 6, 7, 8, 9, 12, 15, 23].contains(&told.number);
+    assert_eq!(words.is_empty(), placeless, "{name}");
+    let counted = words.split(' ').nth(1).unwrap_or("0");
+    if told.of_group() {
+        assert_eq!(counted, told.beside.to_string(), "{name}");
+        let byte = format!("), byte {}", told.place);
+        assert!(words.ends_with(&byte), "{name}: {words}");
+    } else {
+        assert_eq!(counted, told.place.to_string(), "{name}");
     }
 }
 

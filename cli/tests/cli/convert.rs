@@ -1,6 +1,6 @@
 //! `edge-sst write`, `read-out`, `to-text` and `from-text`.
 
-use crate::corpora::{inputs, lines, refusals};
+use crate::corpora::{inputs, lines, refusals, Told};
 use crate::run::{folder, run_on, sample, second};
 
 const HEADING: &str = "batch forward 11111111111111111111111111111111 \
@@ -47,7 +47,7 @@ fn the_corpus_is_written_as_by_the_second_program() {
     for batch in batches {
         let wrote = run_on(&["write", "-", "-o", "-"], &batch.bytes);
         let shown = run_on(&["to-text", "-"], &batch.bytes);
-        if let Some((number, place)) = refusals.get(&batch.name) {
+        if let Some(Told { number, place, .. }) = refusals.get(&batch.name) {
             let begin = format!("standard input: {number}: ");
             assert!(
                 wrote.err.starts_with(&begin),
@@ -92,7 +92,7 @@ fn the_corpus_is_read_out_as_by_the_second_program() {
         // Every sound file, and of the many damaged ones each fifth.
         match refusals.get(&file.name) {
             Some(_) if i % 5 != 0 => {}
-            Some((number, _)) => {
+            Some(Told { number, .. }) => {
                 let ran = run_on(&["read-out", "-", "-o", "-"], &file.bytes);
                 let begin = format!("standard input: {number}: ");
                 assert!(ran.err.starts_with(&begin), "{}: {}", file.name, ran.err);

@@ -34,17 +34,36 @@ pub fn lines(corpus: &str) -> Vec<String> {
         .collect()
 }
 
-/// The number and place of each `NAME: WHAT refused NUMBER at PLACE`.
-pub fn refusals(corpus: &str, what: &str) -> HashMap<String, (u64, u64)> {
+/// A refusal as a corpus tells it.
+#[derive(Clone, Copy, Debug, PartialEq, Eq)]
+pub struct Told {
+    pub number: u64,
+    pub place: u64,
+    pub beside: u64,
+}
+
+impl Told {
+    /// Is the place a byte of a group, and the group beside it?
+    pub fn of_group(&self) -> bool {
+        matches!(self.number, 16 | 28..=35)
+    }
+}
+
+/// The refusal of each `NAME: WHAT refused NUMBER at PLACE beside BESIDE`.
+pub fn refusals(corpus: &str, what: &str) -> HashMap<String, Told> {
     let mut refusals = HashMap::new();
     for line in lines(corpus) {
         let Some((name, told)) = line.split_once(": ") else {
             continue;
         };
         let words: Vec<&str> = told.split(' ').collect();
-        if let [first, "refused", number, "at", place, ..] = words[..] {
+        if let [first, "refused", number, "at", place, "beside", beside, ..] = words[..] {
             if first == what {
-                let told = (number.parse().unwrap(), place.parse().unwrap());
+                let told = Told {
+                    number: number.parse().unwrap(),
+                    place: place.parse().unwrap(),
+                    beside: beside.parse().unwrap(),
+                };
                 refusals.insert(name.to_string(), told);
             }
         }

@@ -148,15 +148,19 @@ fn same(
     }
 }
 
-/// A lookup that is refused is refused at the group of the key asked for: 16 to 19.
+/// A lookup that is refused is refused for the group of the key asked for: 19 at the
+/// group, 16 and 28 to 35 at a byte of it.
 fn told_of_its_group(told: &Json, key: &str) {
     if told.at("ok").truth() {
         return;
     }
     let refused = told.at("refused");
-    let (number, place) = (refused.at("number"), refused.at("place"));
-    assert!((16..=19).contains(&number.number()));
-    let words = format!("group {} (key {key})", place.number());
+    let (place, beside) = (refused.at("place").number(), refused.at("beside").number());
+    let words = match refused.at("number").number() {
+        19 => format!("group {place} (key {key})"),
+        16 | 28..=35 => format!("group {beside} (key {key}), byte {place}"),
+        number => panic!("{number} of a lookup"),
+    };
     assert_eq!(refused.at("where").text(), words);
 }
 
@@ -166,9 +170,10 @@ fn words(told: &Json) -> String {
     if !told.at("ok").truth() {
         let refused = told.at("refused");
         return format!(
-            "refused {} at {}",
+            "refused {} at {} beside {}",
             number(refused, "number"),
-            number(refused, "place")
+            number(refused, "place"),
+            number(refused, "beside")
         );
     }
     if !told.at("found").truth() {
@@ -207,7 +212,7 @@ fn a_bad_group_does_not_hide_the_others() {
     file[297] = 0x55;
     let ran = look(&[], &[keys[0], keys[2]], &file);
     let said = format!(
-        "standard input: 16: unknown tag of a group, group 0 (key {})\n",
+        "standard input: 16: unknown tag, group 0 (key {}), byte 1\n",
         keys[0]
     );
     assert_eq!((ran.status, ran.err), (1, said));

@@ -76,10 +76,8 @@ fn the_corpus_is_listed_as_by_the_second_program() {
         if let Some(refused) = told.strip_prefix("refused ") {
             let told = object.at("refused");
             let number = |name| told.at(name).number();
-            assert_eq!(
-                format!("{} at {}", number("number"), number("place")),
-                refused
-            );
+            let places = format!("{} beside {}", number("place"), number("beside"));
+            assert_eq!(format!("{} at {places}", number("number")), refused);
             assert_eq!((ran.status, ran.err.as_str()), (1, ""));
             continue;
         }

@@ -1,6 +1,6 @@
 //! Refusals in words: of damaged files by `check`, of batches by `write`.
 
-use crate::corpora::{inputs, refusals, Named};
+use crate::corpora::{inputs, refusals, Named, Told};
 use crate::json::Json;
 use crate::run::{folder, run_on, sample, second};
 
@@ -72,14 +72,16 @@ fn sections_are_named_by_kind_and_name() {
     }
 }
 
-/// Some file of the corpus that the second program refuses so, and that fits.
-fn refused_so(number: u64, place: u64, fits: fn(&[u8]) -> bool) -> Vec<u8> {
+/// The first file of the corpus that the second program refuses so, and its refusal.
+fn refused_so(so: impl Fn(&Told, &[u8]) -> bool) -> (Vec<u8>, Told) {
     let refusals = refusals("test_check", "check");
-    let so = |file: &Named| refusals.get(&file.name) == Some(&(number, place));
-    let found = inputs("test_check")
-        .into_iter()
-        .find(|file| so(file) && fits(&file.bytes));
-    found.expect("such a file").bytes
+    let fits = |file: &Named| {
+        let told = refusals.get(&file.name)?;
+        so(told, &file.bytes).then_some(*told)
+    };
+    let files = inputs("test_check").into_iter();
+    let mut fitting = files.filter_map(|file| fits(&file).map(|told| (file.bytes, told)));
+    fitting.next().expect("such a file")
 }
 
 /// A file that does not open has no list of its sections: the entry stands alone.
@@ -92,28 +94,35 @@ fn places_of_files_that_do_not_open() {
         (14, "offset, offset"),
     ] {
         for place in [1, 2, 3] {
-            let bytes = refused_so(number, place, |_| true);
+            let (bytes, _) = refused_so(|told, _| (told.number, told.place) == (number, place));
             assert_eq!(said(&bytes), format!("{number}: {text} {place}"));
         }
     }
 }
 
-/// Groups are told with their key, which is at 64 + 16 i where the keys come first.
+/// What is wrong with a group is told with its key, which is at 64 + 16 i where the keys
+/// come first, and with the byte.
 #[test]
-fn groups_are_named_by_their_key() {
+fn faults_of_groups_are_told_with_key_and_byte() {
     for (number, text) in [
-        (16, "unknown tag of a group"),
-        (17, "varint cut, too long or too large"),
-        (
-            18,
-            "group: degree 0, order, upper half too large, cut or overlong",
-        ),
+        (16, "unknown tag"),
+        (28, "degree 0"),
+        (29, "partner order"),
+        (30, "upper half too large"),
+        (31, "group cut short"),
+        (32, "bytes left over"),
+        (33, "varint cut"),
+        (34, "varint not shortest"),
+        (35, "varint too large"),
     ] {
         for group in [0, 1, 2] {
-            let bytes = refused_so(number, group, |bytes| first_section(bytes) == (1, 64));
+            let (bytes, told) = refused_so(|told, bytes| {
+                (told.number, told.beside) == (number, group) && first_section(bytes) == (1, 64)
+            });
             let key = &bytes[64 + 16 * group as usize..][..16];
             let key: String = key.iter().map(|byte| format!("{byte:02x}")).collect();
-            let line = format!("{number}: {text}, group {group} (key {key})");
+            let byte = told.place;
+            let line = format!("{number}: {text}, group {group} (key {key}), byte {byte}");
             assert_eq!(said(&bytes), line);
         }
     }
@@ -138,7 +147,7 @@ fn refusals_without_a_place_have_none() {
         (15, "fence section"),
         (23, "degree sum, flag bit 1 or 2, or unused tombstone bits"),
     ] {
-        let bytes = refused_so(number, 0, |_| true);
+        let (bytes, _) = refused_so(|told, _| told.number == number);
         assert_eq!(said(&bytes), format!("{number}: {text}"));
     }
 }
@@ -152,6 +161,7 @@ fn json_has_the_same_words() {
     let refused = told.at("refused");
     assert_eq!(refused.at("number").number(), 22);
     assert_eq!(refused.at("place").number(), 3);
+    assert_eq!(refused.at("beside").number(), 0);
     assert_eq!(refused.at("text").text(), "a section's checksum");
     assert_eq!(refused.at("where").text(), "entry 3 (partners)");
 }

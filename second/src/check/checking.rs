@@ -1,5 +1,6 @@
 //! Checks of the full check, of read-out and of their corpus.
 
+use super::groups::{check_fault, group_bytes, Spots, FAULTS};
 use super::{check_framed, check_names, Named, Tally};
 use crate::batch;
 use crate::corpus::check_files::{self, CheckFile, ROOM};
@@ -8,12 +9,14 @@ use crate::full_check::{full_check, Contents};
 use crate::groups::Edge;
 use crate::lookup::{lookup_from_record, partners_from_record, Answer, Outputs};
 use crate::numbers::Id;
-use crate::open::{bytes_of, open, OpenedRecord, Refusal};
+use crate::open::{bytes_of, open, OpenedRecord};
 use crate::print::LONGEST;
+use crate::refusal::Refusal;
 use std::collections::{BTreeMap, BTreeSet};
 
-/// The refusals of the full check after those of opening.
-const LATER: [u8; 5] = [16, 17, 18, 22, 23];
+/// The refusals of the full check after those of opening, but for the faults of
+/// groups.
+const LATER: [u8; 2] = [22, 23];
 
 pub fn check(tally: &mut Tally) {
     let files = check_files::files();
@@ -32,13 +35,14 @@ pub fn check(tally: &mut Tally) {
         check_read_out(tally, file);
     }
     check_refusals(tally, &files);
+    check_spots(tally, &files);
     check_changed_bytes(tally, &files);
 }
 
 fn check_sizes(tally: &mut Tally, files: &[CheckFile]) {
     let input = check_files::stdin(files).len();
     let output = check_files::stdout(files).len();
-    tally.same("check input at most 1500000", input <= 1_500_000, true);
+    tally.same("check input at most 1900000", input <= 1_900_000, true);
     for file in files {
         let within = file.bytes.len() <= LONGEST;
         tally.same(&format!("size of {}", file.name), within, true);
@@ -59,9 +63,11 @@ fn check_opening(tally: &mut Tally, file: &CheckFile) {
         (Err(refusal), checked) => tally.same(name, checked.map(drop), Err(refusal)),
         (Ok(opened), Ok(contents)) => check_contents(tally, file, &opened.record, &contents),
         (Ok(opened), Err(refusal)) => {
-            tally.same(name, LATER.contains(&refusal.number), true);
-            if (16..=18).contains(&refusal.number) {
+            if FAULTS.contains(&refusal.number) {
                 check_group(tally, file, &opened.record, refusal);
+            } else {
+                tally.same(name, LATER.contains(&refusal.number), true);
+                tally.same(name, refusal.beside, 0);
             }
         }
     }
@@ -106,16 +112,19 @@ fn check_contents(tally: &mut Tally, file: &CheckFile, record: &OpenedRecord, co
     }
 }
 
-/// The lookup of the faulty group refuses alike, and no lookup before it.
+/// The lookup of the faulty group refuses alike, and no lookup before it; and
+/// the fault is in the group's bytes.
 fn check_group(tally: &mut Tally, file: &CheckFile, record: &OpenedRecord, refusal: Refusal) {
     let mut output = vec![0; 16 * file.bytes.len()];
     let mut ask = |key: &Id| partners_from_record(&file.bytes, record, key, &mut output);
     let keys = keys(file, record);
-    let place = refusal.place as usize;
-    tally.same(&file.name, ask(&keys[place]), Err(refusal));
-    for key in &keys[..place] {
+    let index = refusal.beside as usize;
+    tally.same(&file.name, ask(&keys[index]), Err(refusal));
+    for key in &keys[..index] {
         tally.same(&file.name, ask(key).is_ok(), true);
     }
+    let group = group_bytes(&file.bytes, record, index);
+    check_fault(tally, &file.name, group, refusal);
 }
 
 /// The batch of a file that passes holds its edges, and nothing is written
@@ -143,42 +152,60 @@ fn check_read_out(tally: &mut Tally, file: &CheckFile) {
     for room in [0, size - 1] {
         let (told, output) = file.read_out(room);
         let place = size as u64;
-        tally.same(name, told, Err(Refusal { number: 20, place }));
+        tally.same(name, told, Err(Refusal::at(20, place)));
         tally.same(name, output == fresh_output(room), true);
     }
 }
 
 /// Every refusal of the full check comes up, and those with places at several.
 fn check_refusals(tally: &mut Tally, files: &[CheckFile]) {
-    let mut places: BTreeMap<u8, Vec<u64>> = BTreeMap::new();
+    let mut told: BTreeMap<u8, Vec<Refusal>> = BTreeMap::new();
     for file in files {
-        if let Err(Refusal { number, place }) = file.verdict() {
-            places.entry(number).or_default().push(place);
+        if let Err(refusal) = file.verdict() {
+            told.entry(refusal.number).or_default().push(refusal);
         }
     }
-    let refused: usize = places.values().map(Vec::len).sum();
+    let refused: usize = told.values().map(Vec::len).sum();
     let passed = files.len() - refused;
     tally
         .notes
         .push(format!("full check: fine: files {passed}"));
-    let numbers: Vec<u8> = (1..=15).chain(LATER).collect();
-    let found: Vec<u8> = places.keys().copied().collect();
-    tally.same("refusals of the full check", &found, &numbers);
-    for (number, places) in places {
-        let distinct: BTreeSet<&u64> = places.iter().collect();
+    let numbers: BTreeSet<u8> = (1..=15).chain(LATER).chain(FAULTS).collect();
+    let found: BTreeSet<u8> = told.keys().copied().collect();
+    tally.same("refusals of the full check", found, numbers);
+    for (number, told) in told {
+        let places: BTreeSet<u64> = told.iter().map(|refusal| refusal.place).collect();
+        let groups: BTreeSet<u64> = told.iter().map(|refusal| refusal.beside).collect();
         let enough = match number {
-            10 | 11 | 13 | 14 | 16..=18 => distinct.len() >= 4,
-            22 => distinct.len() >= 8,
-            _ => distinct.len() == 1 && places[0] == 0,
+            10 | 11 | 13 | 14 => places.len() >= 4,
+            22 => places.len() >= 8,
+            28 => places == BTreeSet::from([0]) && groups.len() >= 3,
+            _ if FAULTS.contains(&number) => places.len() >= 5 && groups.len() >= 3,
+            _ => places == BTreeSet::from([0]),
         };
         let what = format!("full check: refusal {number:2}");
-        tally.same(&what, enough && places.len() >= 2, true);
-        tally.notes.push(format!(
-            "{what}: files {}, places {}",
-            places.len(),
-            distinct.len()
-        ));
+        tally.same(&what, enough && told.len() >= 2, true);
+        let note = format!("{what}: files {}, places {}", told.len(), places.len());
+        tally.notes.push(match FAULTS.contains(&number) {
+            true => format!("{note}, groups {}", groups.len()),
+            false => note,
+        });
     }
+}
+
+/// The files made by hand have each fault at each of its places.
+fn check_spots(tally: &mut Tally, files: &[CheckFile]) {
+    let mut spots = Spots::default();
+    for file in files {
+        if let Some(Err(refusal)) = file.intended {
+            if FAULTS.contains(&refusal.number) {
+                let record = open(&file.bytes).expect("a fault of a group").record;
+                let group = group_bytes(&file.bytes, &record, refusal.beside as usize);
+                spots.note(group, refusal);
+            }
+        }
+    }
+    spots.check(tally, "full check");
 }
 
 /// Each byte of some files changed. A change in a section is seen, by its sum
@@ -202,7 +229,9 @@ fn check_changed_bytes(tally: &mut Tally, files: &[CheckFile]) {
             let right = match full_check(&changed) {
                 // The minor, the ids, or a gap.
                 Ok(_) => at == 9 || (16..footer_place).contains(&at) && entry.is_none(),
-                Err(Refusal { number: 22, place }) => entry == Some(place as usize),
+                Err(Refusal {
+                    number: 22, place, ..
+                }) => entry == Some(place as usize),
                 Err(Refusal { number, .. }) => number <= 15,
             };
             tally.same(&format!("{name} changed at {at}"), right, true);

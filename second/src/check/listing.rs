@@ -4,7 +4,8 @@ use super::Tally;
 use crate::corpus::list_files::{self, blank, sort, Sort, OF_EACH_COUNT, OF_EACH_REFUSAL, ROOM};
 use crate::corpus::open_files::{self, OpenFile};
 use crate::list::list;
-use crate::open::{open, Refusal};
+use crate::open::open;
+use crate::refusal::Refusal;
 use std::collections::BTreeMap;
 
 pub fn check(tally: &mut Tally) {
@@ -56,10 +57,7 @@ fn check_listed(tally: &mut Tally, file: &OpenFile) {
         let expected = open(&file.bytes).and_then(|opened| {
             let needed = opened.rows.len();
             if room < needed {
-                return Err(Refusal {
-                    number: 20,
-                    place: needed as u64,
-                });
+                return Err(Refusal::at(20, needed as u64));
             }
             left.splice(..needed, opened.rows);
             Ok(needed as u64)

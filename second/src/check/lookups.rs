@@ -1,15 +1,17 @@
 //! Checks of the lookups and of their corpus.
 
+use super::groups::{self, check_fault, group_bytes, Spots, FAULTS};
 use super::Tally;
 use crate::corpus::lookup_calls::{
     self, Call, Intended, LentRecord, LookupFile, Outcome, Rooms, LONGEST_FILE,
 };
 use crate::corpus::open_files;
 use crate::format::bound;
-use crate::groups::{self, Edge, Form, Group};
+use crate::groups::{partners, Edge, Form, Group};
 use crate::lookup::{lookup_from_record, partners_from_record, Answer, Outputs};
 use crate::numbers::{id_number, id_of, read_le, Id};
-use crate::open::{bytes_of, open, OpenedRecord, Range, Refusal};
+use crate::open::{bytes_of, open, OpenedRecord, Range};
+use crate::refusal::Refusal;
 use std::cmp::Ordering;
 use std::collections::{BTreeMap, BTreeSet};
 
@@ -23,6 +25,7 @@ pub fn check(tally: &mut Tally) {
     check_sizes(tally, &files);
     check_input(tally, &files);
     let mut told = BTreeMap::new();
+    let mut spots = HandMade::default();
     for file in &files {
         let opened = open(&file.bytes).map(|opened| opened.record);
         for call in &file.calls {
@@ -39,6 +42,8 @@ pub fn check(tally: &mut Tally) {
             };
             check_search(tally, file, call, &outcome, record);
             check_group(tally, file, call, &outcome, record);
+            check_refused(tally, file, call, &outcome, record);
+            spots.note(file, call, record);
             if call.record.is_none() {
                 // The record of opening gives what the one call gives.
                 let again = call.outcome_with(&file.bytes, Some(record));
@@ -47,7 +52,9 @@ pub fn check(tally: &mut Tally) {
             }
         }
     }
-    check_told(tally, &told);
+    check_told(tally, told);
+    spots.one_call.check(tally, "lookups on the file alone");
+    spots.by_record.check(tally, "lookups by a record");
     check_bounds(tally);
     check_changed_bytes(tally, &files);
 }
@@ -81,8 +88,8 @@ fn check_names(tally: &mut Tally, files: &[LookupFile]) {
 fn check_sizes(tally: &mut Tally, files: &[LookupFile]) {
     let input = lookup_calls::stdin(files).len();
     let output = lookup_calls::stdout(files).len();
-    tally.same("lookup input at most 1500000", input <= 1_500_000, true);
-    tally.same("lookup output at most 1000000", output <= 1_000_000, true);
+    tally.same("lookup input at most 1900000", input <= 1_900_000, true);
+    tally.same("lookup output at most 1250000", output <= 1_250_000, true);
     for file in files {
         let within = file.bytes.len() <= LONGEST_FILE;
         tally.same(&format!("size of {}", file.name), within, true);
@@ -214,10 +221,7 @@ fn check_edges(tally: &mut Tally, file: &LookupFile, call: &Call, outcome: &Outc
     let enough = call.rooms.partners >= needed.partners
         && (!call.full || call.rooms.logs.min(call.rooms.marks) >= needed.logs);
     if !enough {
-        let refusal = Refusal {
-            number: 20,
-            place: degree as u64,
-        };
+        let refusal = Refusal::at(20, degree as u64);
         tally.same(&call.name, outcome.told(), Intended::Refused(refusal));
         return;
     }
@@ -296,12 +300,7 @@ fn check_group(
     let Ok(Answer::Found { degree, index, .. }) = outcome.answer else {
         return;
     };
-    let width = usize::from(record.offset_bits / 8);
-    let offsets = bytes_of(&file.bytes, record.offsets);
-    let offset = |index: u64| read_le(&offsets[width * index as usize..][..width]) as usize;
-    let partners = bytes_of(&file.bytes, record.partners);
-    let group = &partners[offset(index)..offset(index + 1)];
-
+    let group = group_bytes(&file.bytes, record, index as usize);
     let edges: Vec<Edge> = outcome.buffers.partners[..16 * degree as usize]
         .chunks_exact(16)
         .map(|id| Edge {
@@ -316,30 +315,86 @@ fn check_group(
             form,
             edges: edges.clone(),
         };
-        groups::partners(&[group]).bytes
+        partners(&[group]).bytes
     };
     let same = rewritten(Form::Split) == group || rewritten(Form::Dense) == group;
     tally.same(&format!("{} written again", call.name), same, true);
 }
 
-/// How often each answer comes, on the file alone and by a record.
+/// The fault that is told is in the bytes of the group of the key, which is the
+/// one that stands beside it.
+fn check_refused(
+    tally: &mut Tally,
+    file: &LookupFile,
+    call: &Call,
+    outcome: &Outcome,
+    record: &OpenedRecord,
+) {
+    let Err(refusal) = outcome.answer else {
+        return;
+    };
+    if !FAULTS.contains(&refusal.number) {
+        return;
+    }
+    let index = refusal.beside as usize;
+    let key = &bytes_of(&file.bytes, record.keys)[16 * index..][..16];
+    tally.same(&call.name, key, &call.key[..]);
+    let group = group_bytes(&file.bytes, record, index);
+    check_fault(tally, &call.name, group, refusal);
+}
+
+/// Where the calls made by hand have their faults.
+#[derive(Default)]
+struct HandMade {
+    one_call: Spots,
+    by_record: Spots,
+}
+
+impl HandMade {
+    fn note(&mut self, file: &LookupFile, call: &Call, record: &OpenedRecord) {
+        let Some(Intended::Refused(refusal)) = call.intended else {
+            return;
+        };
+        if !FAULTS.contains(&refusal.number) {
+            return;
+        }
+        let group = group_bytes(&file.bytes, record, refusal.beside as usize);
+        match call.record {
+            None => self.one_call.note(group, refusal),
+            Some(_) => self.by_record.note(group, refusal),
+        }
+    }
+}
+
+/// How often each answer comes, on the file alone and by a record, and at which
+/// places.
 #[derive(Default)]
 struct Told {
     one_call: usize,
     by_record: usize,
     places: BTreeSet<u64>,
+    beside: BTreeSet<u64>,
 }
 
 const FOUND: &str = "found";
 const ABSENT: &str = "absent";
 
+fn refusal_word(number: u8) -> String {
+    format!("refusal {number:2}")
+}
+
 fn count(told: &mut BTreeMap<String, Told>, call: &Call, outcome: &Outcome) {
-    let (answer, place) = match outcome.told() {
-        Intended::Found { index, .. } => (FOUND.to_string(), index),
-        Intended::Absent => (ABSENT.to_string(), 0),
-        Intended::Refused(Refusal { number, place }) => (format!("refusal {number:2}"), place),
+    let (answer, place, beside) = match outcome.told() {
+        Intended::Found { index, .. } => (FOUND.to_string(), index, 0),
+        Intended::Absent => (ABSENT.to_string(), 0, 0),
+        Intended::Refused(Refusal {
+            number,
+            place,
+            beside,
+        }) => (refusal_word(number), place, beside),
     };
     let told = told.entry(answer).or_default();
+    told.beside.insert(beside);
     match call.record {
         None => told.one_call += 1,
         Some(_) => told.by_record += 1,
@@ -347,35 +402,51 @@ fn count(told: &mut BTreeMap<String, Told>, call: &Call, outcome: &Outcome) {
     told.places.insert(place);
 }
 
-/// Every answer comes that the rules know of, each where it may: 21 only by a
-/// record, the other refusals of opening only without one, but for 14.
-fn check_told(tally: &mut Tally, told: &BTreeMap<String, Told>) {
-    let none = Told::default();
-    let mut enough = |answer: String, one_call: bool, by_record: bool, places: usize| {
-        let told = told.get(&answer).unwrap_or(&none);
+/// Every answer comes that the rules know of, and no other, each where it may:
+/// 21 only by a record, the other refusals of opening only without one, but for
+/// 14.
+fn check_told(tally: &mut Tally, mut told: BTreeMap<String, Told>) {
+    let mut enough = |answer: &str, one_call: bool, by_record: bool, places: usize| {
+        let told = told.remove(answer).unwrap_or_default();
         let what = format!("lookups: {answer}");
         tally.same(&what, told.one_call > 0, one_call);
         tally.same(&what, told.by_record > 0, by_record);
         tally.same(&what, told.places.len() >= places, true);
+        let groups = check_beside(tally, answer, &told.beside);
         tally.notes.push(format!(
-            "{what}: calls {}, by record {}, places {}",
+            "{what}: calls {}, by record {}, places {}{groups}",
             told.one_call + told.by_record,
             told.by_record,
             told.places.len()
         ));
     };
-    enough(FOUND.to_string(), true, true, 10);
-    enough(ABSENT.to_string(), true, true, 1);
-    for number in 1..=21 {
-        let answer = format!("refusal {number:2}");
+    enough(FOUND, true, true, 10);
+    enough(ABSENT, true, true, 1);
+    for number in (1..=16).chain(19..=21).chain(28..=35) {
+        let answer = &refusal_word(number)[..];
         match number {
             14 => enough(answer, true, true, 4),
             21 => enough(answer, false, true, 1),
             1..=15 => enough(answer, true, false, 1),
             20 => enough(answer, true, true, 8),
-            _ => enough(answer, true, true, 3),
+            19 => enough(answer, true, true, 3),
+            groups::DEGREE_ZERO => enough(answer, true, true, 1),
+            _ => enough(answer, true, true, 6),
         }
     }
+    tally.same("lookups: other answers", told.len(), 0);
+}
+
+/// The faults of groups come in several groups, which their note tells; nothing
+/// else has a second place.
+fn check_beside(tally: &mut Tally, answer: &str, beside: &BTreeSet<u64>) -> String {
+    let what = format!("lookups: second place of {answer}");
+    if FAULTS.map(refusal_word).contains(&answer.to_string()) {
+        tally.same(&what, beside.len() >= 10, true);
+        return format!(", groups {}", beside.len());
+    }
+    tally.same(&what, beside, &BTreeSet::from([0]));
+    String::new()
 }
 
 /// The bounds of 2^30 bytes, 2^24 keys and 2^26 edges, by records of files of
@@ -393,7 +464,7 @@ fn check_bounds(tally: &mut Tally) {
 const ABOVE: Id = [0xFF; 16];
 
 fn refused(number: u8, place: u64) -> Result<Answer, Refusal> {
-    Err(Refusal { number, place })
+    Err(Refusal::at(number, place))
 }
 
 fn absent(compared: u32) -> Result<Answer, Refusal> {
@@ -464,7 +535,8 @@ fn check_longest_search(tally: &mut Tally, file: &mut [u8]) {
     // The offsets lie among zeros, and the group that is met first is empty.
     let mut record = record_at_0(keys, 0);
     record.offsets.offset = bound::FILE / 2;
-    let (key, empty) = (id_of(0, 2), refused(17, keys / 2));
+    let empty = Err(Refusal::in_group(33, 0, keys / 2));
+    let key = id_of(0, 2);
     check_no_room(tally, "middle of 2^24", file, record, key, empty);
 }
 
@@ -494,10 +566,10 @@ fn check_form(tally: &mut Tally, call: &Call, outcome: &Outcome) {
         Ok(Answer::Found {
             degree, compared, ..
         }) => degree > 0 && 0 < compared && compared <= MOST_COMPARED,
-        Err(Refusal { number, .. }) => match number {
-            14 | 16..=18 | 20 => true,
-            19 => call.full,
-            _ => false,
+        Err(Refusal { number, beside, .. }) => match number {
+            14 | 20 => beside == 0,
+            19 => beside == 0 && call.full,
+            _ => FAULTS.contains(&number),
         },
     };
     tally.same("a lookup's answer of the right form", formed, true);

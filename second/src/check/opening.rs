@@ -7,7 +7,8 @@ use crate::groups::{self, Edge, Form, Group};
 use crate::header::{header, HeaderFields};
 use crate::layout::{mend, Header, Layout, Section};
 use crate::numbers::id_of;
-use crate::open::{open, Opened, Refusal};
+use crate::open::{open, Opened};
+use crate::refusal::Refusal;
 use std::collections::{BTreeMap, BTreeSet};
 
 pub fn check(tally: &mut Tally) {
@@ -152,7 +153,7 @@ fn found_layout(file: &[u8], opened: &Opened) -> Layout {
 fn check_refusals(tally: &mut Tally, files: &[OpenFile]) {
     let mut places: BTreeMap<u8, Vec<u64>> = BTreeMap::new();
     for file in files {
-        if let Verdict::Refused(Refusal { number, place }) = file.verdict() {
+        if let Verdict::Refused(Refusal { number, place, .. }) = file.verdict() {
             places.entry(number).or_default().push(place);
         }
     }
@@ -184,7 +185,7 @@ fn check_refusals(tally: &mut Tally, files: &[OpenFile]) {
 /// The bounds of file, keys and edges, in files of zeros but for header and
 /// footer. Hardly any of their bytes is ever touched.
 fn check_bounds(tally: &mut Tally) {
-    let refused = |number, place| Err(Refusal { number, place });
+    let refused = |number, place| Err(Refusal::at(number, place));
     let zeros = |size: u64| vec![0; size as usize];
     tally.same(
         "2^30 bytes",
@@ -268,12 +269,17 @@ fn check_any_bytes(tally: &mut Tally, files: &[OpenFile]) {
 fn check_answer(tally: &mut Tally, file: &[u8]) {
     let formed = match open(file) {
         Ok(opened) => (1..=64).contains(&opened.rows.len()),
-        Err(Refusal { number, place }) => match number {
+        Err(Refusal {
+            number,
+            place,
+            beside: 0,
+        }) => match number {
             10 | 11 => place < 64,
             13 | 14 => place <= bound::KEYS,
             1..=15 => place == 0,
             _ => false,
         },
+        Err(_) => false,
     };
     tally.same("an answer of the right form", formed, true);
 }

@@ -1,5 +1,6 @@
 //! Checks of what is printed, and of the corpus of printing.
 
+use super::groups::FAULTS;
 use super::Tally;
 use crate::batch::{Batch, KeyedEdge};
 use crate::corpus::check_files::{self, samples, CheckFile, ROOM};
@@ -7,6 +8,7 @@ use crate::corpus::print_files;
 use crate::groups::Edge;
 use crate::numbers::Id;
 use crate::print::{print, LONGEST};
+use crate::refusal::Refusal;
 use std::collections::BTreeMap;
 
 /// The form that the rules give.
@@ -48,10 +50,10 @@ fn check_chosen(tally: &mut Tally, files: &[CheckFile]) {
             Err(refusal) => *refused.entry(refusal.number).or_default() += 1,
         }
     }
-    let numbers = (1..=18).chain([22, 23]);
+    let numbers = (1..=15).chain([22, 23]).chain(FAULTS);
     let each = numbers.map(|number| (number, print_files::OF_EACH_REFUSAL));
     tally.same("refusals printed", &refused, &each.collect());
-    tally.same("60 to 80 printed", (60..=80).contains(&files.len()), true);
+    tally.same("80 to 100 printed", (80..=100).contains(&files.len()), true);
     tally.notes.push(format!(
         "corpus of printing: {} files, {} bytes in, {} bytes out",
         files.len(),
@@ -61,15 +63,15 @@ fn check_chosen(tally: &mut Tally, files: &[CheckFile]) {
 }
 
 /// The printed edges, read again, are the batch that is read out; the counts
-/// are theirs; and a refusal is that of the full check.
+/// are theirs; and a refusal is that of the full check, without the group.
 fn check_printed(tally: &mut Tally, file: &CheckFile) {
     let what = format!("{} printed", file.name);
     let text = print(&file.bytes);
     let (told, output) = file.read_out(ROOM);
     let size = match told {
         Ok(size) => size as usize,
-        Err(refusal) => {
-            tally.same(&what, text, format!("{refusal}\n"));
+        Err(Refusal { number, place, .. }) => {
+            tally.same(&what, text, format!("refused {number} at {place}\n"));
             return;
         }
     };

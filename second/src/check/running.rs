@@ -4,8 +4,8 @@
 use super::Tally;
 use crate::corpus::running_vectors::{self, sizes, state_lengths, CHUNKED, CUT, ONE_BY_ONE};
 use crate::family;
-use crate::open::Refusal;
 use crate::random::Random;
+use crate::refusal::Refusal;
 use crate::running::{passes, Running, State, MOST};
 use crate::xxh3::xxh3_64;
 
@@ -86,10 +86,7 @@ fn check_refused(tally: &mut Tally) {
     let large = vec![0; MOST as usize + 1];
     for fed in [0, 1, 240, 241, 256, 1_000] {
         let mut running = Running::new();
-        let refused = Refusal {
-            number: 27,
-            place: 0,
-        };
+        let refused = Refusal::at(27, 0);
         tally.same("a chunk", running.feed(&family[..fed]), Ok(()));
         for chunk in [&large[..], &large[fed..]] {
             tally.same("a large chunk", running.feed(chunk), Err(refused));

@@ -11,8 +11,9 @@ use crate::groups::{self, Edge, Form, Group};
 use crate::header::header;
 use crate::lookup::{lookup, Answer, Outputs};
 use crate::numbers::{id_of, Id};
-use crate::open::{open, Refusal};
+use crate::open::open;
 use crate::read_out::read_out;
+use crate::refusal::Refusal;
 use crate::write::{form, needed, over_bounds, split_cost, write};
 use std::collections::{BTreeMap, BTreeSet};
 
@@ -59,10 +60,7 @@ fn check_marked_cases(tally: &mut Tally) {
     let two = edges(&[(5, 1), (5, 2)]);
     tally.same("two partners", form(&two, 1), Form::Split);
     let twice = keyed(id_of(1, 2), &edges(&[(5, 2), (5, 2)]));
-    let refused = Err(Refusal {
-        number: 25,
-        place: 91,
-    });
+    let refused = Err(Refusal::at(25, 91));
     tally.same("a partner twice", needed(&batch_of(twice)), refused);
 
     let many: Vec<Edge> = (0..1_026).flat_map(|i| edges(&[(0, i)])).collect();
@@ -173,7 +171,7 @@ fn check_batch(tally: &mut Tally, batch: &WriteBatch, room: usize, stride: usize
         output,
     } = batch.write(room);
     let expected = match told {
-        Ok(place) if place > room as u64 => Err(Refusal { number: 20, place }),
+        Ok(place) if place > room as u64 => Err(Refusal::at(20, place)),
         _ => told,
     };
     tally.same(name, wrote, expected);
@@ -192,7 +190,7 @@ fn check_batch(tally: &mut Tally, batch: &WriteBatch, room: usize, stride: usize
     }
     let short = batch.write(size - 1);
     let place = size as u64;
-    tally.same(name, short.told, Err(Refusal { number: 20, place }));
+    tally.same(name, short.told, Err(Refusal::at(20, place)));
     tally.same(name, short.output == fresh_output(size - 1), true);
 }
 
@@ -280,7 +278,7 @@ fn check_lookup(tally: &mut Tally, name: &str, file: &[u8], group: &Group) {
 fn check_refusals(tally: &mut Tally, batches: &[WriteBatch]) {
     let mut places: BTreeMap<u8, Vec<u64>> = BTreeMap::new();
     for batch in batches {
-        if let Err(Refusal { number, place }) = batch.write(ROOM).told {
+        if let Err(Refusal { number, place, .. }) = batch.write(ROOM).told {
             places.entry(number).or_default().push(place);
         }
     }
@@ -316,10 +314,7 @@ fn check_beginnings(tally: &mut Tally, batches: &[WriteBatch]) {
                 Some(bytes) if bytes % batch::EDGE != 0 => Some(length - bytes % batch::EDGE),
                 Some(_) => None,
             };
-            let expected = place.map(|place| Refusal {
-                number: 24,
-                place: place as u64,
-            });
+            let expected = place.map(|place| Refusal::at(24, place as u64));
             let what = format!("{name} cut to {length}");
             tally.same(&what, needed(&whole[..length]).err(), expected);
         }

@@ -12,9 +12,9 @@ mod totals;
 use super::{framed, fresh_output, lookup_calls, open_files};
 use crate::full_check::full_check;
 use crate::layout::Layout;
-use crate::open::Refusal;
 use crate::print::LONGEST;
 use crate::read_out::read_out;
+use crate::refusal::Refusal;
 use crate::xxh3::xxh3_64;
 use std::collections::BTreeSet;
 
@@ -58,7 +58,7 @@ fn other_corpora(files: &mut Files) {
     }
     for file in lookup_calls::files() {
         if file.bytes.len() <= LONGEST && names.insert(file.name.clone()) {
-            files.bytes(file.name, file.bytes, None);
+            files.bytes(file.name, file.bytes, file.checked.map(Err));
         }
     }
 }
@@ -72,7 +72,20 @@ impl Files {
     }
 
     fn refused(&mut self, name: impl Into<String>, layout: Layout, number: u8, place: u64) {
-        let refusal = Refusal { number, place };
+        let refusal = Refusal::at(number, place);
+        self.bytes(name, layout.bytes(), Some(Err(refusal)));
+    }
+
+    /// Refused for this byte of the group with this index.
+    fn faulty(
+        &mut self,
+        name: impl Into<String>,
+        layout: Layout,
+        number: u8,
+        byte: u64,
+        group: usize,
+    ) {
+        let refusal = Refusal::in_group(number, byte, group as u64);
         self.bytes(name, layout.bytes(), Some(Err(refusal)));
     }
 

@@ -4,7 +4,8 @@
 use super::open_files::samples::heading_only;
 use super::open_files::{self, row_text, OpenFile, Verdict};
 use crate::list::list;
-use crate::open::{open, Range, Refusal, SectionRow};
+use crate::open::{open, Range, SectionRow};
+use crate::refusal::Refusal;
 use std::collections::BTreeMap;
 
 /// The rows of the table that each call fills. No file has more sections.
@@ -30,10 +31,7 @@ pub fn sort(file: &OpenFile) -> Sort {
 
 /// A file of one section. None that opens has fewer than four.
 fn one_section() -> OpenFile {
-    let missing = Refusal {
-        number: 9,
-        place: 0,
-    };
+    let missing = Refusal::at(9, 0);
     OpenFile {
         name: "list-one-section".to_string(),
         bytes: heading_only().with(|l| l.sections.truncate(1)).bytes(),

@@ -19,7 +19,7 @@ pub use call::{Call, Intended, LentRecord, Outcome, Rooms, LONGEST_FILE};
 use crate::groups::Group;
 use crate::layout::Layout;
 use crate::numbers::Id;
-use crate::open::Refusal;
+use crate::refusal::Refusal;
 use std::fmt::Display;
 
 /// A file of the corpus, and what is asked of it.
@@ -29,6 +29,9 @@ pub struct LookupFile {
     pub bytes: Vec<u8>,
     /// The edges that a sound file was made from, where they are at hand.
     pub groups: Option<Vec<Group>>,
+    /// What the full check refuses it with in the author's view, where there is
+    /// one.
+    pub checked: Option<Refusal>,
     pub calls: Vec<Call>,
 }
 
@@ -64,7 +67,13 @@ pub fn stdout(files: &[LookupFile]) -> Vec<u8> {
 
 /// A refusal that the author of a call intends.
 fn expect(number: u8, place: u64) -> Intended {
-    Intended::Refused(Refusal { number, place })
+    Intended::Refused(Refusal::at(number, place))
+}
+
+/// A fault within a group that the author of a call intends: its number, the
+/// byte of the group, the group.
+fn faulty(number: u8, byte: u64, group: u64) -> Intended {
+    Intended::Refused(Refusal::in_group(number, byte, group))
 }
 
 fn found(degree: u64, index: u64) -> Intended {
@@ -112,6 +121,7 @@ impl Files {
             name: name.into(),
             bytes,
             groups: None,
+            checked: None,
             calls: Vec::new(),
         });
         self.0.last_mut().expect("just put there")

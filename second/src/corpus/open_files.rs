@@ -20,7 +20,8 @@ use super::framed;
 use crate::header::{header, HeaderFields};
 use crate::layout::Layout;
 use crate::numbers::hex;
-use crate::open::{open, OpenedRecord, Range, Refusal, SectionRow};
+use crate::open::{open, OpenedRecord, Range, SectionRow};
+use crate::refusal::Refusal;
 
 /// One file of the corpus.
 pub struct OpenFile {
@@ -39,7 +40,7 @@ pub enum Verdict {
 }
 
 const fn expect(number: u8, place: u64) -> Verdict {
-    Verdict::Refused(Refusal { number, place })
+    Verdict::Refused(Refusal::at(number, place))
 }
 
 /// The files kept beside the library.

@@ -12,8 +12,8 @@ mod sound;
 use super::{framed, fresh_output};
 use crate::full_check::full_check;
 use crate::numbers::hex;
-use crate::open::Refusal;
 use crate::read_out::read_out;
+use crate::refusal::Refusal;
 use crate::write::{needed, write};
 use crate::xxh3::xxh3_64;
 
@@ -61,7 +61,7 @@ impl Batches {
 
     fn refused(&mut self, name: impl Into<String>, bytes: Vec<u8>, number: u8, place: usize) {
         let place = place as u64;
-        self.add(name, bytes, Some(Err(Refusal { number, place })));
+        self.add(name, bytes, Some(Err(Refusal::at(number, place))));
     }
 
     fn add(

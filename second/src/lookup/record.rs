@@ -3,7 +3,8 @@
 //! none can pass the end.
 
 use crate::format::{bound, OFFSET_BITS};
-use crate::open::{OpenedRecord, Refusal};
+use crate::open::OpenedRecord;
+use crate::refusal::Refusal;
 
 pub fn check(file: &[u8], record: &OpenedRecord) -> Result<(), Refusal> {
     let size = file.len() as u64;

@@ -10,19 +10,21 @@ use crate::layout::{Layout, Section};
 use crate::numbers::id_of;
 
 pub fn add(files: &mut Files) {
-    for (word, bytes, number) in [
-        ("16", group(1, &[&[0x03], &halves(5, 1)]), 16),
-        ("17", group(1, &[SPLIT, &[0x80; 12]]), 17),
-        ("18", group(1, &[DENSE, &[7; 15]]), 18),
+    // Each number with its byte.
+    for (number, byte, bytes) in [
+        (16, 1, group(1, &[&[0x03], &halves(5, 1)])),
+        (29, 18, group(2, &[DENSE, &[7; 32]])),
+        (31, 2, group(1, &[DENSE, &[7; 15]])),
+        (35, 2, group(1, &[SPLIT, &[0x80; 12]])),
     ] {
         let faulty = |index: usize| {
             let mut groups = vec![single(1, 1), single(2, 2), single(3, 3)];
             groups[index] = bytes.clone();
             of_bytes(&groups, 3)
         };
-        sum_before_group(files, word, &faulty);
-        group_before_totals(files, word, number, &faulty);
-        opening_before_group(files, word, &faulty);
+        sum_before_group(files, number, &faulty);
+        group_before_totals(files, number, byte, &faulty);
+        opening_before_group(files, number, &faulty);
     }
     sum_before_totals(files);
     opening_before_sum(files);
@@ -38,12 +40,12 @@ fn wrong_sum(layout: Layout, index: usize) -> Layout {
 
 /// Even the sum of the last entry, which is skipped, comes before the first
 /// group.
-fn sum_before_group(files: &mut Files, word: &str, faulty: &impl Fn(usize) -> Layout) {
+fn sum_before_group(files: &mut Files, number: u8, faulty: &impl Fn(usize) -> Layout) {
     for index in [0, 2] {
         for entry in [0, 2, 4] {
             let layout = faulty(index).with(|l| l.sections.push(Section::new(99, *b"skipped")));
             let layout = wrong_sum(layout, entry);
-            let name = format!("check-sum-{entry}-before-{word}-at-{index}");
+            let name = format!("check-sum-{entry}-before-{number}-at-{index}");
             files.refused(name, layout, 22, entry as u64);
         }
     }
@@ -51,15 +53,16 @@ fn sum_before_group(files: &mut Files, word: &str, faulty: &impl Fn(usize) -> La
 
 fn group_before_totals(
     files: &mut Files,
-    word: &str,
     number: u8,
+    byte: u64,
     faulty: &impl Fn(usize) -> Layout,
 ) {
     let tombstones = |byte: u8| Section::new(kind::TOMBSTONES, [byte]);
     for index in [0, 2] {
         let mut add = |what: &str, change: &dyn Fn(&mut Layout)| {
-            let name = format!("check-{word}-at-{index}-before-{what}");
-            files.refused(name, faulty(index).with(change), number, index as u64);
+            let name = format!("check-{number}-at-{index}-before-{what}");
+            let layout = faulty(index).with(change);
+            files.faulty(name, layout, number, byte, index);
         };
         add("edge-count", &|l| {
             l.edge_count = 4;
@@ -71,13 +74,13 @@ fn group_before_totals(
     }
 }
 
-fn opening_before_group(files: &mut Files, word: &str, faulty: &impl Fn(usize) -> Layout) {
+fn opening_before_group(files: &mut Files, number: u8, faulty: &impl Fn(usize) -> Layout) {
     let keys = faulty(0).with(|l| set_key(l, 2, id_of(0, 1)));
-    files.refused(format!("check-13-before-{word}"), keys, 13, 2);
+    files.refused(format!("check-13-before-{number}"), keys, 13, 2);
     let offsets = faulty(0).with(|l| set_offset(l, 3, 1));
-    files.refused(format!("check-14-before-{word}"), offsets, 14, 3);
+    files.refused(format!("check-14-before-{number}"), offsets, 14, 3);
     let fences = faulty(0).with(|l| l.sections.push(Section::new(kind::FENCES, [0; 8])));
-    files.refused(format!("check-15-before-{word}"), fences, 15, 0);
+    files.refused(format!("check-15-before-{number}"), fences, 15, 0);
 }
 
 fn sum_before_totals(files: &mut Files) {

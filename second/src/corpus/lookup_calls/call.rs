@@ -6,7 +6,8 @@ use crate::format::kind;
 use crate::layout::Layout;
 use crate::lookup::{self, Answer, Outputs};
 use crate::numbers::{hex, Id};
-use crate::open::{OpenedRecord, Range, Refusal};
+use crate::open::{OpenedRecord, Range};
+use crate::refusal::Refusal;
 use crate::xxh3::xxh3_64;
 
 /// The most bytes that a file of the corpus may have.

@@ -1,7 +1,7 @@
 //! Refusal 19: the degrees of earlier groups and the edge count.
 
 use super::raw::{self, group, halves, single, SPLIT};
-use super::{ask, expect, found, Files, LentRecord, LookupFile, Question, Rooms};
+use super::{ask, expect, faulty, found, Files, LentRecord, LookupFile, Question, Rooms};
 use crate::numbers::Id;
 use std::cmp::Ordering;
 
@@ -118,11 +118,12 @@ fn sums_near_the_edge_count(files: &mut Files) {
 /// they were, the ones after it have lost their place.
 fn one_bad_degree(files: &mut Files) {
     for (name, at, bytes, number) in [
-        ("zero-at-0", 0, &[0x00][..], 18),
-        ("zero-at-6", 6, &[0x00], 18),
-        ("long-at-5", 5, &[0x81, 0x00], 17),
-        ("cut-at-10", 10, &[0x80], 17),
-        ("cut-at-11", 11, &[0x80], 17),
+        ("zero-at-0", 0, &[0x00][..], 28),
+        ("zero-at-6", 6, &[0x00], 28),
+        ("long-at-5", 5, &[0x81, 0x00], 34),
+        ("large-at-7", 7, &[0xFF; 11], 35),
+        ("cut-at-10", 10, &[0x80], 33),
+        ("cut-at-11", 11, &[0x80], 33),
     ] {
         let mut groups = singles(12);
         groups[at as usize] = bytes.to_vec();
@@ -133,7 +134,7 @@ fn one_bad_degree(files: &mut Files) {
             let name = format!("key-{index}");
             match index.cmp(&at) {
                 Ordering::Less => file.both(name, question, found(1, index)),
-                Ordering::Equal => file.both(name, question, expect(number, index)),
+                Ordering::Equal => file.both(name, question, faulty(number, 0, index)),
                 Ordering::Greater => file.misplaced(name, question, 1, index),
             }
         }
@@ -149,9 +150,9 @@ fn degrees_alone(files: &mut Files) {
     let file = files.layout("degrees-alone", &layout);
     let answers = [
         found(1, 0),
-        expect(18, 1),
+        faulty(31, 1, 1),
         found(1, 2),
-        expect(16, 3),
+        faulty(16, 1, 3),
         found(1, 4),
     ];
     for (index, answer) in (0..).zip(answers) {
@@ -179,8 +180,9 @@ fn order_of_refusals(files: &mut Files) {
         file.alone(name("20-without-19"), ask(1, Rooms::NONE), expect(20, 2));
         file.full(name("19-with-room"), ask(1, Rooms::exact(2)), expect(19, 1));
         file.alone(name("room"), ask(1, Rooms::exact(2)), found(2, 1));
-        file.both(name("16-before-all"), ask(2, Rooms::NONE), expect(16, 2));
-        file.both(name("18-before-20"), ask(0, Rooms::NONE), expect(18, 0));
+        let (tag, degree) = (faulty(16, 1, 2), faulty(28, 0, 0));
+        file.both(name("16-before-all"), ask(2, Rooms::NONE), tag);
+        file.both(name("28-before-20"), ask(0, Rooms::NONE), degree);
         file.full(name("19-at-the-last"), ask(3, Rooms::NONE), expect(19, 3));
         file.alone(name("20-at-the-last"), ask(3, Rooms::NONE), expect(20, 1));
     }

@@ -3,7 +3,7 @@
 //! that are read at another width.
 
 use super::raw::{self, single, DENSE};
-use super::{ask, expect, found, Files, Intended, LentRecord, LookupFile, Question};
+use super::{ask, expect, faulty, found, Files, Intended, LentRecord, LookupFile, Question};
 use crate::corpus::open_files::samples::{one_edge, single_groups};
 use crate::format::OFFSET_BITS;
 use crate::groups;
@@ -61,7 +61,7 @@ fn partners_elsewhere(file: &mut LookupFile, own: &LentRecord) {
     // The offsets then count from the file's first byte: 84 partners and no tag
     // that there is.
     let record = own.with(|r| r.partners = range(0, size));
-    file.both("partners-are-the-file", its_key(&record), expect(16, 0));
+    file.both("partners-are-the-file", its_key(&record), faulty(16, 1, 0));
     let record = own.with(|r| r.partners = range(size, 0));
     file.both("no-partners-at-the-end", its_key(&record), expect(14, 0));
 }
@@ -108,7 +108,7 @@ fn offsets_elsewhere(file: &mut LookupFile, own: &LentRecord) {
     file.both("offsets-in-magic", its_key(&record), expect(14, 0));
     // Zeros behind a zero: an empty group.
     let record = own.with(|r| r.offsets.offset = own.keys.offset);
-    file.both("offsets-in-key", its_key(&record), expect(17, 0));
+    file.both("offsets-in-key", its_key(&record), faulty(33, 0, 0));
 }
 
 /// An empty range may lie anywhere up to the file's end.
@@ -200,10 +200,11 @@ fn key_is_offsets_and_group(files: &mut Files) {
     // Offsets that fall, and offsets that pass.
     by("offsets-at-1", |r| r.offsets.offset = 1, expect(14, 0));
     by("offsets-at-3", |r| r.offsets.offset = 3, expect(14, 0));
+    // The byte before the group is a degree of 0.
     by(
         "partners-at-5",
         |r| r.partners = range(5, 12),
-        expect(18, 0),
+        faulty(28, 0, 0),
     );
     by("partners-cut", |r| r.partners = range(6, 10), expect(14, 0));
 }
@@ -229,7 +230,7 @@ fn zeros(files: &mut Files) {
         });
         let question = |key: Id| ask(key).by(&record);
         // The middle key is met first; its group is empty.
-        let middle = expect(17, key_count / 2);
+        let middle = faulty(33, 0, key_count / 2);
         file.both(format!("{key_count}-keys"), question([0; 16]), middle);
         let name = format!("{key_count}-keys-above");
         file.both(name, question(id_of(0, 1)), Intended::Absent);
@@ -255,7 +256,7 @@ fn other_widths(files: &mut Files) {
                 let answer = match (bits, read) {
                     _ if bits == read => Some(found(1, index as u64)),
                     _ if index > 0 => None,
-                    (48, 24) => Some(expect(17, 0)),
+                    (48, 24) => Some(faulty(33, 0, 0)),
                     _ => Some(expect(14, 0)),
                 };
                 let name = format!("read-{read}-{index}");

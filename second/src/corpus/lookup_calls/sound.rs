@@ -122,6 +122,10 @@ fn group_forms(files: &mut Files) {
     let smallest = live(0, 0, 0);
     one_group("one-edge-smallest-numbers", split([0; 16], &[smallest]));
     one_group("smallest-dense", dense([0; 16], &[smallest]));
+    let two_to_63 = [live(1 << 63, 1, 7)];
+    one_group("upper-half-2-to-63", split(key, &two_to_63));
+    let apart = [live(5, 1, 7), live(5 + (1 << 63), 0, 8)];
+    one_group("upper-halves-2-to-63-apart", split(key, &apart));
     let ends = [smallest, dead(u64::MAX, u64::MAX, u64::MAX)];
     one_group("smallest-and-largest", split(key, &ends));
     one_group("smallest-and-largest-dense", dense(key, &ends));

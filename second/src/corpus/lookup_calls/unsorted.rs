@@ -2,13 +2,13 @@
 //! a lookup there all the same.
 
 use super::raw::{self, single};
-use super::{ask, expect, found, Files, Intended, LentRecord};
+use super::{ask, expect, faulty, found, Files, Intended, LentRecord};
 use crate::corpus::open_files::samples::set_key;
 use crate::format::{kind, OFFSET_BITS};
 use crate::groups;
 use crate::layout::Layout;
 use crate::numbers::id_of;
-use Group::{Found, Misplaced, Refused};
+use Group::{Faulty, Found, Leaves, Misplaced};
 
 pub fn add(files: &mut Files) {
     for run in KEY_RUNS {
@@ -118,8 +118,16 @@ fn key_run(files: &mut Files, run: &KeyRun) {
 enum Group {
     Found,
     Misplaced,
-    Refused(u8),
+    /// Its offsets fall or leave the partners.
+    Leaves,
+    /// Refused with this number, at this byte of it.
+    Faulty(u8, u64),
 }
+
+/// The bytes of the next group lie in it too, after its own eleven.
+const DOUBLE: Group = Faulty(32, 11);
+/// No byte is left for the degree.
+const EMPTY: Group = Faulty(33, 0);
 
 /// Every bit is set, at whatever width.
 const LARGEST: u64 = u64::MAX;
@@ -133,68 +141,68 @@ const OFFSET_RUNS: [OffsetRun; 12] = [
         "fall",
         [0, 22, 11, 33, 44],
         2,
-        [Refused(18), Refused(14), Refused(18), Misplaced],
+        [DOUBLE, Leaves, DOUBLE, Misplaced],
     ),
     (
         "equal",
         [0, 11, 11, 33, 44],
         2,
-        [Found, Refused(17), Refused(18), Misplaced],
+        [Found, EMPTY, DOUBLE, Misplaced],
     ),
     (
         "pass",
         [0, 11, 45, 33, 44],
         3,
-        [Found, Refused(14), Refused(14), Misplaced],
+        [Found, Leaves, Leaves, Misplaced],
     ),
     (
         "last-passes",
         [0, 11, 22, 33, 45],
         4,
-        [Found, Found, Found, Refused(14)],
+        [Found, Found, Found, Leaves],
     ),
     (
         "equal-past-the-length",
         [0, 11, 50, 50, 50],
         3,
-        [Found, Refused(14), Refused(14), Refused(14)],
+        [Found, Leaves, Leaves, Leaves],
     ),
     (
         "equal-at-the-length",
         [0, 11, 44, 44, 44],
         3,
-        [Found, Refused(18), Refused(17), Refused(17)],
+        [Found, DOUBLE, EMPTY, EMPTY],
     ),
-    ("zeros", [0; 5], 1, [Refused(17); 4]),
+    ("zeros", [0; 5], 1, [EMPTY; 4]),
     (
         "begin-at-11",
         [11, 22, 33, 44, 44],
         0,
-        [Found, Found, Found, Refused(17)],
+        [Found, Found, Found, EMPTY],
     ),
     (
         "back-to-0",
         [0, 11, 0, 11, 22],
         2,
-        [Found, Refused(14), Misplaced, Misplaced],
+        [Found, Leaves, Misplaced, Misplaced],
     ),
     (
         "end-early",
         [0, 11, 22, 33, 43],
         4,
-        [Found, Found, Found, Refused(18)],
+        [Found, Found, Found, Faulty(31, 2)],
     ),
     (
         "largest-first",
         [LARGEST, 11, 22, 33, 44],
         0,
-        [Refused(14), Misplaced, Misplaced, Misplaced],
+        [Leaves, Misplaced, Misplaced, Misplaced],
     ),
     (
         "largest-last",
         [0, 11, 22, 33, LARGEST],
         4,
-        [Found, Found, Found, Refused(14)],
+        [Found, Found, Found, Leaves],
     ),
 ];
 
@@ -208,18 +216,19 @@ fn offsets(files: &mut Files) {
     }
 }
 
-fn offset_run(files: &mut Files, bits: u8, (name, numbers, faulty, answers): OffsetRun) {
+fn offset_run(files: &mut Files, bits: u8, (name, numbers, first, answers): OffsetRun) {
     let layout =
         singles(4, bits).with(|l| *l.section(kind::OFFSETS) = groups::offsets(&numbers, bits));
     let file = files.layout(format!("offsets-{name}-{bits}"), &layout);
     let record = LentRecord::of_layout(&layout);
-    file.full("file", ask(raw::key(0)), expect(14, faulty));
+    file.full("file", ask(raw::key(0)), expect(14, first));
     for (index, answer) in (0..).zip(answers) {
         let question = ask(raw::key(index)).by(&record);
         match answer {
             Found => file.both(index, question, found(1, index)),
             Misplaced => file.misplaced(index, question, 1, index),
-            Refused(number) => file.both(index, question, expect(number, index)),
+            Leaves => file.both(index, question, expect(14, index)),
+            Faulty(number, byte) => file.both(index, question, faulty(number, byte, index)),
         }
     }
 }

@@ -6,7 +6,7 @@ use super::{expect, Files, Verdict};
 use crate::format::kind;
 use crate::layout::{Layout, Section};
 use crate::numbers::id_of;
-use crate::open::Refusal;
+use crate::refusal::Refusal;
 
 struct Fault {
     name: &'static str,

@@ -8,18 +8,21 @@ use native.Mathlib.Omega.{arith}
 use borrow.Author.Needs.{needs}
 use Rattle.readout.proofs.group_edges.dense_step.Statement.{statement}
 use Rattle.readout.proofs.group_edges.dense_step.Tie as tie
-use Rattle.readout.proofs.group_edges.dense_step.Reads as reads
-use Rattle.readout.proofs.group_edges.dense_step.Lts as lts
-use Rattle.codes.proofs.ids.id_at.Reads as id-at-reads
+
+bad-step-requires : tie.Need-bad-step-requires
+bad-step-requires c κs = search needs
 
 returns : tie.Need-returns
-returns c = let a = c .before .before .args in sym (dense-short (a .g .now) (a .i) (omega arith))
+returns c = let a = c .before .before .before .args in c .bad-step .ensures ∙ sym (dense-short (a .g .now) (a .i) (omega arith))
 
 sub-if2 : tie.Need-sub-if2
 sub-if2 c = search needs
 
+bad-step-requires-2 : tie.Need-bad-step-requires-2
+bad-step-requires-2 c κs = search needs
+
 returns-2 : tie.Need-returns-2
-returns-2 c = let a = c .before .before .before .args in sym (dense-short (a .g .now) (a .i) (omega arith))
+returns-2 c = let a = c .before .before .before .before .args in c .bad-step2 .ensures ∙ sym (dense-short (a .g .now) (a .i) (omega arith))
 
 id-at-requires : tie.Need-id-at-requires
 id-at-requires c κs = search needs
@@ -32,4 +35,4 @@ returns-3 c = let a = c .before .before .before .before .args in
     ap (λ (x : Id). Step.Partner x (a .i + 16)) (c .id-at .ensures) ∙ sym (dense-good (a .g .now) (a .i) (omega arith))
 
 pub dense-step-spec : {M : Type 1} → statement M
-dense-step-spec = tie.close (tie.spec returns sub-if2 returns-2 id-at-requires add-t3 returns-3)
+dense-step-spec = tie.close (tie.spec bad-step-requires returns sub-if2 bad-step-requires-2 returns-2 id-at-requires add-t3 returns-3)
