@@ -29,23 +29,23 @@ use Rattle.group.specs.Group.Laws.{split-unread, split-over, split-short
 
 -- k partners stand from i on and rise, where hi is the upper half before them and the first is `floor` or more: the next one would
 -- begin at j, after the upper half h, and be `low` or more
-unfoldable pub Rise : Bool → List ℕ → ℕ → ℕ → ℕ → ℕ → ℕ → ℕ → ℕ → Type 0
-Rise dense g zero i hi floor j h low = (i ≡ j) × (hi ≡ h) × (floor ≡ low)
-Rise dense g (suc k) i hi floor j h low =
-    (p : Id) × (n : ℕ) × (stepAt dense g i hi ≡ Step.Partner p n) × (floor ≤ idNumber p) × Rise dense g k n (p .hi) (suc (idNumber p)) j h low
+unfoldable pub PartnersRise : Bool → List ℕ → ℕ → ℕ → ℕ → ℕ → ℕ → ℕ → ℕ → Type 0
+PartnersRise dense g zero i hi floor j h low = (i ≡ j) × (hi ≡ h) × (floor ≡ low)
+PartnersRise dense g (suc k) i hi floor j h low =
+    (p : Id) × (n : ℕ) × (stepAt dense g i hi ≡ Step.Partner p n) × (floor ≤ idNumber p) × PartnersRise dense g k n (p .hi) (suc (idNumber p)) j h low
 
 -- a degree and a tag stand there and `read` of the partners, which rise; the next begins at b, or would, after the upper half hi and
 -- with the least number `low`, one above the last partner's
-pub record Before (g : List ℕ) (dense : Bool) (b hi low degree read : ℕ) : Type 0 where
+pub record ReadSoFar (g : List ℕ) (dense : Bool) (b hi low degree read : ℕ) : Type 0 where
   pub payload : ℕ
   pub head : Headed g dense degree payload
-  pub rise : Rise dense g read payload 0 0 b hi low
+  pub rise : PartnersRise dense g read payload 0 0 b hi low
 
 -- a partner is to begin at b
-pub record Next (g : List ℕ) (dense : Bool) (b hi low : ℕ) : Type 0 where
+pub record NextPartner (g : List ℕ) (dense : Bool) (b hi low : ℕ) : Type 0 where
   pub degree : ℕ
   pub read : ℕ
-  pub before : Before g dense b hi low degree read
+  pub before : ReadSoFar g dense b hi low degree read
   pub more : read < degree
 
 -- ---- the faults, each at the byte b
@@ -70,7 +70,7 @@ pub record NoTag (g : List ℕ) (b : ℕ) : Type 0 where
 pub record TooLarge (g : List ℕ) (b : ℕ) : Type 0 where
   pub hi : ℕ
   pub low : ℕ
-  pub next : Next g false b hi low
+  pub next : NextPartner g false b hi low
   pub difference : ℕ
   pub after : ℕ
   pub read : varintAt g b ≡ Value difference after
@@ -80,7 +80,7 @@ pub record TooLarge (g : List ℕ) (b : ℕ) : Type 0 where
 pub record SplitCut (g : List ℕ) (b : ℕ) : Type 0 where
   pub hi : ℕ
   pub low : ℕ
-  pub next : Next g false b hi low
+  pub next : NextPartner g false b hi low
   pub difference : ℕ
   pub after : ℕ
   pub read : varintAt g b ≡ Value difference after
@@ -91,14 +91,14 @@ pub record SplitCut (g : List ℕ) (b : ℕ) : Type 0 where
 pub record DenseCut (g : List ℕ) (b : ℕ) : Type 0 where
   pub hi : ℕ
   pub low : ℕ
-  pub next : Next g true b hi low
+  pub next : NextPartner g true b hi low
   pub short : length g < b + denseSize
 
 -- 33 to 35: the upper half of a partner that is to come is no number
 pub record NoUpper (g : List ℕ) (b : ℕ) (why : Unread) : Type 0 where
   pub hi : ℕ
   pub low : ℕ
-  pub next : Next g false b hi low
+  pub next : NextPartner g false b hi low
   pub unread : varintAt g b ≡ Varint.Bad why
 
 -- 29: a whole partner that is not above the one before
@@ -106,7 +106,7 @@ pub record NotAbove (g : List ℕ) (b : ℕ) : Type 0 where
   pub dense : Bool
   pub hi : ℕ
   pub low : ℕ
-  pub next : Next g dense b hi low
+  pub next : NextPartner g dense b hi low
   pub partner : Id
   pub after : ℕ
   pub read : stepAt dense g b hi ≡ Step.Partner partner after
@@ -118,7 +118,7 @@ pub record LeftOver (g : List ℕ) (b : ℕ) : Type 0 where
   pub hi : ℕ
   pub low : ℕ
   pub degree : ℕ
-  pub before : Before g dense b hi low degree degree
+  pub before : ReadSoFar g dense b hi low degree degree
   pub spare : b < length g
 
 unfoldable pub Wrong : List ℕ → Flaw → ℕ → Type 0
@@ -143,8 +143,8 @@ bad-cons p (bad x) f e = e
 
 module _ (dense : Bool) (g : List ℕ) (j h low : ℕ) where
   -- what is wrong after partners that rise is wrong with all
-  after-rise : (k i hi floor d : ℕ) (f : Fault) → Rise dense g k i hi floor j h low → walkFrom dense d g j h low ≡ bad f → walkFrom dense (k + d) g i hi floor ≡ bad f
-  unfolding Rise
+  after-rise : (k i hi floor d : ℕ) (f : Fault) → PartnersRise dense g k i hi floor j h low → walkFrom dense d g j h low ≡ bad f → walkFrom dense (k + d) g i hi floor ≡ bad f
+  unfolding PartnersRise
   after-rise zero i hi floor d f r e =
       ap (λ (t : ℕ). walkFrom dense t g i hi floor) (zero-add d)
       ∙ (λ t. walkFrom dense d g (r .0 t) (r .1 t) (r .2 t))
@@ -165,13 +165,13 @@ module _ (g : List ℕ) where
   headed-head false d i h = let some = h .some in head-split g d (h .tag) (h .degree) (λ z. omega arith) (h .within) (h .tagged) ∙ ap (Head.Split d) (sym (h .place))
 
   module _ (dense : Bool) (b hi low : ℕ) where
-    before-bad : (degree read left : ℕ) (f : Fault) → Before g dense b hi low degree read → degree ≡ read + left → walkFrom dense left g b hi low ≡ bad f → groupOf g ≡ bad f
+    before-bad : (degree read left : ℕ) (f : Fault) → ReadSoFar g dense b hi low degree read → degree ≡ read + left → walkFrom dense left g b hi low ≡ bad f → groupOf g ≡ bad f
     before-bad degree read left f s count e =
         group-walk g dense degree (s .payload) (headed-head dense degree (s .payload) (s .head))
         ∙ ap (λ (t : ℕ). walkFrom dense t g (s .payload) 0 0) count
         ∙ after-rise dense g b hi low read (s .payload) 0 0 left f (s .rise) e
 
-    next-bad : (f : Fault) → Next g dense b hi low → ((d : ℕ) → walkFrom dense (suc d) g b hi low ≡ bad f) → groupOf g ≡ bad f
+    next-bad : (f : Fault) → NextPartner g dense b hi low → ((d : ℕ) → walkFrom dense (suc d) g b hi low ≡ bad f) → groupOf g ≡ bad f
     next-bad f n e =
         let (d, count) = after (n .degree) (n .read) (n .more) in
         before-bad (n .degree) (n .read) (suc d) f (n .before) count (e d)
@@ -227,11 +227,11 @@ record Stuck (dense : Bool) (d : ℕ) (g : List ℕ) (i hi floor : ℕ) (f : Fau
   upper : ℕ
   low : ℕ
   count : d ≡ read + left
-  rise : Rise dense g read i hi floor place upper low
+  rise : PartnersRise dense g read i hi floor place upper low
   here : Here dense left g place upper low f
 
 stuck : (dense : Bool) (d : ℕ) (g : List ℕ) (i hi floor : ℕ) (f : Fault) → walkFrom dense d g i hi floor ≡ bad f → Stuck dense d g i hi floor f
-unfolding Rise Here
+unfolding PartnersRise Here
 stuck dense zero g i hi floor f e =
     elim (ℕ-discrete i (length g)) [
       | yes h ↦ let z : _≡_ {A = ℕ} 0 1 = cc (walk-end dense g i hi floor h) in absurd (omega arith)
@@ -279,13 +279,13 @@ stuck dense (suc d) g i hi floor f e = go (stepAt dense g i hi) refl (λ p n. st
         at-once (inl (q ∙ ap Step.Bad same))
 
 -- the place after partners lies within the group
-rise-within : (dense : Bool) (g : List ℕ) (k i hi floor j h low : ℕ) → i ≤ length g → Rise dense g k i hi floor j h low → j ≤ length g
-unfolding Rise
+rise-within : (dense : Bool) (g : List ℕ) (k i hi floor j h low : ℕ) → i ≤ length g → PartnersRise dense g k i hi floor j h low → j ≤ length g
+unfolding PartnersRise
 rise-within dense g zero i hi floor j h low b r = let same = r .0 in omega arith
 rise-within dense g (suc k) i hi floor j h low b r =
     rise-within dense g k (r .1) (r .0 .hi) (suc (idNumber (r .0))) j h low (step-next dense g i hi (r .0) (r .1) (r .2) .1) (r .4)
 
-before-within : (g : List ℕ) (dense : Bool) (b hi low degree read : ℕ) → Before g dense b hi low degree read → b ≤ length g
+before-within : (g : List ℕ) (dense : Bool) (b hi low degree read : ℕ) → ReadSoFar g dense b hi low degree read → b ≤ length g
 before-within g dense b hi low degree read s =
     let place = s .head .place in
     let tag = s .head .within in
@@ -299,7 +299,7 @@ module _ (g : List ℕ) where
   is : {f : Fault} (w : Flaw) (b : ℕ) → f ≡ faultAt w b → Wrong g w b → WrongBy f
   is w b e u = subst WrongBy (sym e) u
 
-  step-wrong : (dense : Bool) (j h low : ℕ) (f : Fault) → Next g dense j h low → stepAt dense g j h ≡ Step.Bad f → WrongBy f
+  step-wrong : (dense : Bool) (j h low : ℕ) (f : Fault) → NextPartner g dense j h low → stepAt dense g j h ≡ Step.Bad f → WrongBy f
   unfolding Wrong
   step-wrong true j h low f n e =
       elim (decLe (j + 16) (length g)) [
@@ -334,13 +334,13 @@ module _ (g : List ℕ) where
             ]
           ]
 
-  here-wrong : (dense : Bool) (left j h low degree read : ℕ) (f : Fault) → Before g dense j h low degree read → degree ≡ read + left → Here dense left g j h low f → WrongBy f
+  here-wrong : (dense : Bool) (left j h low degree read : ℕ) (f : Fault) → ReadSoFar g dense j h low degree read → degree ≡ read + left → Here dense left g j h low f → WrongBy f
   unfolding Here Wrong
   here-wrong dense zero j h low degree read f b count t =
       let within = before-within g dense j h low degree read b in
       let other = t .0 in
       let all : degree ≡ read = omega arith in
-      is Flaw.Spare j (t .1) (record { dense = dense; hi = h; low = low; degree = degree; before = subst (λ (r : ℕ). Before g dense j h low degree r) (sym all) b; spare = under j (length g) within other })
+      is Flaw.Spare j (t .1) (record { dense = dense; hi = h; low = low; degree = degree; before = subst (λ (r : ℕ). ReadSoFar g dense j h low degree r) (sym all) b; spare = under j (length g) within other })
     where
       under : (m n : ℕ) → m ≤ n → (m ≡ n → ⊥) → m < n
       under m n l e = elim (decLt m n) [
@@ -348,7 +348,7 @@ module _ (g : List ℕ) where
         | no q ↦ absurd (e (omega arith))
       ]
   here-wrong dense (suc left) j h low degree read f b count t =
-      let n : Next g dense j h low = record { degree = degree; read = read; before = b; more = omega arith } in
+      let n : NextPartner g dense j h low = record { degree = degree; read = read; before = b; more = omega arith } in
       ⊎-elim (λ e. step-wrong dense j h low f n e)
       (λ o. is Flaw.Order j (o .4) (record { dense = dense; hi = h; low = low; next = n; partner = o .0; after = o .1; read = o .2; under = o .3 }))
       t
@@ -407,7 +407,7 @@ module _ (g : List ℕ) where
   pub wrong-exactly : (w : Flaw) (b : ℕ) → (groupOf g ≡ bad (faultAt w b)) ↔ Wrong g w b
   wrong-exactly w b = (told-wrong (faultAt w b), wrong-told g w b)
 
-  next-within : (dense : Bool) (b hi low : ℕ) → Next g dense b hi low → b ≤ length g
+  next-within : (dense : Bool) (b hi low : ℕ) → NextPartner g dense b hi low → b ≤ length g
   next-within dense b hi low n = before-within g dense b hi low (n .degree) (n .read) (n .before)
 
   -- and the byte lies in the group, or right after it where the group ends too early

@@ -18,12 +18,12 @@ use Rattle.refusal.specs.Check.Laws.{between, numbers-among}
 use Rattle.frame.specs.declared.Opened.{Opened}
 use Rattle.frame.specs.declared.Opening.{Opening}
 use Rattle.frame.specs.Frame.{rowsOf, bodyOf, recordOf}
-use Rattle.frame.specs.Open.{Known, offsetAt, knownOf, bytesAt, recordGood, fileCheck, openOf}
+use Rattle.frame.specs.Open.{Known, keyAt, offsetAt, knownOf, bytesAt, recordGood, fileCheck, openOf}
 use Rattle.frame.specs.Open.Laws.{opens-fine, opens-refused}
 use Rattle.frame.specs.Header.{opening-numbers}
 use Rattle.index.specs.declared.keys.Found.{Found}
 use Rattle.index.specs.Find.{findIn}
-use Rattle.index.specs.Find.Laws.{find-sound}
+use Rattle.index.specs.Find.Laws.{find-sound, find-complete}
 use Rattle.index.specs.Order.{OffsetsRise}
 use Rattle.degrees.specs.Degrees.{groupAt}
 use Rattle.group.specs.declared.fault.Flaw.{Flaw}
@@ -36,7 +36,7 @@ use Rattle.lookup.specs.Lookup.{Rooms, refused, lookOf, lookWith}
 use Rattle.lookup.specs.Given.{FaultIn}
 use Rattle.reader.specs.declared.header.HeaderRead.{HeaderRead}
 use Rattle.reader.specs.Header.{headerOf, header-opening}
-use Rattle.reader.specs.Opened.{opened-offsets}
+use Rattle.reader.specs.Opened.{opened-keys, opened-offsets}
 use Rattle.reader.specs.Given.{look-of-fault, look-with-fault}
 use Rattle.full_check.specs.Full.{sumsFrom, fullCheck, checkedOf}
 use Rattle.full_check.specs.Given.{FaultFrom, FaultFirst, full-fault}
@@ -192,6 +192,16 @@ module _ (f : List ℕ) (i : ℕ) (w : Flaw) (b : ℕ) where
         header = λ g. unopened (header-opening f told .0 (gives-fault HeaderRead.Refused (headerOf f) .0 g));
         sections = λ room g. unopened (list-opening f room told not-room .0 (gives-fault Listed.Refused (listedOf f room) .0 g));
       }
+
+-- both users are told the same: a fault of group i that the full check tells is told by a lookup of that group's key, in any room
+pub same-fault : (f : List ℕ) (i : ℕ) (w : Flaw) (b : ℕ) → Gives Check.Bad (fullCheck f) (numberFor w) b i
+    → (full : Bool) (rooms : Rooms) → Gives refused (lookOf full rooms (keyAt (bytesAt f (recordOf f .keys)) i) f) (numberFor w) b i
+same-fault f i w b g full rooms =
+    let t = faulty f i w b .check .0 g in
+    let keys = bytesAt f (recordOf f .keys) in
+    let n = recordOf f .keycount in
+    let (c, at) = find-complete keys n (opened-keys f (recordOf f) (t .opens)) (keyAt keys i) i (t .within) refl in
+    faulty f i w b .lookup full rooms (keyAt keys i) .1 (record { opens = t .opens; compared = c; found = at; wrong = t .wrong })
 
 -- 17 and 18 are no longer given, by any call
 pub never-gone : {A : Type 0} (refusing : Refusal → A) (a : A) (n p s : ℕ) → isGone n ≡ true → Gives refusing a n p s → ⊥
