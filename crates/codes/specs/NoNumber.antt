@@ -26,17 +26,17 @@ NoNumber s i Unread.Long = (k : ℕ) × (1 ≤ k) × (k ≤ 9) × GoesOn s i k �
 NoNumber s i Unread.Large = GoesOn s i 9 × (i + 9 < length s) × (1 < getD s (i + 9) 0)
 
 -- what k bytes that go on give: a number below 128^k, and the rest of the bytes to come
-record Gone (s : List ℕ) (i k : ℕ) : Type 0 where
+record SoFar (s : List ℕ) (i k : ℕ) : Type 0 where
   low : ℕ
   weight : ℕ
   below : low < weight
   worth : weight ≡ 128 ^ k
   rest : varintAt s i ≡ varFrom (10 - k) s (i + k) low weight
 
-gone : (s : List ℕ) (i k : ℕ) → k ≤ 10 → GoesOn s i k → Gone s i k
-gone s i zero h g = record { low = 0; weight = 1; below = lit< tt; worth = refl; rest = varint-from s i ∙ ap (λ (t : ℕ). varFrom 10 s t 0 1) (sym (add-zero i)) }
-gone s i (suc k) h g =
-    let t = gone s i k (omega arith) (λ j l. g j (omega arith)) in
+so-far : (s : List ℕ) (i k : ℕ) → k ≤ 10 → GoesOn s i k → SoFar s i k
+so-far s i zero h g = record { low = 0; weight = 1; below = lit< tt; worth = refl; rest = varint-from s i ∙ ap (λ (t : ℕ). varFrom 10 s t 0 1) (sym (add-zero i)) }
+so-far s i (suc k) h g =
+    let t = so-far s i k (omega arith) (λ j l. g j (omega arith)) in
     let (there, more) = g k (omega arith) in
     let b : ℕ = getD s (i + k) 0 in
     let turns : 10 - k ≡ suc (10 - suc k) = omega arith in
@@ -52,8 +52,8 @@ gone s i (suc k) h g =
     }
 
 -- and one turn more of them
-gone-turn : (s : List ℕ) (i k : ℕ) → k ≤ 9 → (t : Gone s i k) → varintAt s i ≡ varFrom (suc (9 - k)) s (i + k) (t .low) (t .weight)
-gone-turn s i k h t = let turns : 10 - k ≡ suc (9 - k) = omega arith in (rw turns at (t .rest))
+one-turn : (s : List ℕ) (i k : ℕ) → k ≤ 9 → (t : SoFar s i k) → varintAt s i ≡ varFrom (suc (9 - k)) s (i + k) (t .low) (t .weight)
+one-turn s i k h t = let turns : 10 - k ≡ suc (9 - k) = omega arith in (rw turns at (t .rest))
 
 -- a weight is 1 for the first byte alone, at most 2^56 before the tenth, and 2^63 there
 first-weight : (w k : ℕ) → w ≡ 128 ^ k → 1 ≤ k → 1 < w
@@ -63,16 +63,16 @@ module _ (s : List ℕ) (i : ℕ) where
   no-told : (why : Unread) → NoNumber s i why → varintAt s i ≡ Bad why
   unfolding NoNumber
   no-told Unread.Cut n =
-      let t = gone s i (n .0) (le-trans (n .1) (lit< tt)) (n .2) in
-      gone-turn s i (n .0) (n .1) t ∙ from-cut s (i + n .0) (t .low) (t .weight) (9 - n .0) (n .3)
+      let t = so-far s i (n .0) (le-trans (n .1) (lit< tt)) (n .2) in
+      one-turn s i (n .0) (n .1) t ∙ from-cut s (i + n .0) (t .low) (t .weight) (9 - n .0) (n .3)
   no-told Unread.Long n =
-      let t = gone s i (n .0) (le-trans (n .2) (lit< tt)) (n .3) in
-      gone-turn s i (n .0) (n .2) t ∙ from-long s (i + n .0) (t .low) (t .weight) (9 - n .0) (n .4) (n .5) (first-weight (t .weight) (n .0) (t .worth) (n .1))
+      let t = so-far s i (n .0) (le-trans (n .2) (lit< tt)) (n .3) in
+      one-turn s i (n .0) (n .2) t ∙ from-long s (i + n .0) (t .low) (t .weight) (9 - n .0) (n .4) (n .5) (first-weight (t .weight) (n .0) (t .worth) (n .1))
   no-told Unread.Large n =
-      let t = gone s i 9 (lit< tt) (n .0) in
+      let t = so-far s i 9 (lit< tt) (n .0) in
       let worth : t .weight ≡ 2 ^ 63 = t .worth in
       let b : ℕ = getD s (i + 9) 0 in
-      gone-turn s i 9 (lit< tt) t
+      one-turn s i 9 (lit< tt) t
       ∙ elim (decLt b 128) [
         | yes l ↦ from-large s (i + 9) (t .low) (t .weight) 0 (n .1) l (λ z. omega arith) (over b (t .low) (t .weight) worth (n .2))
         | no l ↦ from-more s (i + 9) (t .low) (t .weight) 0 (n .1) (omega arith) ∙ from-none s (i + 9 + 1) _ _
@@ -127,8 +127,8 @@ module _ (s : List ℕ) (i : ℕ) (why : Unread) (e : varintAt s i ≡ Bad why) 
   unfolding NoNumber
   last k h g there l =
       let b : ℕ = getD s (i + k) 0 in
-      let t = gone s i k (omega arith) g in
-      let turn = gone-turn s i k h t in
+      let t = so-far s i k (omega arith) g in
+      let turn = one-turn s i k h t in
       elim (decLt 0 b) [
         | no z ↦ elim (decLt 0 k) [
           | yes p ↦ told Unread.Long (k, p, h, g, there, omega arith)

@@ -8,11 +8,11 @@ ghost use Rattle.codes.specs.Varint.{lastByte, varFrom, varintAt, varByt
 
 // Why no number is read.
 pub enum Unread {
-    // no byte is left
+    // nine bytes or fewer that all say "more", none too, and no byte after them
     Cut,
-    // a last byte of 0 after others: not the shortest form
+    // a last byte of 0 after one to nine others: not the shortest form
     Long,
-    // 2^64 or more
+    // a tenth byte above 1: 2^64 or more, whatever follows
     Large,
 }
 

@@ -10,7 +10,7 @@ use readout::read_out;
 use refusal::Check;
 use refusal::told_of;
 
-// A refusal's number and place, 0 and 0 where there is none.
+// A refusal's number and places, zeros where there is none.
 #[repr(C)]
 pub struct EdgeSstTold {
     pub number: u64,

@@ -12,7 +12,7 @@ use reader::header::header;
 use refusal::Refusal;
 use refusal::told_of;
 
-// A refusal's number and place, or 0 and 0 and what the header says; where it is refused, all else is 0.
+// A refusal's number and places, or zeros and what the header says; where it is refused, all else is 0.
 #[repr(C)]
 pub struct EdgeSstHeader {
     pub number: u64,

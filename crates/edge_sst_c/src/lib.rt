@@ -17,7 +17,7 @@ use reader::open::open;
 use refusal::Refusal;
 use refusal::told_of;
 
-// The opened record with the refusal's number and place before it; where it is refused, all else is 0.
+// The opened record with the refusal's number and places before it; where it is refused, all else is 0.
 #[repr(C)]
 pub struct EdgeSstOpened {
     pub number: u64,

@@ -11,7 +11,7 @@ use listing::plan_for;
 use listing::row_of;
 use refusal::told_of;
 
-// A refusal's number and place, or 0 and 0 and how many rows were written; 0 where it is refused.
+// A refusal's number and places, or zeros and how many rows were written; 0 where it is refused.
 #[repr(C)]
 pub struct EdgeSstListed {
     pub number: u64,

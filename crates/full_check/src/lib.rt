@@ -20,7 +20,7 @@ use reader::open::open;
 use refusal::Check;
 use sums::sums_check;
 
-// Rules 16 to 18, 22 and 23 of a file that opens.
+// Rules 22, 16 and 28 to 35, and 23 of a file that opens.
 fn sections_check(file: &[u8], o: Opened) -> Check
     requires { ⌜ openOf (now file) ≡ Opening.Good o ⌝ }
     ensures { λ r. ⌜ r ≡ sumsFrom (now (file .entry)) (rowsOf (bodyOf (now (file .entry)))) 0 ⊳ edgesCheck (flagsOf (now (file .entry))) (knownOf (now (file .entry)) o) ⌝ }

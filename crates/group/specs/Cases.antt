@@ -52,24 +52,31 @@ pub record Cases : Type 0 where
   pub one : groupOf (1 ∷ 1 ∷ first) ≡ good false (id 5 1 ∷ [])
   pub no-varint : groupOf (2 ∷ 1 ∷ first) ≡ bad (faultAt (Flaw.Number Unread.Cut) 11)
   pub huge : groupOf (replicate 9 0xFF ++ (1 ∷ 1 ∷ first)) ≡ bad (faultAt (Flaw.Number Unread.Cut) 20)
+  pub cut-upper : groupOf (1 ∷ 1 ∷ 0x85 ∷ []) ≡ bad (faultAt (Flaw.Number Unread.Cut) 2)
+  pub cut-upper-second : groupOf (2 ∷ 1 ∷ first ++ (0x80 ∷ 0x80 ∷ [])) ≡ bad (faultAt (Flaw.Number Unread.Cut) 11)
   pub long-upper : groupOf (2 ∷ 1 ∷ first ++ (0x85 ∷ same 2)) ≡ bad (faultAt (Flaw.Number Unread.Long) 11)
   pub large-upper : groupOf (1 ∷ 1 ∷ replicate 9 0xFF ++ (2 ∷ replicate 8 0)) ≡ bad (faultAt (Flaw.Number Unread.Large) 2)
+  pub no-lower : groupOf (1 ∷ 1 ∷ 5 ∷ []) ≡ bad (faultAt Flaw.Cut 2)
   pub cut-lower : groupOf (1 ∷ 1 ∷ 5 ∷ replicate 7 0) ≡ bad (faultAt Flaw.Cut 2)
   pub cut-second : groupOf (2 ∷ 1 ∷ first ++ (0x80 ∷ 1 ∷ replicate 7 0)) ≡ bad (faultAt Flaw.Cut 11)
   pub spare : groupOf (1 ∷ 1 ∷ first ++ (0 ∷ [])) ≡ bad (faultAt Flaw.Spare 11)
+  pub spare-second : groupOf (2 ∷ 1 ∷ first ++ (same 2 ++ (0 ∷ []))) ≡ bad (faultAt Flaw.Spare 20)
   pub largest : groupOf (1 ∷ 1 ∷ most) ≡ good false (id 18446744073709551615 0 ∷ [])
   pub too-large : groupOf (2 ∷ 1 ∷ most ++ (1 ∷ replicate 8 0)) ≡ bad (faultAt Flaw.Upper 20)
   pub too-large-cut : groupOf (2 ∷ 1 ∷ most ++ (1 ∷ [])) ≡ bad (faultAt Flaw.Upper 20)
+  pub too-large-part : groupOf (2 ∷ 1 ∷ most ++ (1 ∷ 0 ∷ [])) ≡ bad (faultAt Flaw.Upper 20)
   -- an order fault comes before a varint fault of the next partner, and has the later partner's place
   pub order-first : groupOf (3 ∷ 1 ∷ first ++ same 1) ≡ bad (faultAt Flaw.Order 11)
   pub varint-next : groupOf (3 ∷ 1 ∷ first ++ same 2) ≡ bad (faultAt (Flaw.Number Unread.Cut) 20)
   pub order-last : groupOf (3 ∷ 1 ∷ first ++ (same 3 ++ same 2)) ≡ bad (faultAt Flaw.Order 20)
+  pub order-spare : groupOf (2 ∷ 1 ∷ first ++ (same 1 ++ (0 ∷ []))) ≡ bad (faultAt Flaw.Order 11)
   -- dense partners: order before a cut and before bytes left over
   pub dense : groupOf (1 ∷ 0x10 ∷ replicate 15 0 ++ (7 ∷ [])) ≡ good true (id 0 7 ∷ [])
   pub dense-equal : groupOf (2 ∷ 0x10 ∷ replicate 32 0) ≡ bad (faultAt Flaw.Order 18)
   pub dense-none : groupOf (1 ∷ 0x10 ∷ []) ≡ bad (faultAt Flaw.Cut 2)
   pub dense-cut : groupOf (1 ∷ 0x10 ∷ replicate 15 0) ≡ bad (faultAt Flaw.Cut 2)
   pub dense-less : groupOf (2 ∷ 0x10 ∷ replicate 16 0) ≡ bad (faultAt Flaw.Cut 18)
+  pub dense-cut-second : groupOf (2 ∷ 0x10 ∷ replicate 31 0) ≡ bad (faultAt Flaw.Cut 18)
   pub dense-spare : groupOf (1 ∷ 0x10 ∷ replicate 17 0) ≡ bad (faultAt Flaw.Spare 18)
   pub dense-order-cut : groupOf (3 ∷ 0x10 ∷ replicate 47 0) ≡ bad (faultAt Flaw.Order 18)
   pub dense-order-spare : groupOf (2 ∷ 0x10 ∷ replicate 33 0) ≡ bad (faultAt Flaw.Order 18)
@@ -97,22 +104,29 @@ cases = record {
   one = refl;
   no-varint = refl;
   huge = refl;
+  cut-upper = refl;
+  cut-upper-second = refl;
   long-upper = refl;
   large-upper = refl;
+  no-lower = refl;
   cut-lower = refl;
   cut-second = refl;
   spare = refl;
+  spare-second = refl;
   largest = refl;
   too-large = refl;
   too-large-cut = refl;
+  too-large-part = refl;
   order-first = refl;
   varint-next = refl;
   order-last = refl;
+  order-spare = refl;
   dense = refl;
   dense-equal = refl;
   dense-none = refl;
   dense-cut = refl;
   dense-less = refl;
+  dense-cut-second = refl;
   dense-spare = refl;
   dense-order-cut = refl;
   dense-order-spare = refl;

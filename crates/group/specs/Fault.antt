@@ -30,3 +30,15 @@ flawOf at i Flaw.Spare = Refusal.SpareBytes at i
 -- "The place becomes a byte inside the group, the group's index beside it"
 abbrev pub refusalOf : ℕ → Fault → Refusal
 refusalOf i f = flawOf (f .at) i (f .flaw)
+
+-- "28 to 32 in the place of 18, 33 to 35 in the place of 17", and 16 as before
+abbrev pub numberFor : Flaw → ℕ
+numberFor Flaw.Tag = 16
+numberFor Flaw.Degree = 28
+numberFor Flaw.Order = 29
+numberFor Flaw.Upper = 30
+numberFor Flaw.Cut = 31
+numberFor Flaw.Spare = 32
+numberFor (Flaw.Number Unread.Cut) = 33
+numberFor (Flaw.Number Unread.Long) = 34
+numberFor (Flaw.Number Unread.Large) = 35

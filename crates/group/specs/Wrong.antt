@@ -17,6 +17,7 @@ use Rattle.codes.specs.declared.varint.Unread.{Unread}
 use Rattle.codes.specs.Ids.{idNumber}
 use Rattle.codes.specs.Varint.{varintAt}
 use Rattle.codes.specs.Varint.Laws.{varint-next}
+use Rattle.codes.specs.NoNumber.{NoNumber, no-number}
 use Rattle.group.specs.declared.fault.Flaw.{Flaw}
 use Rattle.group.specs.declared.fault.Fault.{Fault}
 use Rattle.group.specs.declared.head.Head.{Head}
@@ -94,12 +95,12 @@ pub record DenseCut (g : List ℕ) (b : ℕ) : Type 0 where
   pub next : NextPartner g true b hi low
   pub short : length g < b + denseSize
 
--- 33 to 35: the upper half of a partner that is to come is no number
+-- 33 to 35: the upper half of a partner that is to come is no number, for that reason
 pub record NoUpper (g : List ℕ) (b : ℕ) (why : Unread) : Type 0 where
   pub hi : ℕ
   pub low : ℕ
   pub next : NextPartner g false b hi low
-  pub unread : varintAt g b ≡ Varint.Bad why
+  pub unread : NoNumber g b why
 
 -- 29: a whole partner that is not above the one before
 pub record NotAbove (g : List ℕ) (b : ℕ) : Type 0 where
@@ -123,7 +124,7 @@ pub record LeftOver (g : List ℕ) (b : ℕ) : Type 0 where
 
 unfoldable pub Wrong : List ℕ → Flaw → ℕ → Type 0
 Wrong g Flaw.Tag b = UnknownTag g b
-Wrong g (Flaw.Number why) b = ((b ≡ 0) × (varintAt g 0 ≡ Varint.Bad why)) ⊎ NoUpper g b why
+Wrong g (Flaw.Number why) b = ((b ≡ 0) × NoNumber g 0 why) ⊎ NoUpper g b why
 Wrong g Flaw.Degree b = (b ≡ 0) × ((n : ℕ) × (varintAt g 0 ≡ Value 0 n))
 Wrong g Flaw.Order b = NotAbove g b
 Wrong g Flaw.Upper b = TooLarge g b
@@ -184,10 +185,10 @@ module _ (g : List ℕ) where
   wrong-told Flaw.Tag b u = group-bad g (faultAt Flaw.Tag b) (head-tag g (u .degree) b (u .read) (u .some) (u .within) (u .split) (u .dense))
   wrong-told (Flaw.Number why) b u =
       ⊎-elim
-      (λ t. group-bad g (faultAt (Flaw.Number why) 0) (head-unread g why (t .1)) ∙ ap (λ (i : ℕ). bad (faultAt (Flaw.Number why) i)) (sym (t .0)))
+      (λ t. group-bad g (faultAt (Flaw.Number why) 0) (head-unread g why (no-number g 0 why .1 (t .1))) ∙ ap (λ (i : ℕ). bad (faultAt (Flaw.Number why) i)) (sym (t .0)))
       (λ n.
       next-bad false b (n .hi) (n .low) (faultAt (Flaw.Number why) b) (n .next)
-      (λ d. walk-bad false g b (n .hi) (n .low) d (faultAt (Flaw.Number why) b) (step-split g b (n .hi) ∙ split-unread g b (n .hi) why (n .unread))))
+      (λ d. walk-bad false g b (n .hi) (n .low) d (faultAt (Flaw.Number why) b) (step-split g b (n .hi) ∙ split-unread g b (n .hi) why (no-number g b why .1 (n .unread)))))
       u
   wrong-told Flaw.Degree b u =
       group-bad g (faultAt Flaw.Degree 0) (head-none g 0 (u .1 .0) (u .1 .1) refl) ∙ ap (λ (i : ℕ). bad (faultAt Flaw.Degree i)) (sym (u .0))
@@ -318,7 +319,7 @@ module _ (g : List ℕ) where
       go (Varint.Bad why) q =
           let told : Step.Bad f ≡ Step.Bad (faultAt (Flaw.Number why) j) = sym s ∙ split-unread g j h why q in
           let same : f ≡ faultAt (Flaw.Number why) j = cc in
-          is (Flaw.Number why) j same (inr (record { hi = h; low = low; next = n; unread = q }))
+          is (Flaw.Number why) j same (inr (record { hi = h; low = low; next = n; unread = no-number g j why .0 q }))
       go (Value v m) q =
           elim (decLt (h + v) (2 ^ 64)) [
             | no r ↦
@@ -361,7 +362,7 @@ module _ (g : List ℕ) where
       go (Varint.Bad why) q =
           let told : Head.Bad f ≡ Head.Bad (faultAt (Flaw.Number why) 0) = sym e ∙ head-unread g why q in
           let same : f ≡ faultAt (Flaw.Number why) 0 = cc in
-          is (Flaw.Number why) 0 same (inl (refl, q))
+          is (Flaw.Number why) 0 same (inl (refl, no-number g 0 why .0 q))
       go (Value d n) q =
           elim (ℕ-discrete d 0) [
             | yes z ↦

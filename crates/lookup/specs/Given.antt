@@ -1,4 +1,4 @@
--- Which refusals a lookup gives after opening, and when it tells a fault of the group, exactly.
+-- Which refusals a lookup gives after opening, and when it tells a fault of the group, 14 at it or 19, exactly.
 use mathlib.Core.Path.{_≡_, refl, sym, ap, _∙_}
 use mathlib.Core.Logic.{_↔_}
 use Prim.Native.Nat.{ℕ, _+_, _*_, _/_, _≤_, _<_}
@@ -6,8 +6,8 @@ use native.Mathlib.Omega.{arith}
 use mathlib.Core.List.{List, []}
 use mathlib.Core.Bool.{Bool, true, false, not, _&&_, _||_}
 use lib.ListN.{length}
-use lib.Dec.{ltb}
-use borrow.Author.Tests.{ltb-false, le-ltb}
+use lib.Dec.{ltb, eqb}
+use borrow.Author.Tests.{ltb-false, le-ltb, eq-eqb, not-true}
 use Rattle.base.specs.Pick.{pick}
 use Rattle.base.specs.Over.{part}
 use Rattle.refusal.specs.declared.Refusal.{Refusal}
@@ -15,15 +15,15 @@ use Rattle.refusal.specs.declared.Check.{Check}
 use Rattle.refusal.specs.Refusal.{numberOf, lastNumber}
 use Rattle.refusal.specs.Refusal.Laws.{number-most}
 use Rattle.refusal.specs.Check.{_⊳_, refuse}
-use Rattle.refusal.specs.Check.Laws.{bad-then, fine-then, by-first, by-second, refuse-fine, either-parts, Numbers, numbers-fine, numbers-bad, numbers-refuse, numbers-then, between, numbers-among}
+use Rattle.refusal.specs.Check.Laws.{fine-parts, fine-both, bad-then, fine-then, by-first, by-second, refuse-bad, refuse-fine, refuse-own, either-parts, and-parts, Numbers, numbers-fine, numbers-bad, numbers-refuse, numbers-then, between, numbers-among, noneOf, below}
 use Rattle.frame.specs.Open.{Known, offsetAt}
 use Rattle.index.specs.declared.keys.Found.{Found}
 use Rattle.index.specs.Find.{findIn}
-use Rattle.degrees.specs.Degrees.{misplaced}
-use Rattle.group.specs.Group.{Decoded, good, bad, isGood, groupOf}
+use Rattle.degrees.specs.Degrees.{misplaced, edgesBefore}
+use Rattle.group.specs.Group.{Decoded, good, bad, isGood, groupOf, partnersOf}
 use Rattle.group.specs.declared.fault.Fault.{Fault}
 use Rattle.group.specs.Fault.{refusalOf}
-use Rattle.group.specs.Fault.Laws.{fault-least, fault-once, fault-apart}
+use Rattle.group.specs.Fault.Laws.{faultNumbers, fault-least, fault-once, fault-fails, fault-apart}
 use Rattle.lookup.specs.Lookup.{Outcome, found, absent, refused, outcome, Rooms, groupCheck, groupFault, logsFrom, marksFrom, within, firstOf, short, offset, partnersAt, before, lookCheck, lookGroup, onFound, lookIn}
 
 -- ---- a group's faults
@@ -48,6 +48,15 @@ group-fault i w j f = (go w, λ h. ap (groupCheck i) (h .0) ∙ ap (λ (t : ℕ)
         let same : refusalOf i x ≡ refusalOf j f = cc in
         let t = fault-once i j x f same in (ap bad (t .0), t .1)
 
+-- another number tells none
+group-not : (i : ℕ) (w : Decoded) (n : ℕ) → noneOf (eqb n) faultNumbers ≡ true → (r : Refusal) → numberOf r ≡ n → groupCheck i w ≡ Check.Bad r → ⊥
+unfolding groupCheck
+group-not i (good dense ps) n none r is e = let z : _≡_ {A = ℕ} 0 1 = cc in omega arith
+group-not i (bad f) n none r is e =
+    let same : refusalOf i f ≡ r = cc in
+    let hit : eqb n (numberOf (refusalOf i f)) ≡ true = eq-eqb n (numberOf (refusalOf i f)) (sym is ∙ sym (ap numberOf same)) in
+    let z : _≡_ {A = ℕ} 0 1 = cc (hit, fault-fails i f (eqb n) none) in omega arith
+
 -- ---- a lookup in what is known of a file
 
 -- a check's refusal is the outcome's
@@ -56,14 +65,29 @@ unfolding outcome
 told Check.Fine x never r = (λ e. absurd (never r e), λ e. let z : _≡_ {A = ℕ} 0 1 = cc in absurd (omega arith))
 told (Check.Bad q) x never r = (λ e. let same : q ≡ r = cc in ap Check.Bad same, λ e. let same : q ≡ r = cc in ap refused same)
 
--- the group of key i is found, and f is its first fault
-pub record FaultIn (k : Known) (key i : ℕ) (f : Fault) : Type 0 where
+-- the group of key i is found, its two offsets neither fall nor pass the partner range, and A holds of its bytes
+pub record GroupIn (k : Known) (key i : ℕ) (A : List ℕ → Type 0) : Type 0 where
   pub compared : ℕ
   pub found : findIn (k .keys) (k .keycount) key ≡ Found.At i compared
-  -- its two offsets neither fall nor pass the partner range
   pub rises : offsetAt (k .offsets) (k .bits / 8) i ≤ offsetAt (k .offsets) (k .bits / 8) (i + 1)
   pub inside : offsetAt (k .offsets) (k .bits / 8) (i + 1) ≤ length (k .partners)
-  pub fault : groupOf (part (k .partners) (offsetAt (k .offsets) (k .bits / 8) i) (offsetAt (k .offsets) (k .bits / 8) (i + 1))) ≡ bad f
+  pub group : A (part (k .partners) (offsetAt (k .offsets) (k .bits / 8) i) (offsetAt (k .offsets) (k .bits / 8) (i + 1)))
+
+-- f is its first fault
+abbrev pub FaultIn : Known → ℕ → ℕ → Fault → Type 0
+FaultIn k key i f = GroupIn k key i (λ g. groupOf g ≡ bad f)
+
+-- it has none, and the edges before it cannot be summed, or pass the edge count with its own
+abbrev pub UnsummedIn : Known → ℕ → ℕ → Type 0
+UnsummedIn k key i =
+    GroupIn k key i
+    (λ g. (isGood (groupOf g) ≡ true) × (within (k .edgecount) (length (partnersOf (groupOf g))) (edgesBefore (k .partners) (k .offsets) (k .bits / 8) i) ≡ false))
+
+-- the group of key i is found, and its offsets fall or pass the partner range
+pub record MisplacedIn (k : Known) (key i : ℕ) : Type 0 where
+  pub compared : ℕ
+  pub found : findIn (k .keys) (k .keycount) key ≡ Found.At i compared
+  pub misplaced : misplaced (k .partners) (offsetAt (k .offsets) (k .bits / 8) i) (offsetAt (k .offsets) (k .bits / 8) (i + 1)) ≡ true
 
 module _ (full : Bool) (rooms : Rooms) (k : Known) where
   abbrev starts : ℕ → ℕ
@@ -102,6 +126,31 @@ module _ (full : Bool) (rooms : Rooms) (k : Known) where
         go (Found.At i c) e = check-numbers i (length (partnersAt full rooms k i)) r (group-refused i c r .0 e)
         go (Found.Absent c) e = let z : _≡_ {A = ℕ} 0 1 = cc in absurd (omega arith)
 
+    -- a refusal of the group that is found: what is to be shown of its check
+    module _ (r : Refusal) where
+      look-by : (A : ℕ → Type 0) → ((j : ℕ) → lookCheck full rooms k j (length (partnersAt full rooms k j)) ≡ Check.Bad r → A j)
+          → (lookIn full rooms k key ≡ refused r) → (j : ℕ) × (c : ℕ) × (findIn (k .keys) (k .keycount) key ≡ Found.At j c) × A j
+      unfolding lookIn onFound
+      look-by A told e = go (findIn (k .keys) (k .keycount) key) refl e
+        where
+          go : (x : Found) → findIn (k .keys) (k .keycount) key ≡ x → onFound full rooms k x ≡ refused r
+              → (j : ℕ) × (c : ℕ) × (findIn (k .keys) (k .keycount) key ≡ Found.At j c) × A j
+          go (Found.At j c) q e = (j, c, q, told j (group-refused j c r .0 e))
+          go (Found.Absent c) q e = let z : _≡_ {A = ℕ} 0 1 = cc in absurd (omega arith)
+
+      look-back : (j c : ℕ) → findIn (k .keys) (k .keycount) key ≡ Found.At j c → lookCheck full rooms k j (length (partnersAt full rooms k j)) ≡ Check.Bad r → lookIn full rooms k key ≡ refused r
+      unfolding lookIn onFound
+      look-back j c q e = ap (onFound full rooms k) q ∙ group-refused j c r .1 e
+
+    -- the two offsets of a group that is not misplaced
+    placed : (j : ℕ) → misses j ≡ false → (starts j ≤ starts (j + 1)) × (starts (j + 1) ≤ length (k .partners))
+    placed j e =
+        let m = either-parts (Refusal.Offset j) (ltb (starts (j + 1)) (starts j)) (ltb (length (k .partners)) (starts (j + 1))) (refuse-fine (Refusal.Offset j) (misses j) .1 e) in
+        (ltb-false _ _ (m .0), ltb-false _ _ (m .1))
+
+    not-missed : (j : ℕ) → starts j ≤ starts (j + 1) → starts (j + 1) ≤ length (k .partners) → misses j ≡ false
+    not-missed j a b = rw (le-ltb (starts (j + 1)) (starts j) a, le-ltb (length (k .partners)) (starts (j + 1)) b)
+
     module _ (i : ℕ) (f : Fault) where
       abbrev told-by : Refusal
       told-by = refusalOf i f
@@ -113,34 +162,92 @@ module _ (full : Bool) (rooms : Rooms) (k : Known) where
       late-not : (j d : ℕ) → refuse (Refusal.Degrees j) (unsummed j d) ⊳ refuse (Refusal.Room d) (short full rooms d) ≡ Check.Bad told-by → ⊥
       late-not j d = fault-apart i f (between 19 20) (numbers-among 19 20 (late-numbers j d)) refl
 
-      fault-told : (j d : ℕ) → lookCheck full rooms k j d ≡ Check.Bad told-by → (misses j ≡ false) × (groupOf (group j) ≡ bad f) × (j ≡ i)
-      unfolding lookCheck groupFault
-      fault-told j d e =
-          let fault : Check = refuse (Refusal.Offset j) (misses j) ⊳ groupCheck j (groupOf (group j)) in
-          let late : Check = refuse (Refusal.Degrees j) (unsummed j d) ⊳ refuse (Refusal.Room d) (short full rooms d) in
-          let a = by-first fault late told-by (late-not j d) .0 e in
-          let b = by-second (refuse (Refusal.Offset j) (misses j)) (groupCheck j (groupOf (group j))) told-by (misplaced-not j) .0 a in
-          let t = group-fault j (groupOf (group j)) i f .0 (b .1) in
-          (refuse-fine (Refusal.Offset j) (misses j) .0 (b .0), t .0, t .1)
-
       -- a fault of group i, exactly
       pub look-fault : (lookIn full rooms k key ≡ refused told-by) ↔ FaultIn k key i f
-      unfolding lookIn onFound lookCheck groupFault
-      look-fault = (go (findIn (k .keys) (k .keycount) key) refl, back)
+      unfolding lookCheck groupFault
+      look-fault = (λ e. found (look-by told-by (λ j. (misses j ≡ false) × (groupOf (group j) ≡ bad f) × (j ≡ i)) told e), back)
         where
-          at : (j c : ℕ) → findIn (k .keys) (k .keycount) key ≡ Found.At j c → (misses j ≡ false) × (groupOf (group j) ≡ bad f) × (j ≡ i) → FaultIn k key i f
-          at j c q t =
-              let m = either-parts (Refusal.Offset j) (ltb (starts (j + 1)) (starts j)) (ltb (length (k .partners)) (starts (j + 1))) (refuse-fine (Refusal.Offset j) (misses j) .1 (t .0)) in
-              let here : FaultIn k key j f = record { compared = c; found = q; rises = ltb-false _ _ (m .0); inside = ltb-false _ _ (m .1); fault = t .1 } in
+          told : (j : ℕ) → lookCheck full rooms k j (length (partnersAt full rooms k j)) ≡ Check.Bad told-by → (misses j ≡ false) × (groupOf (group j) ≡ bad f) × (j ≡ i)
+          told j e =
+              let d : ℕ = length (partnersAt full rooms k j) in
+              let a = by-first (refuse (Refusal.Offset j) (misses j) ⊳ groupCheck j (groupOf (group j))) _ told-by (late-not j d) .0 e in
+              let b = by-second (refuse (Refusal.Offset j) (misses j)) (groupCheck j (groupOf (group j))) told-by (misplaced-not j) .0 a in
+              let t = group-fault j (groupOf (group j)) i f .0 (b .1) in
+              (refuse-fine (Refusal.Offset j) (misses j) .0 (b .0), t .0, t .1)
+
+          found : ((j : ℕ) × (c : ℕ) × (findIn (k .keys) (k .keycount) key ≡ Found.At j c) × ((misses j ≡ false) × (groupOf (group j) ≡ bad f) × (j ≡ i))) → FaultIn k key i f
+          found (j, c, q, t) =
+              let o = placed j (t .0) in
+              let here : FaultIn k key j f = record { compared = c; found = q; rises = o .0; inside = o .1; group = t .1 } in
               (rw (t .2) at here)
 
-          go : (x : Found) → findIn (k .keys) (k .keycount) key ≡ x → onFound full rooms k x ≡ refused told-by → FaultIn k key i f
-          go (Found.At j c) q e = at j c q (fault-told j (length (partnersAt full rooms k j)) (group-refused j c told-by .0 e))
-          go (Found.Absent c) q e = let z : _≡_ {A = ℕ} 0 1 = cc in absurd (omega arith)
-
-          back : FaultIn k key i f → onFound full rooms k (findIn (k .keys) (k .keycount) key) ≡ refused told-by
+          back : FaultIn k key i f → lookIn full rooms k key ≡ refused told-by
           back t =
-              let placed : misses i ≡ false = rw (le-ltb (starts (i + 1)) (starts i) (t .rises), le-ltb (length (k .partners)) (starts (i + 1)) (t .inside)) in
-              let told : groupCheck i (groupOf (group i)) ≡ Check.Bad told-by = group-fault i (groupOf (group i)) i f .1 (t .fault, refl) in
-              let fault : groupFault (k .partners) (starts i) (starts (i + 1)) i ≡ Check.Bad told-by = fine-then _ (refuse-fine (Refusal.Offset i) (misses i) .1 placed) ∙ told in
-              ap (onFound full rooms k) (t .found) ∙ group-refused i (t .compared) told-by .1 (bad-then _ fault)
+              let bad : groupCheck i (groupOf (group i)) ≡ Check.Bad told-by = group-fault i (groupOf (group i)) i f .1 (t .group, refl) in
+              let fine = refuse-fine (Refusal.Offset i) (misses i) .1 (not-missed i (t .rises) (t .inside)) in
+              look-back told-by i (t .compared) (t .found) (bad-then _ (fine-then _ fine ∙ bad))
+
+    -- "14 and 19 keep the group": 14 at i, exactly
+    pub look-misplaced : (i : ℕ) → (lookIn full rooms k key ≡ refused (Refusal.Offset i)) ↔ MisplacedIn k key i
+    unfolding lookCheck groupFault
+    look-misplaced i = (λ e. found (look-by (Refusal.Offset i) (λ j. (misses j ≡ true) × (j ≡ i)) told e), back)
+      where
+        of-rule : (j : ℕ) (t : Bool) → refuse (Refusal.Offset j) t ≡ Check.Bad (Refusal.Offset i) → (t ≡ true) × (j ≡ i)
+        of-rule j true e = (refl, cc)
+        of-rule j false e = let z : _≡_ {A = ℕ} 0 1 = cc in absurd (omega arith)
+
+        told : (j : ℕ) → lookCheck full rooms k j (length (partnersAt full rooms k j)) ≡ Check.Bad (Refusal.Offset i) → (misses j ≡ true) × (j ≡ i)
+        told j e =
+            let r : Refusal = Refusal.Offset i in
+            let a = by-first (refuse (Refusal.Offset j) (misses j) ⊳ groupCheck j (groupOf (group j))) _ r (below 19 20 (late-numbers j (length (partnersAt full rooms k j))) r (omega arith)) .0 e in
+            let b = by-first (refuse (Refusal.Offset j) (misses j)) (groupCheck j (groupOf (group j))) r (below 16 lastNumber (group-numbers j (groupOf (group j))) r (omega arith)) .0 a in
+            of-rule j (misses j) b
+
+        found : ((j : ℕ) × (c : ℕ) × (findIn (k .keys) (k .keycount) key ≡ Found.At j c) × ((misses j ≡ true) × (j ≡ i))) → MisplacedIn k key i
+        found (j, c, q, t) = let here : MisplacedIn k key j = record { compared = c; found = q; misplaced = t .0 } in (rw (t .1) at here)
+
+        back : MisplacedIn k key i → lookIn full rooms k key ≡ refused (Refusal.Offset i)
+        back t = look-back (Refusal.Offset i) i (t .compared) (t .found) (bad-then _ (bad-then _ (refuse-bad (Refusal.Offset i) (misses i) .1 (t .misplaced))))
+
+    -- 19 at i, exactly; partners alone never give it
+    pub look-unsummed : (i : ℕ) → (lookIn full rooms k key ≡ refused (Refusal.Degrees i)) ↔ ((full ≡ true) × UnsummedIn k key i)
+    unfolding lookCheck groupFault
+    look-unsummed i = (λ e. found (look-by (Refusal.Degrees i) Here told e), back)
+      where
+        Here : ℕ → Type 0
+        Here j = (misses j ≡ false) × (isGood (groupOf (group j)) ≡ true) × (unsummed j (length (partnersAt full rooms k j)) ≡ true) × (j ≡ i)
+
+        of-rule : (j : ℕ) (t : Bool) → refuse (Refusal.Degrees j) t ≡ Check.Bad (Refusal.Degrees i) → (t ≡ true) × (j ≡ i)
+        of-rule j true e = (refl, cc)
+        of-rule j false e = let z : _≡_ {A = ℕ} 0 1 = cc in absurd (omega arith)
+
+        not-group : (j : ℕ) (w : Decoded) → groupCheck j w ≡ Check.Bad (Refusal.Degrees i) → ⊥
+        not-group j w e = group-not j w 19 refl (Refusal.Degrees i) refl e
+
+        told : (j : ℕ) → lookCheck full rooms k j (length (partnersAt full rooms k j)) ≡ Check.Bad (Refusal.Degrees i) → Here j
+        told j e =
+            let r : Refusal = Refusal.Degrees i in
+            let d : ℕ = length (partnersAt full rooms k j) in
+            let rule : Check = refuse (Refusal.Offset j) (misses j) in
+            let faults : Check = groupCheck j (groupOf (group j)) in
+            let a = by-second (rule ⊳ faults) _ r (λ q. not-group j (groupOf (group j)) (by-second rule faults r (refuse-own (Refusal.Offset j) r (misses j) (λ z. omega arith)) .0 q .1)) .0 e in
+            let fine = fine-parts rule faults (a .0) in
+            let b = by-first (refuse (Refusal.Degrees j) (unsummed j d)) _ r (refuse-own (Refusal.Room d) r (short full rooms d) (λ z. omega arith)) .0 (a .1) in
+            let t = of-rule j (unsummed j d) b in
+            (refuse-fine (Refusal.Offset j) (misses j) .0 (fine .0), group-fine j (groupOf (group j)) .0 (fine .1), t .0, t .1)
+
+        found : ((j : ℕ) × (c : ℕ) × (findIn (k .keys) (k .keycount) key ≡ Found.At j c) × Here j) → (full ≡ true) × UnsummedIn k key i
+        found (j, c, q, t) =
+            let o = placed j (t .0) in
+            let u = and-parts full (not (within (k .edgecount) (length (partnersAt full rooms k j)) (before full rooms k j))) (t .2) in
+            let here : UnsummedIn k key j = record { compared = c; found = q; rises = o .0; inside = o .1; group = (t .1, not-true _ (u .1)) } in
+            (u .0, rw (t .3) at here)
+
+        back : (full ≡ true) × UnsummedIn k key i → lookIn full rooms k key ≡ refused (Refusal.Degrees i)
+        back (all, t) =
+            let d : ℕ = length (partnersAt full rooms k i) in
+            let rule = refuse-fine (Refusal.Offset i) (misses i) .1 (not-missed i (t .rises) (t .inside)) in
+            let faults = group-fine i (groupOf (group i)) .1 (t .group .0) in
+            let test : unsummed i d ≡ true = rw (all, t .group .1) in
+            look-back (Refusal.Degrees i) i (t .compared) (t .found)
+            (fine-then _ (fine-both rule faults) ∙ bad-then _ (refuse-bad (Refusal.Degrees i) (unsummed i d) .1 test))

@@ -43,7 +43,7 @@ pub record Rooms : Type 0 where
 
 -- ---- the group asked for: i, from a to e of the partners p
 
--- its faults, each by its own number, at the group
+-- its first fault, by its own number, at its byte, with the group beside it
 unfoldable pub groupCheck : ℕ → Decoded → Check
 groupCheck i (good dense ps) = Check.Fine
 groupCheck i (bad f) = Check.Bad (refusalOf i f)

@@ -13,6 +13,7 @@ use Rattle.frame.specs.Cases.{ids, oneEdge, headers}
 use Rattle.batch.specs.Batch.{edgeAt, edgesAt, edgesOf}
 use Rattle.readout.specs.ReadOut.{batchIn}
 use Rattle.readout.specs.Cases.{cases-pass, damaged, read}
+use Rattle.refusal.specs.declared.Refusal.{Refusal}
 use Rattle.text.specs.Text.{decimalIn, hex, refusedText}
 use Rattle.printing.specs.Printed.{edgeLine, firstLine, deadIn, edgeLines, printed, printedBy, printedOf}
 
@@ -47,6 +48,11 @@ example =
 pub refused-line : printedOf (set oneEdge 97 8) ≡ 114 ∷ 101 ∷ 102 ∷ 117 ∷ 115 ∷ 101 ∷ 100 ∷ 32 ∷ 50 ∷ 50 ∷ 32 ∷ 97 ∷ 116 ∷ 32 ∷ 51 ∷ 10 ∷ []
 unfolding printedBy refusedText decimalIn
 refused-line = ap (λ (c : Check). printedBy c (set oneEdge 97 8)) (damaged .0)
+
+-- "refused 29 at 11": a partner of group 3 is not above the one before; the place is the byte, and the group is not shown
+pub fault-line : refusedText (Refusal.PartnerOrder 11 3) ≡ 114 ∷ 101 ∷ 102 ∷ 117 ∷ 115 ∷ 101 ∷ 100 ∷ 32 ∷ 50 ∷ 57 ∷ 32 ∷ 97 ∷ 116 ∷ 32 ∷ 49 ∷ 49 ∷ []
+unfolding refusedText decimalIn
+fault-line = refl
 
 -- "edge-sst inverse minor 200 keys 12 edges 4096 dead 18446744073709551615"
 pub inverse-line : firstLine 1 200 12 4096 18446744073709551615 ≡ 101 ∷ 100 ∷ 103 ∷ 101 ∷ 45 ∷ 115 ∷ 115 ∷ 116 ∷ 32 ∷ 105 ∷ 110 ∷ 118 ∷ 101 ∷ 114 ∷ 115 ∷ 101 ∷ 32 ∷ 109 ∷ 105 ∷ 110 ∷ 111 ∷ 114 ∷ 32 ∷ 50 ∷ 48 ∷ 48 ∷ 32 ∷ 107 ∷ 101 ∷ 121 ∷ 115 ∷ 32 ∷ 49 ∷ 50 ∷ 32 ∷ 101 ∷ 100 ∷ 103 ∷ 101 ∷ 115 ∷ 32 ∷ 52 ∷ 48 ∷ 57 ∷ 54 ∷ 32 ∷ 100 ∷ 101 ∷ 97 ∷ 100 ∷ 32 ∷ 49 ∷ 56 ∷ 52 ∷ 52 ∷ 54 ∷ 55 ∷ 52 ∷ 52 ∷ 48 ∷ 55 ∷ 51 ∷ 55 ∷ 48 ∷ 57 ∷ 53 ∷ 53 ∷ 49 ∷ 54 ∷ 49 ∷ 53 ∷ 10 ∷ []

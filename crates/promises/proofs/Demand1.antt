@@ -148,7 +148,7 @@ pub record OneResult : Type 2 where
   pub plan-for : Determined c-plan-for.ended c-plan-for-reads.Pre c-plan-for-reads.Post
   pub row-of : Determined c-row-of.ended c-row-of-reads.Pre c-row-of-reads.Post
   pub table-of : Determined c-table-of.ended (λ κs a. Unit {0}) Table-post
-  -- `told_of`: a refusal's number and place
+  -- `told_of`: a refusal's number and places
   pub told : Determined c-told.ended c-told-reads.Pre c-told-reads.Post
   -- the calls for C, by their names in the header
   pub edge-sst-open : Determined sst-open.ended sst-open-reads.Pre sst-open-reads.Post

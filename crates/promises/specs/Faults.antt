@@ -8,8 +8,6 @@ use mathlib.Core.List.{List}
 use mathlib.Core.Bool.{Bool, true, false}
 use lib.ListN.{length}
 use lib.Dec.{eqb}
-use Rattle.base.specs.Over.{part}
-use Rattle.codes.specs.declared.varint.Unread.{Unread}
 use Rattle.refusal.specs.declared.Refusal.{Refusal}
 use Rattle.refusal.specs.declared.Check.{Check}
 use Rattle.refusal.specs.Refusal.{numberOf, isGone}
@@ -18,7 +16,7 @@ use Rattle.refusal.specs.Check.Laws.{between, numbers-among}
 use Rattle.frame.specs.declared.Opened.{Opened}
 use Rattle.frame.specs.declared.Opening.{Opening}
 use Rattle.frame.specs.Frame.{rowsOf, bodyOf, recordOf}
-use Rattle.frame.specs.Open.{Known, keyAt, offsetAt, knownOf, bytesAt, recordGood, fileCheck, openOf}
+use Rattle.frame.specs.Open.{Known, keyAt, knownOf, bytesAt, recordGood, fileCheck, openOf}
 use Rattle.frame.specs.Open.Laws.{opens-fine, opens-refused}
 use Rattle.frame.specs.Header.{opening-numbers}
 use Rattle.index.specs.declared.keys.Found.{Found}
@@ -28,16 +26,16 @@ use Rattle.index.specs.Order.{OffsetsRise}
 use Rattle.degrees.specs.Degrees.{groupAt}
 use Rattle.group.specs.declared.fault.Flaw.{Flaw}
 use Rattle.group.specs.declared.fault.Fault.{Fault}
-use Rattle.group.specs.Fault.{faultAt, flawOf, refusalOf}
-use Rattle.group.specs.Fault.Laws.{fault-place, fault-beside, fault-fails, fault-apart}
+use Rattle.group.specs.Fault.{faultAt, refusalOf, numberFor}
+use Rattle.group.specs.Fault.Laws.{fault-number, fault-place, fault-beside, fault-fails, fault-apart}
 use Rattle.group.specs.Group.{isGood, groupOf}
 use Rattle.group.specs.Wrong.{Wrong, wrong-exactly}
 use Rattle.lookup.specs.Lookup.{Rooms, refused, lookOf, lookWith}
-use Rattle.lookup.specs.Given.{FaultIn}
+use Rattle.lookup.specs.Given.{GroupIn, FaultIn, UnsummedIn, MisplacedIn}
 use Rattle.reader.specs.declared.header.HeaderRead.{HeaderRead}
 use Rattle.reader.specs.Header.{headerOf, header-opening}
 use Rattle.reader.specs.Opened.{opened-keys, opened-offsets}
-use Rattle.reader.specs.Given.{look-of-fault, look-with-fault}
+use Rattle.reader.specs.Given.{look-of-fault, look-with-fault, look-of-unsummed, look-with-unsummed, look-with-misplaced}
 use Rattle.full_check.specs.Full.{sumsFrom, fullCheck, checkedOf}
 use Rattle.full_check.specs.Given.{FaultFrom, FaultFirst, full-fault}
 use Rattle.readout.specs.declared.ReadOut.{ReadOut}
@@ -48,29 +46,6 @@ use Rattle.listing.specs.List.{listedOf}
 use Rattle.listing.specs.List.Laws.{list-opening}
 use Rattle.promises.specs.Given.{Gives, gives-is, checked-is}
 
--- "28 to 32 in the place of 18, 33 to 35 in the place of 17", and 16 as before
-abbrev pub numberFor : Flaw → ℕ
-numberFor Flaw.Tag = 16
-numberFor Flaw.Degree = 28
-numberFor Flaw.Order = 29
-numberFor Flaw.Upper = 30
-numberFor Flaw.Cut = 31
-numberFor Flaw.Spare = 32
-numberFor (Flaw.Number Unread.Cut) = 33
-numberFor (Flaw.Number Unread.Long) = 34
-numberFor (Flaw.Number Unread.Large) = 35
-
-number-for : (i b : ℕ) (w : Flaw) → numberOf (refusalOf i (faultAt w b)) ≡ numberFor w
-number-for i b Flaw.Tag = refl
-number-for i b Flaw.Degree = refl
-number-for i b Flaw.Order = refl
-number-for i b Flaw.Upper = refl
-number-for i b Flaw.Cut = refl
-number-for i b Flaw.Spare = refl
-number-for i b (Flaw.Number Unread.Cut) = refl
-number-for i b (Flaw.Number Unread.Long) = refl
-number-for i b (Flaw.Number Unread.Large) = refl
-
 -- in the group asked for: the file opens, and the search ends at key i
 pub record WrongAsked (f : List ℕ) (key i : ℕ) (w : Flaw) (b : ℕ) : Type 0 where
   pub opens : openOf f ≡ Opening.Good (recordOf f)
@@ -78,13 +53,9 @@ pub record WrongAsked (f : List ℕ) (key i : ℕ) (w : Flaw) (b : ℕ) : Type 0
   pub found : findIn (bytesAt f (recordOf f .keys)) (recordOf f .keycount) key ≡ Found.At i compared
   pub wrong : Wrong (groupAt (bytesAt f (recordOf f .partners)) (bytesAt f (recordOf f .offsets)) (recordOf f .bits / 8) i) w b
 
--- by a record, whoever filled it: the group's two offsets neither fall nor pass the partner range
-pub record WrongIn (k : Known) (key i : ℕ) (w : Flaw) (b : ℕ) : Type 0 where
-  pub compared : ℕ
-  pub found : findIn (k .keys) (k .keycount) key ≡ Found.At i compared
-  pub rises : offsetAt (k .offsets) (k .bits / 8) i ≤ offsetAt (k .offsets) (k .bits / 8) (i + 1)
-  pub inside : offsetAt (k .offsets) (k .bits / 8) (i + 1) ≤ length (k .partners)
-  pub wrong : Wrong (part (k .partners) (offsetAt (k .offsets) (k .bits / 8) i) (offsetAt (k .offsets) (k .bits / 8) (i + 1))) w b
+-- by a record, whoever filled it: the search ends at key i, whose two offsets neither fall nor pass the partner range
+abbrev pub WrongIn : Known → ℕ → ℕ → Flaw → ℕ → Type 0
+WrongIn k key i w b = GroupIn k key i (λ g. Wrong g w b)
 
 -- in the first group with a fault: the file opens, and 22 passes
 pub record WrongChecked (f : List ℕ) (i : ℕ) (w : Flaw) (b : ℕ) : Type 0 where
@@ -115,21 +86,21 @@ module _ (f : List ℕ) (i : ℕ) (w : Flaw) (b : ℕ) where
 
   found-in : (k : Known) (key : ℕ) → FaultIn k key i fault ↔ WrongIn k key i w b
   found-in k key = (
-    λ t. record { compared = t .compared; found = t .found; rises = t .rises; inside = t .inside; wrong = wrong-exactly _ w b .0 (t .fault) },
-    λ t. record { compared = t .compared; found = t .found; rises = t .rises; inside = t .inside; fault = wrong-exactly _ w b .1 (t .wrong) },
+    λ t. record { compared = t .compared; found = t .found; rises = t .rises; inside = t .inside; group = wrong-exactly _ w b .0 (t .group) },
+    λ t. record { compared = t .compared; found = t .found; rises = t .rises; inside = t .inside; group = wrong-exactly _ w b .1 (t .group) },
   )
 
   -- a group of a file that opens lies within the partners
   asked : (key : ℕ) → ((fileCheck f ≡ Check.Fine) × FaultIn (knownOf f (recordOf f)) key i fault) ↔ WrongAsked f key i w b
   unfolding knownOf
   asked key = (
-    λ h. record { opens = opens-fine f .1 (h .0); compared = h .1 .compared; found = h .1 .found; wrong = wrong-exactly _ w b .0 (h .1 .fault) },
+    λ h. record { opens = opens-fine f .1 (h .0); compared = h .1 .compared; found = h .1 .found; wrong = wrong-exactly _ w b .0 (h .1 .group) },
     λ t.
         let up = opened-offsets f (recordOf f) (t .opens) in
         let lt = find-sound (bytesAt f (recordOf f .keys)) (recordOf f .keycount) key i (t .compared) (t .found) .0 in
         let rise = up .above i lt in
         let end = up .within (i + 1) (omega arith) in
-        (opens-fine f .0 (t .opens), record { compared = t .compared; found = t .found; rises = omega arith; inside = end; fault = wrong-exactly _ w b .1 (t .wrong) }),
+        (opens-fine f .0 (t .opens), record { compared = t .compared; found = t .found; rises = omega arith; inside = end; group = wrong-exactly _ w b .1 (t .wrong) }),
   )
 
   by-record : (o : Opened) (key : ℕ) → ((recordGood f o ≡ true) × FaultIn (knownOf f o) key i fault) ↔ ((recordGood f o ≡ true) × WrongIn (knownOf f o) key i w b)
@@ -163,14 +134,14 @@ module _ (f : List ℕ) (i : ℕ) (w : Flaw) (b : ℕ) where
         λ g. record {
           refusal = g .refusal;
           is = g .is;
-          number = g .number ∙ sym (number-for i b w);
+          number = g .number ∙ sym (fault-number i fault);
           place = g .place ∙ sym (fault-place i fault);
           beside = g .beside ∙ sym (fault-beside i fault);
         },
         λ g. record {
           refusal = g .refusal;
           is = g .is;
-          number = g .number ∙ number-for i b w;
+          number = g .number ∙ fault-number i fault;
           place = g .place ∙ fault-place i fault;
           beside = g .beside ∙ fault-beside i fault;
         },
@@ -203,6 +174,28 @@ same-fault f i w b g full rooms =
     let (c, at) = find-complete keys n (opened-keys f (recordOf f) (t .opens)) (keyAt keys i) i (t .within) refl in
     faulty f i w b .lookup full rooms (keyAt keys i) .1 (record { opens = t .opens; compared = c; found = at; wrong = t .wrong })
 
--- 17 and 18 are no longer given, by any call
-pub never-gone : {A : Type 0} (refusing : Refusal → A) (a : A) (n p s : ℕ) → isGone n ≡ true → Gives refusing a n p s → ⊥
+-- "14 and 19 keep the group alone", beside it 0: of a lookup by a record, whoever filled it, 14 exactly if the group's offsets fall or pass the
+-- partner range; 19 exactly if log numbers are asked, the group has no fault, and the edges before it cannot be summed or pass the edge
+-- count with its own
+pub record Kept (f : List ℕ) (i : ℕ) : Type 0 where
+  pub offsets : (full : Bool) (rooms : Rooms) (key : ℕ) (o : Opened) → Gives refused (lookWith full rooms key f o) 14 i 0 ↔ ((recordGood f o ≡ true) × MisplacedIn (knownOf f o) key i)
+  pub degrees : (full : Bool) (rooms : Rooms) (key : ℕ) → Gives refused (lookOf full rooms key f) 19 i 0 ↔ ((fileCheck f ≡ Check.Fine) × ((full ≡ true) × UnsummedIn (knownOf f (recordOf f)) key i))
+  pub degrees-with : (full : Bool) (rooms : Rooms) (key : ℕ) (o : Opened)
+      → Gives refused (lookWith full rooms key f o) 19 i 0 ↔ ((recordGood f o ≡ true) × ((full ≡ true) × UnsummedIn (knownOf f o) key i))
+
+pub kept : (f : List ℕ) (i : ℕ) → Kept f i
+kept f i = record {
+  offsets = λ full rooms key o. Iff·trans (gives-is refused (lookWith full rooms key f o) (Refusal.Offset i)) (look-with-misplaced full rooms key f o i);
+  degrees = λ full rooms key. Iff·trans (gives-is refused (lookOf full rooms key f) (Refusal.Degrees i)) (look-of-unsummed full rooms key f i);
+  degrees-with = λ full rooms key o. Iff·trans (gives-is refused (lookWith full rooms key f o) (Refusal.Degrees i)) (look-with-unsummed full rooms key f o i);
+}
+
+-- a number that is given no longer is given by no call
+never-gone : {A : Type 0} (refusing : Refusal → A) (a : A) (n p s : ℕ) → isGone n ≡ true → Gives refusing a n p s → ⊥
 never-gone refusing a n p s e g = let z : _≡_ {A = ℕ} 0 1 = cc (not-gone (g .refusal), g .number, e) in omega arith
+
+pub never-17 : {A : Type 0} (refusing : Refusal → A) (a : A) (p s : ℕ) → Gives refusing a 17 p s → ⊥
+never-17 refusing a p s = never-gone refusing a 17 p s refl
+
+pub never-18 : {A : Type 0} (refusing : Refusal → A) (a : A) (p s : ℕ) → Gives refusing a 18 p s → ⊥
+never-18 refusing a p s = never-gone refusing a 18 p s refl

@@ -1,5 +1,5 @@
 -- Demand 3, what is not skipped: another major version, an unassigned flag bit and an unknown tag are refused by their own
--- numbers, by every call on the file, exactly where they are the first fault in the order of checks.
+-- numbers, by every call that looks at them, exactly where they are the first fault in the order of checks.
 use Prim.Native.Nat.{ℕ}
 use native.Mathlib.Omega.{arith}
 use mathlib.Core.List.{List}

@@ -1,6 +1,6 @@
--- Which refusals of a lookup are opening's, and when a lookup tells a fault of a group, exactly.
+-- Which refusals of a lookup are opening's, and when a lookup tells a fault of a group, 14 at it or 19, exactly.
 use mathlib.Core.Path.{_≡_, refl, sym, ap, _∙_}
-use mathlib.Core.Logic.{_↔_}
+use mathlib.Core.Logic.{_↔_, Iff·trans}
 use Prim.Native.Nat.{ℕ, _≤_}
 use native.Mathlib.Omega.{arith}
 use mathlib.Core.List.{List}
@@ -8,7 +8,7 @@ use mathlib.Core.Bool.{Bool, true, false}
 use Rattle.refusal.specs.declared.Refusal.{Refusal}
 use Rattle.refusal.specs.declared.Check.{Check}
 use Rattle.refusal.specs.Refusal.{numberOf}
-use Rattle.refusal.specs.Check.Laws.{numbers-bad, between, numbers-among}
+use Rattle.refusal.specs.Check.Laws.{numbers-bad, between, numbers-among, above}
 use Rattle.frame.specs.declared.Opened.{Opened}
 use Rattle.frame.specs.declared.Opening.{Opening}
 use Rattle.frame.specs.Header.{opening-numbers}
@@ -18,7 +18,7 @@ use Rattle.group.specs.declared.fault.Fault.{Fault}
 use Rattle.group.specs.Fault.{refusalOf}
 use Rattle.group.specs.Fault.Laws.{fault-apart}
 use Rattle.lookup.specs.Lookup.{Rooms, refused, lookIn, lookWith, lookOf}
-use Rattle.lookup.specs.Given.{FaultIn, look-numbers, look-fault}
+use Rattle.lookup.specs.Given.{FaultIn, UnsummedIn, MisplacedIn, look-numbers, look-fault, look-misplaced, look-unsummed}
 use Rattle.reader.specs.Look.{with-bad, with-good, of-refused, of-good}
 
 module _ (full : Bool) (rooms : Rooms) (key : ℕ) (f : List ℕ) where
@@ -32,33 +32,61 @@ module _ (full : Bool) (rooms : Rooms) (key : ℕ) (f : List ℕ) where
           let d : refused s ≡ refused r = sym (of-refused full rooms key f s q) ∙ e in
           let same : s ≡ r = cc in opens-refused f r .0 (q ∙ ap Opening.Refused same)
 
-  -- a fault of group i: the file opens, the group of the key is i, and that is its first fault
-  pub look-of-fault : (i : ℕ) (fault : Fault) → (lookOf full rooms key f ≡ refused (refusalOf i fault)) ↔ ((fileCheck f ≡ Check.Fine) × FaultIn (knownOf f (recordOf f)) key i fault)
-  look-of-fault i fault = (
+  -- a refusal that opening never gives: the file opens, and the lookup in it is refused so
+  look-of-told : (r : Refusal) → (fileCheck f ≡ Check.Bad r → ⊥) → (lookOf full rooms key f ≡ refused r) ↔ ((fileCheck f ≡ Check.Fine) × (lookIn full rooms (knownOf f (recordOf f)) key ≡ refused r))
+  look-of-told r never = (
     λ e. go (openOf f) refl e,
-    λ h. of-good full rooms key f (recordOf f) (opens-fine f .1 (h .0)) ∙ look-fault full rooms (knownOf f (recordOf f)) key i fault .1 (h .1),
+    λ h. of-good full rooms key f (recordOf f) (opens-fine f .1 (h .0)) ∙ h .1,
   )
     where
-      go : (x : Opening) → openOf f ≡ x → lookOf full rooms key f ≡ refused (refusalOf i fault) → (fileCheck f ≡ Check.Fine) × FaultIn (knownOf f (recordOf f)) key i fault
+      go : (x : Opening) → openOf f ≡ x → lookOf full rooms key f ≡ refused r → (fileCheck f ≡ Check.Fine) × (lookIn full rooms (knownOf f (recordOf f)) key ≡ refused r)
       go (Opening.Good o) q e =
           let same : recordOf f ≡ o = opens-record f o q in
-          let found : FaultIn (knownOf f o) key i fault = look-fault full rooms (knownOf f o) key i fault .0 (sym (of-good full rooms key f o q) ∙ e) in
-          (opens-fine f .0 (q ∙ ap Opening.Good (sym same)), rw same found)
+          let told : lookIn full rooms (knownOf f o) key ≡ refused r = sym (of-good full rooms key f o q) ∙ e in
+          (opens-fine f .0 (q ∙ ap Opening.Good (sym same)), rw same told)
       go (Opening.Refused s) q e =
-          let d : refused s ≡ refused (refusalOf i fault) = sym (of-refused full rooms key f s q) ∙ e in
-          let same : s ≡ refusalOf i fault = cc in
-          absurd (fault-apart i fault (between 1 15) (numbers-among 1 15 (opening-numbers f)) refl (opens-refused f (refusalOf i fault) .0 (q ∙ ap Opening.Refused same)))
+          let d : refused s ≡ refused r = sym (of-refused full rooms key f s q) ∙ e in
+          let same : s ≡ r = cc in
+          absurd (never (opens-refused f r .0 (q ∙ ap Opening.Refused same)))
 
-  -- by a record, whoever filled it: 21 passes
-  pub look-with-fault : (o : Opened) (i : ℕ) (fault : Fault) → (lookWith full rooms key f o ≡ refused (refusalOf i fault)) ↔ ((recordGood f o ≡ true) × FaultIn (knownOf f o) key i fault)
-  look-with-fault o i fault = (
+  -- by a record, whoever filled it, a refusal that is not 21: 21 passes
+  look-with-told : (o : Opened) (r : Refusal) → (Refusal.Record ≡ r → ⊥) → (lookWith full rooms key f o ≡ refused r) ↔ ((recordGood f o ≡ true) × (lookIn full rooms (knownOf f o) key ≡ refused r))
+  look-with-told o r never = (
     λ e. go (recordGood f o) refl e,
-    λ h. with-good full rooms key f o (h .0) ∙ look-fault full rooms (knownOf f o) key i fault .1 (h .1),
+    λ h. with-good full rooms key f o (h .0) ∙ h .1,
   )
     where
-      go : (t : Bool) → recordGood f o ≡ t → lookWith full rooms key f o ≡ refused (refusalOf i fault) → (recordGood f o ≡ true) × FaultIn (knownOf f o) key i fault
-      go true q e = (q, look-fault full rooms (knownOf f o) key i fault .0 (sym (with-good full rooms key f o q) ∙ e))
+      go : (t : Bool) → recordGood f o ≡ t → lookWith full rooms key f o ≡ refused r → (recordGood f o ≡ true) × (lookIn full rooms (knownOf f o) key ≡ refused r)
+      go true q e = (q, sym (with-good full rooms key f o q) ∙ e)
       go false q e =
-          let d : refused Refusal.Record ≡ refused (refusalOf i fault) = sym (with-bad full rooms key f o q) ∙ e in
-          let same : Refusal.Record ≡ refusalOf i fault = cc in
-          absurd (fault-apart i fault (between 21 21) (numbers-among 21 21 (numbers-bad 21 21 Refusal.Record refl)) refl (ap Check.Bad same))
+          let d : refused Refusal.Record ≡ refused r = sym (with-bad full rooms key f o q) ∙ e in
+          let same : Refusal.Record ≡ r = cc in
+          absurd (never same)
+
+  both : {A B C : Type 0} → B ↔ C → (A × B) ↔ (A × C)
+  both is = (λ h. (h .0, is .0 (h .1)), λ h. (h .0, is .1 (h .1)))
+
+  -- a fault of group i, which is that of the key
+  pub look-of-fault : (i : ℕ) (fault : Fault) → (lookOf full rooms key f ≡ refused (refusalOf i fault)) ↔ ((fileCheck f ≡ Check.Fine) × FaultIn (knownOf f (recordOf f)) key i fault)
+  look-of-fault i fault =
+      Iff·trans (look-of-told (refusalOf i fault) (fault-apart i fault (between 1 15) (numbers-among 1 15 (opening-numbers f)) refl))
+      (both (look-fault full rooms (knownOf f (recordOf f)) key i fault))
+
+  pub look-with-fault : (o : Opened) (i : ℕ) (fault : Fault) → (lookWith full rooms key f o ≡ refused (refusalOf i fault)) ↔ ((recordGood f o ≡ true) × FaultIn (knownOf f o) key i fault)
+  look-with-fault o i fault =
+      Iff·trans
+      (look-with-told o (refusalOf i fault) (λ e. fault-apart i fault (between 21 21) (numbers-among 21 21 (numbers-bad 21 21 Refusal.Record refl)) refl (ap Check.Bad e)))
+      (both (look-fault full rooms (knownOf f o) key i fault))
+
+  -- 19 of a file, and by a record; 14 by a record
+  pub look-of-unsummed : (i : ℕ) → (lookOf full rooms key f ≡ refused (Refusal.Degrees i)) ↔ ((fileCheck f ≡ Check.Fine) × ((full ≡ true) × UnsummedIn (knownOf f (recordOf f)) key i))
+  look-of-unsummed i =
+      Iff·trans (look-of-told (Refusal.Degrees i) (above 1 15 (opening-numbers f) (Refusal.Degrees i) (omega arith))) (both (look-unsummed full rooms (knownOf f (recordOf f)) key i))
+
+  pub look-with-unsummed : (o : Opened) (i : ℕ) → (lookWith full rooms key f o ≡ refused (Refusal.Degrees i)) ↔ ((recordGood f o ≡ true) × ((full ≡ true) × UnsummedIn (knownOf f o) key i))
+  look-with-unsummed o i =
+      Iff·trans (look-with-told o (Refusal.Degrees i) (λ e. let z : _≡_ {A = ℕ} 0 1 = cc in omega arith)) (both (look-unsummed full rooms (knownOf f o) key i))
+
+  pub look-with-misplaced : (o : Opened) (i : ℕ) → (lookWith full rooms key f o ≡ refused (Refusal.Offset i)) ↔ ((recordGood f o ≡ true) × MisplacedIn (knownOf f o) key i)
+  look-with-misplaced o i =
+      Iff·trans (look-with-told o (Refusal.Offset i) (λ e. let z : _≡_ {A = ℕ} 0 1 = cc in omega arith)) (both (look-misplaced full rooms (knownOf f o) key i))

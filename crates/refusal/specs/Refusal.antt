@@ -65,15 +65,15 @@ numberOf (Refusal.DegreeZero byte group) = 28
 numberOf (Refusal.PartnerOrder byte group) = 29
 -- a partner's upper half passes 2^64 - 1
 numberOf (Refusal.UpperHalf byte group) = 30
--- the tag is missing, or a partner is cut, by the group's end
+-- the tag is missing, or a partner is cut, by the group's end; no byte of a dense partner too
 numberOf (Refusal.GroupCut byte group) = 31
 -- bytes are left after the last partner
 numberOf (Refusal.SpareBytes byte group) = 32
--- a varint is cut by the group's end, no byte left too
+-- a varint is cut by the group's end after at most nine bytes, none too
 numberOf (Refusal.VarintCut byte group) = 33
--- a varint is not the shortest for its number
+-- a varint is not the shortest for its number: its last byte is 0, after one to nine others
 numberOf (Refusal.VarintLong byte group) = 34
--- a varint is 2^64 or more
+-- a varint's tenth byte is above 1, whatever follows: 2^64 or more
 numberOf (Refusal.VarintLarge byte group) = 35
 
 -- numbers: to here

@@ -14,7 +14,7 @@ use Rattle.refusal.specs.Refusal.{numberOf, placeOf, besideOf}
 use Rattle.refusal.specs.Check.Laws.{Among, noneOf, none-at}
 use Rattle.group.specs.declared.fault.Flaw.{Flaw}
 use Rattle.group.specs.declared.fault.Fault.{Fault}
-use Rattle.group.specs.Fault.{faultAt, flawOf, refusalOf}
+use Rattle.group.specs.Fault.{faultAt, flawOf, refusalOf, numberFor}
 
 -- the flaws, and their numbers in the same order
 flaws : List Flaw
@@ -41,26 +41,30 @@ rankTold n = n - 27
 -- its number is the flaw's, its places are the byte and the group
 record ToldAs (at i : ℕ) (w : Flaw) : Type 0 where
   rank : rankOf w < 9
-  number : numberOf (flawOf at i w) ≡ getD faultNumbers (rankOf w) 0
+  listed : numberFor w ≡ getD faultNumbers (rankOf w) 0
+  number : numberOf (flawOf at i w) ≡ numberFor w
   back : getD flaws (rankTold (numberOf (flawOf at i w))) Flaw.Tag ≡ w
   place : placeOf (flawOf at i w) ≡ at
   beside : besideOf (flawOf at i w) ≡ i
 
 told-as : (at i : ℕ) (w : Flaw) → ToldAs at i w
 unfolding flaws rankOf rankTold
-told-as at i Flaw.Tag = record { rank = lit< tt; number = refl; back = refl; place = refl; beside = refl }
-told-as at i Flaw.Degree = record { rank = lit< tt; number = refl; back = refl; place = refl; beside = refl }
-told-as at i Flaw.Order = record { rank = lit< tt; number = refl; back = refl; place = refl; beside = refl }
-told-as at i Flaw.Upper = record { rank = lit< tt; number = refl; back = refl; place = refl; beside = refl }
-told-as at i Flaw.Cut = record { rank = lit< tt; number = refl; back = refl; place = refl; beside = refl }
-told-as at i Flaw.Spare = record { rank = lit< tt; number = refl; back = refl; place = refl; beside = refl }
-told-as at i (Flaw.Number Unread.Cut) = record { rank = lit< tt; number = refl; back = refl; place = refl; beside = refl }
-told-as at i (Flaw.Number Unread.Long) = record { rank = lit< tt; number = refl; back = refl; place = refl; beside = refl }
-told-as at i (Flaw.Number Unread.Large) = record { rank = lit< tt; number = refl; back = refl; place = refl; beside = refl }
+told-as at i Flaw.Tag = record { rank = lit< tt; listed = refl; number = refl; back = refl; place = refl; beside = refl }
+told-as at i Flaw.Degree = record { rank = lit< tt; listed = refl; number = refl; back = refl; place = refl; beside = refl }
+told-as at i Flaw.Order = record { rank = lit< tt; listed = refl; number = refl; back = refl; place = refl; beside = refl }
+told-as at i Flaw.Upper = record { rank = lit< tt; listed = refl; number = refl; back = refl; place = refl; beside = refl }
+told-as at i Flaw.Cut = record { rank = lit< tt; listed = refl; number = refl; back = refl; place = refl; beside = refl }
+told-as at i Flaw.Spare = record { rank = lit< tt; listed = refl; number = refl; back = refl; place = refl; beside = refl }
+told-as at i (Flaw.Number Unread.Cut) = record { rank = lit< tt; listed = refl; number = refl; back = refl; place = refl; beside = refl }
+told-as at i (Flaw.Number Unread.Long) = record { rank = lit< tt; listed = refl; number = refl; back = refl; place = refl; beside = refl }
+told-as at i (Flaw.Number Unread.Large) = record { rank = lit< tt; listed = refl; number = refl; back = refl; place = refl; beside = refl }
 
 module _ (i : ℕ) (f : Fault) where
   is : ToldAs (f .at) i (f .flaw)
   is = told-as (f .at) i (f .flaw)
+
+  pub fault-number : numberOf (refusalOf i f) ≡ numberFor (f .flaw)
+  fault-number = is .number
 
   -- "a byte inside the group, the group's index beside it"
   pub fault-place : placeOf (refusalOf i f) ≡ f .at
@@ -71,7 +75,7 @@ module _ (i : ℕ) (f : Fault) where
 
   -- its number passes no test that none of the faults' numbers passes
   pub fault-fails : (test : ℕ → Bool) → noneOf test faultNumbers ≡ true → test (numberOf (refusalOf i f)) ≡ false
-  fault-fails test e = ap test (is .number) ∙ none-at test faultNumbers (rankOf (f .flaw)) (is .rank) e
+  fault-fails test e = ap test (is .number ∙ is .listed) ∙ none-at test faultNumbers (rankOf (f .flaw)) (is .rank) e
 
   pub fault-apart : (test : ℕ → Bool) {c : Check} → Among test c → noneOf test faultNumbers ≡ true → c ≡ Check.Bad (refusalOf i f) → ⊥
   fault-apart test a e q = let z : _≡_ {A = ℕ} 0 1 = cc (a (refusalOf i f) q, fault-fails test e) in omega arith
