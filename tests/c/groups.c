@@ -69,10 +69,19 @@ static void hold_group(const char *call, const Group *g, EdgeSstLooked got) {
                call, (unsigned long)g->n, got.number, got.place, got.beside, g->number, g->byte);
 }
 
+/* 16 and 28 to 35 have a second place, and no other number. */
+static void hold_beside(void) {
+    uint64_t number;
+    for (number = 0; number < 64; number++)
+        if (edge_sst_has_beside(number) != (number == 16 || (number >= 28 && number <= 35)))
+            differ("a second place of %" PRIu64, number);
+}
+
 void test_groups(const char *dir) {
     static const uint8_t key[ID] = {BAD};
     size_t i;
     (void)dir;
+    hold_beside();
     for (i = 0; i < sizeof groups / sizeof groups[0]; i++) {
         uint8_t bytes[GROUPS + LONGEST], out[1], marks[1];
         uint64_t logs[1];

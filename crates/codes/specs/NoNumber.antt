@@ -3,7 +3,7 @@ use mathlib.Core.Path.{_≡_, refl, sym, ap, subst, _∙_}
 use mathlib.Core.Logic.{_↔_, _⊎_, inl, inr, ⊎-elim}
 use Prim.Native.Nat.{ℕ, zero, suc, _+_, _-_, _*_, _%_, _^_, _≤_, _<_}
 use native.Mathlib.Nat.{le-trans, add-zero, one-mul, pow-suc, pow-le-pow-right, zero-lt-suc}
-use native.Mathlib.Decide.{decLe, decLt, ℕ-discrete}
+use native.Mathlib.Decide.{decLt, ℕ-discrete}
 use native.Mathlib.Omega.{arith}
 use mathlib.Core.List.{List}
 use lib.ListN.{length, getD}
@@ -55,7 +55,7 @@ so-far s i (suc k) h g =
 one-turn : (s : List ℕ) (i k : ℕ) → k ≤ 9 → (t : SoFar s i k) → varintAt s i ≡ varFrom (suc (9 - k)) s (i + k) (t .low) (t .weight)
 one-turn s i k h t = let turns : 10 - k ≡ suc (9 - k) = omega arith in (rw turns at (t .rest))
 
--- a weight is 1 for the first byte alone, at most 2^56 before the tenth, and 2^63 there
+-- the weight of a byte after the first is above 1
 first-weight : (w k : ℕ) → w ≡ 128 ^ k → 1 ≤ k → 1 < w
 first-weight w k e h = rw e (le-trans (lit< tt) (pow-le-pow-right (zero-lt-suc 127) h))
 

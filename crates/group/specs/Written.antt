@@ -18,8 +18,8 @@ use Rattle.codes.specs.Ids.Laws.{length-idBytes, halves-back}
 use Rattle.codes.specs.Varint.{varintAt, varBytes}
 use Rattle.codes.specs.Varint.Laws.{read-back}
 use Rattle.group.specs.declared.split.Step.{Step}
-use Rattle.group.specs.Group.{splitTag, denseTag, Decoded, good, splitStep, stepAt, cons, walkFrom, headOf, groupOf, bytesOf}
-use Rattle.group.specs.Group.Laws.{split-good, dense-good, step-split, step-dense, walk-end, walk-more, headIs, tagOf, head-split, head-dense, group-walk}
+use Rattle.group.specs.Group.{splitTag, denseTag, Decoded, good, splitStep, stepAt, cons, walkFrom, groupOf, bytesOf}
+use Rattle.group.specs.Group.Laws.{split-good, dense-good, step-split, step-dense, walk-end, walk-more, tagOf, head-tagged, group-walk}
 
 -- ---- what can be written
 
@@ -164,15 +164,10 @@ module _ (ps : List Id) (some : 1 ≤ length ps) (fits : length ps < 2 ^ 64) (h 
       let len : n + 1 ≡ length q = sym (length-append v (t ∷ [])) in
       let same : g ≡ q ++ r = sym (append-snoc v t r) in
       ap groupOf (written-is dense ps)
-      ∙ group-walk g dense d (n + 1) (headed dense g n value tag within)
+      ∙ group-walk g dense d (n + 1) (head-tagged dense g d n value some within tag)
       ∙ ap (λ (i : ℕ). walkFrom dense d g i 0 0) len
       ∙ ap (λ (s : List ℕ). walkFrom dense d s (length q) 0 0) same
       ∙ walk-back dense ps q 0 0 (omega arith) h u
-    where
-      headed : (b : Bool) (g : List ℕ) (n : ℕ) → varintAt g 0 ≡ Value (length ps) n → getD g n 0 ≡ tagOf b → n < length g
-          → headOf g ≡ headIs b (length ps) (n + 1)
-      headed true g n e t w = head-dense g (length ps) n e (λ z. omega arith) w t
-      headed false g n e t w = head-split g (length ps) n e (λ z. omega arith) w t
 
   pub split-back : groupOf (splitBytes ps) ≡ good false ps
   split-back = written-back false

@@ -1,5 +1,5 @@
 -- What is wrong with a group, in the documents' words: each fault is told exactly where it is the first in reading order.
-use mathlib.Core.Path.{_≡_, refl, sym, ap, ap₂, subst, _∙_}
+use mathlib.Core.Path.{_≡_, refl, sym, ap, subst, _∙_}
 use mathlib.Core.Logic.{_↔_, _⊎_, inl, inr, ⊎-elim}
 use Prim.Native.Nat.{ℕ, zero, suc, _+_, _-_, _^_, _≤_, _<_}
 use native.Mathlib.Nat.{zero-add}
@@ -24,7 +24,7 @@ use Rattle.group.specs.declared.head.Head.{Head}
 use Rattle.group.specs.declared.split.Step.{Step}
 use Rattle.group.specs.Fault.{faultAt}
 use Rattle.group.specs.Group.{Decoded, good, bad, denseSize, lowerSize, splitTag, denseTag, splitStep, stepAt, cons, walkFrom, degreeOf, headOf, groupOf}
-use Rattle.group.specs.Group.Laws.{split-unread, split-over, split-short, split-good, dense-short, dense-good, step-split, step-dense, step-next, head-unread, head-none, head-short, head-split, head-dense, head-tag, headIs, Headed, head-headed, group-walk, group-bad, walk-end, walk-over, walk-bad, walk-low, walk-more}
+use Rattle.group.specs.Group.Laws.{split-unread, split-over, split-short, split-good, dense-short, dense-good, step-split, step-dense, step-next, head-unread, head-none, head-short, head-split, head-dense, head-tag, headIs, head-tagged, Headed, head-headed, group-walk, group-bad, walk-end, walk-over, walk-bad, walk-low, walk-more}
 
 -- ---- what stands before the fault
 
@@ -162,8 +162,7 @@ module _ (dense : Bool) (g : List ℕ) (j h low : ℕ) where
 module _ (g : List ℕ) where
   headed-head : (dense : Bool) (d i : ℕ) → Headed g dense d i → headOf g ≡ headIs dense d i
   unfolding degreeOf
-  headed-head true d i h = let some = h .some in head-dense g d (h .tag) (h .degree) (λ z. omega arith) (h .within) (h .tagged) ∙ ap (Head.Dense d) (sym (h .place))
-  headed-head false d i h = let some = h .some in head-split g d (h .tag) (h .degree) (λ z. omega arith) (h .within) (h .tagged) ∙ ap (Head.Split d) (sym (h .place))
+  headed-head dense d i h = head-tagged dense g d (h .tag) (h .degree) (h .some) (h .within) (h .tagged) ∙ ap (headIs dense d) (sym (h .place))
 
   module _ (dense : Bool) (b hi low : ℕ) where
     before-bad : (degree read left : ℕ) (f : Fault) → ReadSoFar g dense b hi low degree read → degree ≡ read + left → walkFrom dense left g b hi low ≡ bad f → groupOf g ≡ bad f

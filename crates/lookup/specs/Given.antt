@@ -1,21 +1,21 @@
 -- Which refusals a lookup gives after opening, and when it tells a fault of the group, 14 at it or 19, exactly.
 use mathlib.Core.Path.{_≡_, refl, sym, ap, _∙_}
-use mathlib.Core.Logic.{_↔_}
-use Prim.Native.Nat.{ℕ, _+_, _*_, _/_, _≤_, _<_}
+use mathlib.Core.Logic.{_↔_, _⊎_, inl, inr, ⊎-elim}
+use Prim.Native.Nat.{ℕ, _+_, _/_, _≤_, _<_}
+use native.Mathlib.Decide.{decLt}
 use native.Mathlib.Omega.{arith}
-use mathlib.Core.List.{List, []}
+use mathlib.Core.List.{List}
 use mathlib.Core.Bool.{Bool, true, false, not, _&&_, _||_}
 use lib.ListN.{length}
 use lib.Dec.{ltb, eqb}
-use borrow.Author.Tests.{ltb-false, le-ltb, eq-eqb, not-true}
-use Rattle.base.specs.Pick.{pick}
+use borrow.Author.Tests.{ltb-false, lt-ltb, le-ltb, eq-eqb, not-true}
 use Rattle.base.specs.Over.{part}
 use Rattle.refusal.specs.declared.Refusal.{Refusal}
 use Rattle.refusal.specs.declared.Check.{Check}
 use Rattle.refusal.specs.Refusal.{numberOf, lastNumber}
 use Rattle.refusal.specs.Refusal.Laws.{number-most}
 use Rattle.refusal.specs.Check.{_⊳_, refuse}
-use Rattle.refusal.specs.Check.Laws.{fine-parts, fine-both, bad-then, fine-then, by-first, by-second, refuse-bad, refuse-fine, refuse-own, either-parts, and-parts, Numbers, numbers-fine, numbers-bad, numbers-refuse, numbers-then, between, numbers-among, noneOf, below}
+use Rattle.refusal.specs.Check.Laws.{fine-parts, fine-both, bad-then, fine-then, by-first, by-second, refuse-bad, refuse-fine, refuse-own, either-parts, and-parts, Numbers, numbers-fine, numbers-refuse, numbers-then, between, numbers-among, noneOf, below}
 use Rattle.frame.specs.Open.{Known, offsetAt}
 use Rattle.index.specs.declared.keys.Found.{Found}
 use Rattle.index.specs.Find.{findIn}
@@ -24,7 +24,7 @@ use Rattle.group.specs.Group.{Decoded, good, bad, isGood, groupOf, partnersOf}
 use Rattle.group.specs.declared.fault.Fault.{Fault}
 use Rattle.group.specs.Fault.{refusalOf}
 use Rattle.group.specs.Fault.Laws.{faultNumbers, fault-least, fault-once, fault-fails, fault-apart}
-use Rattle.lookup.specs.Lookup.{Outcome, found, absent, refused, outcome, Rooms, groupCheck, groupFault, logsFrom, marksFrom, within, firstOf, short, offset, partnersAt, before, lookCheck, lookGroup, onFound, lookIn}
+use Rattle.lookup.specs.Lookup.{Outcome, found, refused, outcome, Rooms, groupCheck, groupFault, within, short, partnersAt, before, lookCheck, lookGroup, onFound, lookIn}
 
 -- ---- a group's faults
 
@@ -83,11 +83,11 @@ UnsummedIn k key i =
     GroupIn k key i
     (λ g. (isGood (groupOf g) ≡ true) × (within (k .edgecount) (length (partnersOf (groupOf g))) (edgesBefore (k .partners) (k .offsets) (k .bits / 8) i) ≡ false))
 
--- the group of key i is found, and its offsets fall or pass the partner range
+-- the group of key i is found, and its two offsets fall or pass the partner range
 pub record MisplacedIn (k : Known) (key i : ℕ) : Type 0 where
   pub compared : ℕ
   pub found : findIn (k .keys) (k .keycount) key ≡ Found.At i compared
-  pub misplaced : misplaced (k .partners) (offsetAt (k .offsets) (k .bits / 8) i) (offsetAt (k .offsets) (k .bits / 8) (i + 1)) ≡ true
+  pub misplaced : (offsetAt (k .offsets) (k .bits / 8) (i + 1) < offsetAt (k .offsets) (k .bits / 8) i) ⊎ (length (k .partners) < offsetAt (k .offsets) (k .bits / 8) (i + 1))
 
 module _ (full : Bool) (rooms : Rooms) (k : Known) where
   abbrev starts : ℕ → ℕ
@@ -151,6 +151,23 @@ module _ (full : Bool) (rooms : Rooms) (k : Known) where
     not-missed : (j : ℕ) → starts j ≤ starts (j + 1) → starts (j + 1) ≤ length (k .partners) → misses j ≡ false
     not-missed j a b = rw (le-ltb (starts (j + 1)) (starts j) a, le-ltb (length (k .partners)) (starts (j + 1)) b)
 
+    fallen : (j : ℕ) → misses j ≡ true → (starts (j + 1) < starts j) ⊎ (length (k .partners) < starts (j + 1))
+    fallen j e =
+        elim (decLt (starts (j + 1)) (starts j)) [
+          | yes h ↦ inl h
+          | no h ↦ elim (decLt (length (k .partners)) (starts (j + 1))) [
+            | yes g ↦ inr g
+            | no g ↦ let z : _≡_ {A = ℕ} 0 1 = cc (e, not-missed j (omega arith) (omega arith)) in absurd (omega arith)
+          ]
+        ]
+
+    missed : (j : ℕ) → (starts (j + 1) < starts j) ⊎ (length (k .partners) < starts (j + 1)) → misses j ≡ true
+    missed j = ⊎-elim (λ h. rw (lt-ltb (starts (j + 1)) (starts j) h)) (λ h. second (ltb (starts (j + 1)) (starts j)) (lt-ltb (length (k .partners)) (starts (j + 1)) h))
+      where
+        second : (a : Bool) {b : Bool} → b ≡ true → (a || b) ≡ true
+        second true e = refl
+        second false e = e
+
     module _ (i : ℕ) (f : Fault) where
       abbrev told-by : Refusal
       told-by = refusalOf i f
@@ -204,10 +221,10 @@ module _ (full : Bool) (rooms : Rooms) (k : Known) where
             of-rule j (misses j) b
 
         found : ((j : ℕ) × (c : ℕ) × (findIn (k .keys) (k .keycount) key ≡ Found.At j c) × ((misses j ≡ true) × (j ≡ i))) → MisplacedIn k key i
-        found (j, c, q, t) = let here : MisplacedIn k key j = record { compared = c; found = q; misplaced = t .0 } in (rw (t .1) at here)
+        found (j, c, q, t) = let here : MisplacedIn k key j = record { compared = c; found = q; misplaced = fallen j (t .0) } in (rw (t .1) at here)
 
         back : MisplacedIn k key i → lookIn full rooms k key ≡ refused (Refusal.Offset i)
-        back t = look-back (Refusal.Offset i) i (t .compared) (t .found) (bad-then _ (bad-then _ (refuse-bad (Refusal.Offset i) (misses i) .1 (t .misplaced))))
+        back t = look-back (Refusal.Offset i) i (t .compared) (t .found) (bad-then _ (bad-then _ (refuse-bad (Refusal.Offset i) (misses i) .1 (missed i (t .misplaced)))))
 
     -- 19 at i, exactly; partners alone never give it
     pub look-unsummed : (i : ℕ) → (lookIn full rooms k key ≡ refused (Refusal.Degrees i)) ↔ ((full ≡ true) × UnsummedIn k key i)

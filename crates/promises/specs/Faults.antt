@@ -1,12 +1,11 @@
 -- "Say what is wrong with a group": each number of a group's faults is given by every call on the file exactly where that fault is the
 -- first in the order of checks, at the byte inside the group, with the group beside it.
-use mathlib.Core.Path.{_≡_, refl, sym, ap, ap₂, _∙_}
+use mathlib.Core.Path.{_≡_, refl, sym, _∙_}
 use mathlib.Core.Logic.{_↔_, Iff·trans}
-use Prim.Native.Nat.{ℕ, _+_, _/_, _≤_, _<_}
+use Prim.Native.Nat.{ℕ, _+_, _/_, _<_}
 use native.Mathlib.Omega.{arith}
 use mathlib.Core.List.{List}
-use mathlib.Core.Bool.{Bool, true, false}
-use lib.ListN.{length}
+use mathlib.Core.Bool.{Bool, true}
 use lib.Dec.{eqb}
 use Rattle.refusal.specs.declared.Refusal.{Refusal}
 use Rattle.refusal.specs.declared.Check.{Check}
@@ -22,7 +21,6 @@ use Rattle.frame.specs.Header.{opening-numbers}
 use Rattle.index.specs.declared.keys.Found.{Found}
 use Rattle.index.specs.Find.{findIn}
 use Rattle.index.specs.Find.Laws.{find-sound, find-complete}
-use Rattle.index.specs.Order.{OffsetsRise}
 use Rattle.degrees.specs.Degrees.{groupAt}
 use Rattle.group.specs.declared.fault.Flaw.{Flaw}
 use Rattle.group.specs.declared.fault.Fault.{Fault}
@@ -37,7 +35,7 @@ use Rattle.reader.specs.Header.{headerOf, header-opening}
 use Rattle.reader.specs.Opened.{opened-keys, opened-offsets}
 use Rattle.reader.specs.Given.{look-of-fault, look-with-fault, look-of-unsummed, look-with-unsummed, look-with-misplaced}
 use Rattle.full_check.specs.Full.{sumsFrom, fullCheck, checkedOf}
-use Rattle.full_check.specs.Given.{FaultFrom, FaultFirst, full-fault}
+use Rattle.full_check.specs.Given.{FaultFirst, full-fault}
 use Rattle.readout.specs.declared.ReadOut.{ReadOut}
 use Rattle.readout.specs.ReadOut.{readOutOf}
 use Rattle.readout.specs.ReadOut.Laws.{read-full}

@@ -176,6 +176,11 @@ headIs dense d i = pick dense (Head.Dense d i) (Head.Split d i)
 abbrev pub tagOf : Bool → ℕ
 tagOf dense = pick dense denseTag splitTag
 
+-- a degree d, and a tag after it
+pub head-tagged : (dense : Bool) (g : List ℕ) (d n : ℕ) → varintAt g 0 ≡ Value d n → 1 ≤ d → n < length g → getD g n 0 ≡ tagOf dense → headOf g ≡ headIs dense d (n + 1)
+head-tagged true g d n e some h t = head-dense g d n e (λ z. omega arith) h t
+head-tagged false g d n e some h t = head-split g d n e (λ z. omega arith) h t
+
 pub record Headed (g : List ℕ) (dense : Bool) (d i : ℕ) : Type 0 where
   pub some : 1 ≤ d
   pub tag : ℕ

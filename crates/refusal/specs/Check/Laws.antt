@@ -7,7 +7,7 @@ use mathlib.Core.Bool.{Bool, true, false, not, _&&_, _||_}
 use mathlib.Core.List.{List, [], _∷_}
 use lib.ListN.{length, getD}
 use lib.Dec.{leb}
-use borrow.Author.Tests.{le-leb, leb-true}
+use borrow.Author.Tests.{le-leb, leb-true, not-true}
 use Rattle.base.specs.Pick.{pick}
 use Rattle.refusal.specs.declared.Refusal.{Refusal}
 use Rattle.refusal.specs.declared.Check.{Check}
@@ -155,11 +155,7 @@ noneOf test (n ∷ ns) = not (test n) && noneOf test ns
 
 pub none-at : (test : ℕ → Bool) (ns : List ℕ) (k : ℕ) → k < length ns → noneOf test ns ≡ true → test (getD ns k 0) ≡ false
 none-at test [] k h e = absurd (omega arith)
-none-at test (n ∷ ns) zero h e = fails (test n) (and-parts (not (test n)) (noneOf test ns) e .0)
-  where
-    fails : (b : Bool) → not b ≡ true → b ≡ false
-    fails true q = let z : _≡_ {A = ℕ} 0 1 = cc in absurd (omega arith)
-    fails false q = refl
+none-at test (n ∷ ns) zero h e = not-true (test n) (and-parts (not (test n)) (noneOf test ns) e .0)
 none-at test (n ∷ ns) (suc k) h e = none-at test ns k (omega arith) (and-parts (not (test n)) (noneOf test ns) e .1)
 
 -- another number is never given

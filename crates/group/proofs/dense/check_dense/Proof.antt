@@ -1,5 +1,5 @@
 -- `group::dense::check_dense` meets its contract. Invariant: `last` is the upper half of the partner before i, so many partners were good, and what is left gives the whole answer.
-use mathlib.Core.Path.{_≡_, refl, sym, ap, ap₂, _∙_}
+use mathlib.Core.Path.{_≡_, refl, sym, ap₂, _∙_}
 use Prim.Native.Nat.{ℕ, suc, _+_, _-_, _*_, _≤_, _<_}
 use native.Mathlib.Omega.{arith}
 use mathlib.Core.Bool.{Bool, true, false}

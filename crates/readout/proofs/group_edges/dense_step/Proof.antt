@@ -1,5 +1,5 @@
 -- `readout::group_edges::dense_step` meets its contract.
-use mathlib.Core.Path.{_≡_, sym, ap, _∙_}
+use mathlib.Core.Path.{sym, ap, _∙_}
 use Prim.Native.Nat.{_+_}
 use Rattle.codes.specs.declared.ids.Id.{Id}
 use Rattle.group.specs.declared.split.Step.{Step}
