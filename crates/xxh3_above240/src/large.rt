@@ -2,7 +2,11 @@
 ghost use mathlib.Core.Path.{_≡_};
 ghost use Prim.Native.Nat.{_+_, _*_, _^_, _<_, _≤_};
 ghost use lib.ListN.{length};
-ghost use Rattle.xxh3_spec.specs.Xxh3.{lane, accumulate, stir, scramble, runOn, run, startLanes, twice, merge, finish, large, secret};
+ghost use Rattle.xxh3_spec.specs.Xxh3.{lane, accumulate, stir, scramble, runOn, startLanes, twice, merge, finish, large, secret};
+use super::block::first_quarter;
+use super::block::last_quarter;
+use super::block::second_quarter;
+use super::block::third_quarter;
 use codes::little::le64;
 use std::num::wrapping_add_u64;
 use xxh3_mix::mix::avalanche;
@@ -23,7 +27,7 @@ fn lane(q: &[u8], a: u64, s: &[u8], at: usize, k: usize, j: usize, o: usize) -> 
 }
 
 // The state after the 64 bytes of s from at on, with the secret from k on.
-fn accumulate(q: &[u8], a: [u64; 8], s: &[u8], at: usize, k: usize) -> [u64; 8]
+pub(crate) fn accumulate(q: &[u8], a: [u64; 8], s: &[u8], at: usize, k: usize) -> [u64; 8]
     requires { ⌜ (at + 64 ≤ length (now s)) × (k + 64 ≤ length (now q)) ⌝ }
     ensures { λ r. ⌜ r ≡ accumulate (now (q .entry)) a (now (s .entry)) at k ⌝ }
 {
@@ -62,45 +66,6 @@ fn scramble(q: &[u8], a: [u64; 8]) -> [u64; 8]
     ]
 }
 
-// The state a after the first n stripes of s: the loop of the sum of bytes at hand.
-fn run(q: &[u8], a: [u64; 8], s: &[u8], n: usize) -> [u64; 8]
-    requires { ⌜ (64 * n ≤ length (now s)) × (length (now q) ≡ 192) ⌝ }
-    ensures { λ r. ⌜ r ≡ run (now (q .entry)) a (now (s .entry)) n ⌝ }
-{
-    let mut r = a;
-    let mut i = 0;
-    while i < n {
-        let x = accumulate(q, r, s, 64 * i, 8 * (i % 16));
-        r = x;
-        if i % 16 == 15 {
-            let y = scramble(q, x);
-            r = y;
-        }
-        i += 1;
-    }
-    r
-}
-
-// The state a after n stripes of s, the first of them stripe k of all: the loop of the running sum. It is a function of its
-// own, so that each loop stands in its caller's code.
-fn run_on(q: &[u8], a: [u64; 8], s: &[u8], k: usize, n: usize) -> [u64; 8]
-    requires { ⌜ (64 * n ≤ length (now s)) × (length (now q) ≡ 192) × (k < 2 ^ 60) ⌝ }
-    ensures { λ r. ⌜ r ≡ runOn (now (q .entry)) a (now (s .entry)) k n ⌝ }
-{
-    let mut r = a;
-    let mut i = 0;
-    while i < n {
-        let x = accumulate(q, r, s, 64 * i, 8 * ((k + i) % 16));
-        r = x;
-        if (k + i) % 16 == 15 {
-            let y = scramble(q, x);
-            r = y;
-        }
-        i += 1;
-    }
-    r
-}
-
 fn twice(q: &[u8], x: u64, y: u64, k: usize) -> u64
     requires { ⌜ k + 16 ≤ length (now q) ⌝ }
     ensures { λ r. ⌜ r ≡ twice (now (q .entry)) x y k ⌝ }
@@ -130,18 +95,6 @@ pub const START_LANES: [u64; 8] = [
     0x9e37_79b1,
 ];
 
-fn large(q: &[u8], s: &[u8]) -> u64
-    requires { ⌜ (240 < length (now s)) × (length (now q) ≡ 192) ⌝ }
-    ensures { λ r. ⌜ r ≡ large (now (q .entry)) (now (s .entry)) ⌝ }
-{
-    let n = s.len();
-    merge(
-        q,
-        accumulate(q, run(q, START_LANES, s, (n - 1) / 64), s, n - 64, 121),
-        n as u64,
-    )
-}
-
 // The default secret.
 const SECRET: [u8; 192] = *b"\
     \xb8\xfe\x6c\x39\x23\xa4\x4b\xbe\x7c\x01\x81\x2c\xf7\x21\xad\x1c\
@@ -157,22 +110,29 @@ const SECRET: [u8; 192] = *b"\
     \x2b\x16\xbe\x58\x7d\x47\xa1\xfc\x8f\xf8\xb8\xd1\x7a\xd0\x31\xce\
     \x45\xcb\x3a\x8f\x95\x16\x04\x28\xaf\xd7\xfb\xca\xbb\x4b\x40\x7e";
 
-// The checksum with the default secret.
-pub fn by_default(s: &[u8]) -> u64
-    requires { ⌜ 240 < length (now s) ⌝ }
-    ensures { λ r. ⌜ r ≡ large secret (now (s .entry)) ⌝ }
-{
-    let q = SECRET;
-    large(&q, s)
-}
-
-// The lanes of the running sum: the state a after n stripes of s, the first of them stripe k of all.
+// The state a after n stripes of s, the first of them stripe k of all: the long step of both sums. It goes by blocks, and s may
+// begin or end within one. `to` is where the block ends in s, and `end` the number of stripes from the block's start to the last.
 pub fn lanes_after(a: [u64; 8], s: &[u8], k: usize, n: usize) -> [u64; 8]
     requires { ⌜ (64 * n ≤ length (now s)) × (k < 2 ^ 60) ⌝ }
     ensures { λ r. ⌜ r ≡ runOn secret a (now (s .entry)) k n ⌝ }
 {
     let q = SECRET;
-    run_on(&q, a, s, k, n)
+    let mut r = a;
+    let mut to = 1024 - 64 * (k % 16);
+    let mut end = k % 16 + n;
+    loop {
+        let x = first_quarter(&q, r, s, to, end);
+        let y = second_quarter(&q, x, s, to, end);
+        let z = third_quarter(&q, y, s, to, end);
+        let w = last_quarter(&q, z, s, to, end);
+        if end < 16 {
+            return w;
+        }
+        let next = scramble(&q, w);
+        r = next;
+        to += 1024;
+        end -= 16;
+    }
 }
 
 // Its end: the sum of n bytes, the last 64 of which are `last`, where a is the state after all stripes before the last byte.
@@ -182,4 +142,24 @@ pub fn sum_after(a: [u64; 8], last: &[u8], n: u64) -> u64
 {
     let q = SECRET;
     merge(&q, accumulate(&q, a, last, 0, 121), n)
+}
+
+// The state after the first stripe of s.
+fn begun(s: &[u8]) -> [u64; 8]
+    requires { ⌜ 64 ≤ length (now s) ⌝ }
+    ensures { λ r. ⌜ r ≡ accumulate secret startLanes (now (s .entry)) 0 0 ⌝ }
+{
+    let q = SECRET;
+    accumulate(&q, START_LANES, s, 0, 0)
+}
+
+// The checksum with the default secret. The first stripe stands here, as the step reads its state from memory faster if it was
+// just worked out than if it was laid there number by number.
+pub fn by_default(s: &[u8]) -> u64
+    requires { ⌜ 240 < length (now s) ⌝ }
+    ensures { λ r. ⌜ r ≡ large secret (now (s .entry)) ⌝ }
+{
+    let n = s.len();
+    let a = lanes_after(begun(s), &s[64..], 1, (n - 1) / 64 - 1);
+    sum_after(a, &s[n - 64..], n as u64)
 }
