@@ -5,40 +5,49 @@
 
 #include "../common/batch.h"
 #include "../common/file.h"
+#include "../common/format.h"
 #include "../common/plain.h"
 
 typedef EdgeSstTold checker(const uint8_t *p, size_t n);
 
 typedef enum { ALL_SPLIT, ALL_DENSE, EVEN_SPLIT } form;
 
-/* A file filled to so many bytes with keys of so many partners, or that of a batch. */
+/* A file filled to so many bytes with keys of so many partners, and to `whole` bytes with a property stream where that is
+ * not 0; or that of a batch. */
 typedef struct {
     size_t most;
     uint64_t degree;
     form form;
     int dead;
     const batch_plan *batch;
+    size_t whole;
 } plan;
 
 enum { CHANGES = 20000 };
 #define PLAIN (function *)plain_check
 
-static const plan dense_64m = {1 << 26, 1000, ALL_DENSE, 0, NULL};
+static const plan dense_64m = {1 << 26, 1000, ALL_DENSE, 0, NULL, 0};
+static const plan stream_600m = {1 << 26, 1000, ALL_DENSE, 0, NULL, 600 << 20};
+
+static EdgeSstTold own_sums(const uint8_t *p, size_t n);
 
 const row rows[] = {
-    {"one-edge", &(plan){256, 1, ALL_SPLIT, 0, NULL}, PLAIN, 8000, 0},
-    {"split-64k", &(plan){1 << 16, 8, ALL_SPLIT, 0, NULL}, PLAIN, 100, 0},
-    {"split-64m", &(plan){1 << 26, 8, ALL_SPLIT, 0, NULL}, PLAIN, 1, 0},
+    {"one-edge", &(plan){256, 1, ALL_SPLIT, 0, NULL, 0}, PLAIN, 8000, 0},
+    {"split-64k", &(plan){1 << 16, 8, ALL_SPLIT, 0, NULL, 0}, PLAIN, 100, 0},
+    {"split-64m", &(plan){1 << 26, 8, ALL_SPLIT, 0, NULL, 0}, PLAIN, 1, 0},
     {"v7-1m", &(plan){.batch = &v7_1m}, PLAIN, 1, 0},
     {"dense-64m", &dense_64m, PLAIN, 1, 1.15},
     {"dense-64m-sparing", &dense_64m, (function *)sparing_check, 1, 0},
-    {"dense-64m-dead", &(plan){1 << 26, 1000, ALL_DENSE, 1, NULL}, PLAIN, 1, 0},
+    {"dense-64m-dead", &(plan){1 << 26, 1000, ALL_DENSE, 1, NULL, 0}, PLAIN, 1, 0},
+    {"stream-600m", &stream_600m, PLAIN, 1, 1},
+    {"stream-600m-own-sums", &stream_600m, (function *)own_sums, 1, 0},
+    {"stream-600m-xxhash", &stream_600m, (function *)plain_sums, 1, 0},
     {0},
 };
 
 /* Files of which a byte is changed. */
 static const plan small[] = {
-    {1500, 5, ALL_DENSE, 1, NULL}, {1500, 7, ALL_SPLIT, 1, NULL}, {1500, 3, EVEN_SPLIT, 0, NULL}};
+    {1500, 5, ALL_DENSE, 1, NULL, 0}, {1500, 7, ALL_SPLIT, 1, NULL, 0}, {1500, 3, EVEN_SPLIT, 0, NULL, 0}};
 
 enum { SMALL = sizeof small / sizeof small[0] };
 
@@ -67,7 +76,20 @@ static bytes filled(const plan *w) {
             degree = less < degree ? degree - less : 0;
         }
     }
+    if (w->whole > 0) {
+        c.stream = 1;
+        c.stream += w->whole - size_of(&c);
+    }
     return file_of(&c);
+}
+
+/* The sums of all sections, by ours, of a file that opens. */
+static EdgeSstTold own_sums(const uint8_t *p, size_t n) {
+    const uint8_t *body = p + n - le32(p + n - TRAILER + 8), *entry = body + 2;
+    for (uint64_t i = 0; i < le16(body); i++, entry += ENTRY + entry[3])
+        if (edge_sst_sum(p + le64(entry + 4), le64(entry + 12)) != le64(entry + 20))
+            return (EdgeSstTold){.number = EDGE_SST_SUM, .place = i};
+    return (EdgeSstTold){.number = 0};
 }
 
 void prepare(const row *r) {

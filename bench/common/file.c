@@ -46,16 +46,16 @@ static uint64_t fences_of(const content *c) {
 }
 
 size_t size_of(const content *c) {
-    uint64_t fences = fences_of(c), sections = 4 + (uint64_t)c->dead + (fences > 0);
+    uint64_t fences = fences_of(c), sections = 4 + (uint64_t)c->dead + (fences > 0) + (c->stream > 0);
     return HEADER + ID * c->keys + (c->keys + 1) * width_of(c) + c->offset[c->keys] + 8 * c->edges +
-           (c->dead ? tombstone_bytes(c->edges) : 0) + (fences > 0 ? FENCES_HEAD + FENCE * fences : 0) + 2 +
-           ENTRY * sections + FOOTER_COUNTS + TRAILER;
+           (c->dead ? tombstone_bytes(c->edges) : 0) + (fences > 0 ? FENCES_HEAD + FENCE * fences : 0) +
+           c->stream + 2 + ENTRY * sections + FOOTER_COUNTS + TRAILER;
 }
 
 /* A file under way: its bytes and the table of the sections that stand in it. */
 typedef struct {
     bytes file;
-    uint8_t table[6 * ENTRY];
+    uint8_t table[7 * ENTRY];
     size_t rows;
 } draft;
 
@@ -102,6 +102,10 @@ static uint8_t *put_sections(draft *d, const content *c, uint8_t *p) {
     }
     if (fences_of(c) > 0)
         section(d, FENCES, p = put_fences(p, c));
+    if (c->stream > 0) {
+        family((bytes){p, c->stream});
+        section(d, PROPERTIES, p += c->stream);
+    }
     return p;
 }
 
@@ -123,7 +127,7 @@ bytes file_of(const content *c) {
     memcpy(p, magic, sizeof magic);
     p[8] = 1;
     p[10] = HEADER;
-    p[12] = (uint8_t)(HAS_DEAD * c->dead + HAS_DENSE * c->dense);
+    p[12] = (uint8_t)(HAS_PROPERTIES * (c->stream > 0) + HAS_DEAD * c->dead + HAS_DENSE * c->dense);
     d.file.size = HEADER;
     p = put_sections(&d, c, p + HEADER);
     put(p, 2, d.rows / ENTRY);
