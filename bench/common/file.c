@@ -103,7 +103,8 @@ static uint8_t *put_sections(draft *d, const content *c, uint8_t *p) {
     if (fences_of(c) > 0)
         section(d, FENCES, p = put_fences(p, c));
     if (c->stream > 0) {
-        family((bytes){p, c->stream});
+        for (size_t i = 0; i < c->stream; i += partners)
+            memcpy(p + i, c->partners, c->stream - i < partners ? c->stream - i : partners);
         section(d, PROPERTIES, p += c->stream);
     }
     return p;

@@ -13,7 +13,7 @@ typedef struct {
     int dead;                /* there are tombstones: the last edge alone is dead */
     int fenced;              /* there are fences, also where they need not be */
     int wide;                /* offsets have 32 bits, also where 24 would do */
-    size_t stream;           /* the bytes of a property stream without a name; 0: none */
+    size_t stream;           /* the bytes of a property stream without a name, the groups again and again; 0: none */
 } content;
 
 /* Nothing yet, and room for so many keys and bytes of groups. */

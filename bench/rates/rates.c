@@ -13,11 +13,11 @@
 
 typedef uint64_t summer(const uint8_t *p, size_t n);
 
-summer sse2_xxh3_64, fast_rust_xxh3_64;
+summer sse2_xxh3_64, rust_xxh3_64;
 
 enum { RUNS = 15, SHIFT = 64, LINE = 64, THREE = 3, MOST = 1 << 24 };
 static const double LEAST = 20e6; /* nanoseconds of a warm run */
-static summer *const sums[THREE] = {saffron_xxh3_64, fast_rust_xxh3_64, sse2_xxh3_64};
+static summer *const sums[THREE] = {saffron_xxh3_64, rust_xxh3_64, sse2_xxh3_64};
 
 static double now(void) {
     struct timespec t;

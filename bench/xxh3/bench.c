@@ -13,23 +13,23 @@ enum { SHIFT = 64, MOST = 1 << 24 };
 #define SCALAR (function *)scalar_xxh3_64
 #define RUST (function *)rust_xxh3_64
 
-/* The plan is the length. */
+/* The plan is the length. The bars of 256 to 1,024 bytes are what the sum took before its blocks were written out. */
 const row rows[] = {
     {"0", &(size_t){0}, SSE2, 8000, 0},
     {"16", &(size_t){16}, SSE2, 8000, 0},
     {"64", &(size_t){64}, SSE2, 8000, 0},
     {"128", &(size_t){128}, SSE2, 8000, 0},
     {"240", &(size_t){240}, SSE2, 8000, 0},
-    {"256", &(size_t){256}, SSE2, 8000, 0},
-    {"512", &(size_t){512}, SSE2, 8000, 0},
-    {"1024", &(size_t){1024}, SSE2, 8000, 0},
-    {"4096", &(size_t){4096}, SSE2, 8000, 1.15},
-    {"65536", &(size_t){65536}, SSE2, 400, 1.15},
-    {"1m", &(size_t){1 << 20}, SSE2, 20, 1.15},
+    {"256", &(size_t){256}, SSE2, 8000, 1.307},
+    {"512", &(size_t){512}, SSE2, 8000, 1.224},
+    {"1024", &(size_t){1024}, SSE2, 8000, 1.168},
+    {"4096", &(size_t){4096}, SSE2, 8000, 1.04},
+    {"65536", &(size_t){65536}, SSE2, 400, 1.04},
+    {"1m", &(size_t){1 << 20}, SSE2, 20, 1.04},
+    {"16m", &(size_t){MOST}, SSE2, 1, 1.04},
     {"4096-scalar", &(size_t){4096}, SCALAR, 8000, 0},
-    {"4096-rust", &(size_t){4096}, RUST, 8000, 1},
-    {"16m", &(size_t){MOST}, SSE2, 1, 1.15},
     {"16m-scalar", &(size_t){MOST}, SCALAR, 1, 0},
+    {"4096-rust", &(size_t){4096}, RUST, 8000, 1},
     {"16m-rust", &(size_t){MOST}, RUST, 1, 1},
     {0},
 };

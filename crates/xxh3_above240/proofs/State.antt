@@ -36,7 +36,7 @@ pub at-end : (q a s : List ℕ) (i n : ℕ) {x r : List ℕ} → x ≡ accumulat
 unfolding turn
 at-end q a s i n e l f = simp (le-ltb _ _ l) (cc)
 
--- all bytes of s from i on are those that `&s[i..]` lends
+-- the n bytes of s from i on are the first n that `&s[i..]` lends
 lent : (s : List ℕ) (i n : ℕ) → i + n ≤ length s → Alike (part s i (length s)) 0 s i n
 lent s i n h k l = rw (zero-add k, getD-take (length s - i) (drop i s) k 0 (omega arith), getD-drop i s k 0) refl
 

@@ -5,7 +5,7 @@ use mathlib.Core.Bool.{cond}
 use lib.Dec.{leb}
 use Rattle.xxh3_spec.specs.Xxh3.{accumulate}
 
--- stripe j of a block that ends at `to` in s: it joins the state x if it is before stripe `end` and s has it
+-- stripe j of a block that ends at `to` in s: it joins the state x if it is before stripe `end` and does not begin before s
 unfoldable pub stripeIn : List ℕ → List ℕ → ℕ → ℕ → ℕ → List ℕ → List ℕ
 stripeIn q s to end j x =
     cond (leb end j) x

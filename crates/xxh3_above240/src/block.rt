@@ -1,6 +1,6 @@
-// A block of sixteen stripes, written out with the secret q: so the compiler knows which bytes of the secret each stripe takes, and
-// has them as constants. The block ends at `to` in s, or would end there: stripe j begins 64 * (16 - j) bytes before it. A stripe joins
-// the state if s has it, as a block may begin before s, and if it is before stripe `end`.
+// A block of sixteen stripes with the secret q, written out, so that the compiler knows which bytes of the secret each stripe takes
+// and has them as constants. The block ends at `to` in s, or would: stripe j begins 64 * (16 - j) bytes before that. A stripe joins the
+// state if it is before stripe `end` and does not begin before s, as the block may.
 ghost use mathlib.Core.Path.{_≡_};
 ghost use Prim.Native.Nat.{_+_, _*_, _≤_};
 ghost use lib.ListN.{length};

@@ -111,7 +111,7 @@ const SECRET: [u8; 192] = *b"\
     \x45\xcb\x3a\x8f\x95\x16\x04\x28\xaf\xd7\xfb\xca\xbb\x4b\x40\x7e";
 
 // The state a after n stripes of s, the first of them stripe k of all: the long step of both sums. It goes by blocks, and s may
-// begin or end within one. `to` is where the block ends in s, and `end` the number of stripes from the block's start to the last.
+// begin and end within one. `to` is where the block ends in s, and `end` how many stripes there are from its start to the end of all n.
 pub fn lanes_after(a: [u64; 8], s: &[u8], k: usize, n: usize) -> [u64; 8]
     requires { ⌜ (64 * n ≤ length (now s)) × (k < 2 ^ 60) ⌝ }
     ensures { λ r. ⌜ r ≡ runOn secret a (now (s .entry)) k n ⌝ }
@@ -135,7 +135,7 @@ pub fn lanes_after(a: [u64; 8], s: &[u8], k: usize, n: usize) -> [u64; 8]
     }
 }
 
-// Its end: the sum of n bytes, the last 64 of which are `last`, where a is the state after all stripes before the last byte.
+// The end of both sums: the sum of n bytes, the last 64 of which are `last`, where a is the state after all stripes before the last byte.
 pub fn sum_after(a: [u64; 8], last: &[u8], n: u64) -> u64
     requires { ⌜ 64 ≤ length (now last) ⌝ }
     ensures { λ r. ⌜ r ≡ finish secret a (now (last .entry)) 0 n ⌝ }
@@ -145,7 +145,7 @@ pub fn sum_after(a: [u64; 8], last: &[u8], n: u64) -> u64
 }
 
 // The state after the first stripe of s.
-fn begun(s: &[u8]) -> [u64; 8]
+fn first_stripe(s: &[u8]) -> [u64; 8]
     requires { ⌜ 64 ≤ length (now s) ⌝ }
     ensures { λ r. ⌜ r ≡ accumulate secret startLanes (now (s .entry)) 0 0 ⌝ }
 {
@@ -153,13 +153,13 @@ fn begun(s: &[u8]) -> [u64; 8]
     accumulate(&q, START_LANES, s, 0, 0)
 }
 
-// The checksum with the default secret. The first stripe stands here, as the step reads its state from memory faster if it was
-// just worked out than if it was laid there number by number.
+// The checksum with the default secret. The first stripe goes before the long step, as START_LANES would be laid in memory for it by
+// stores of 8 bytes, and its loads of 16 would have to wait for them.
 pub fn by_default(s: &[u8]) -> u64
     requires { ⌜ 240 < length (now s) ⌝ }
     ensures { λ r. ⌜ r ≡ large secret (now (s .entry)) ⌝ }
 {
     let n = s.len();
-    let a = lanes_after(begun(s), &s[64..], 1, (n - 1) / 64 - 1);
+    let a = lanes_after(first_stripe(s), &s[64..], 1, (n - 1) / 64 - 1);
     sum_after(a, &s[n - 64..], n as u64)
 }

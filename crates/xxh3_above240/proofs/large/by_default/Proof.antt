@@ -4,8 +4,8 @@ use Rattle.xxh3_above240.proofs.State.{ended}
 use Rattle.xxh3_above240.proofs.large.by_default.Statement.{statement}
 use Rattle.xxh3_above240.proofs.large.by_default.Tie as tie
 
-begun-requires : tie.Need-begun-requires
-begun-requires c κs = search needs
+first-stripe-requires : tie.Need-first-stripe-requires
+first-stripe-requires c κs = search needs
 
 sub-lanes-after : tie.Need-sub-lanes-after
 sub-lanes-after c = search needs
@@ -43,14 +43,14 @@ sum-after-requires c κs = search needs
 returns : tie.Need-returns
 returns c =
     let a = c .before .before .before .before .before .before in
-    ended _ (a .args .s .now) (omega (arith, a .pre)) (c .before .before .before .before .begun .ensures) (c .before .before .lanes-after .ensures)
+    ended _ (a .args .s .now) (omega (arith, a .pre)) (c .before .before .before .before .first-stripe .ensures) (c .before .before .lanes-after .ensures)
     (c .sum-after .ensures)
 
 pub by-default-spec : {M : Type 1} → statement M
 by-default-spec =
     tie.close
     (tie.spec
-    begun-requires
+    first-stripe-requires
     sub-lanes-after
     part-lanes-after-start
     part-lanes-after-end

@@ -1,16 +1,16 @@
 use borrow.Author.Needs.{needs}
-use Prim.Native.Nat.{ℕ, suc, _+_, _-_, _*_, _/_, _%_, _≤_}
+use Prim.Native.Nat.{ℕ, suc, _+_, _-_, _%_}
 use native.Mathlib.Omega.{arith}
 use mathlib.Core.Path.{_≡_, refl, sym, ap, _∙_}
 use Rattle.xxh3_spec.specs.Xxh3.{runOn, secret}
 use Rattle.xxh3_spec.specs.Xxh3.Laws.{run-none}
-use Rattle.xxh3_above240.proofs.Stripes.{Lies, whole, ends}
+use Rattle.xxh3_above240.proofs.Stripes.{BlockAt, whole, ends}
 use Rattle.xxh3_above240.proofs.large.lanes_after.Statement.{statement}
 use Rattle.xxh3_above240.proofs.large.lanes_after.Tie as tie
 
--- the block ends 64 * u bytes into s; u - 16 stripes were before it
+-- the block ends u stripes after the start of s; u - 16 of them were before it
 abbrev Inv-loop : tie.InvT-loop
-Inv-loop s k n q r₀ to₀ end₀ r to end = (u : ℕ) × (b : ℕ) × Lies k n to end u b × (r ≡ runOn secret r₀ s k (u - 16))
+Inv-loop s k n q r₀ to₀ end₀ r to end = (u : ℕ) × (b : ℕ) × BlockAt k n to end u b × (r ≡ runOn secret r₀ s k (u - 16))
 
 abbrev μ-loop : tie.MeasureT-loop
 μ-loop s k n q r₀ to₀ end₀ r to end = end
@@ -72,8 +72,12 @@ unfolding secret
 returns c =
     let a = c .before .before .before .before .before .before .before .before .before .before .before .args in
     let l = c .before .before .before .before .before .before .before .before .before .loop in
-    ends secret (a .a) (a .s .now) (a .k) (a .n) (l .to) (l .end) (l .inv .0) (l .inv .1) (l .inv .2) (c .if1 .taken) (l .inv .3)
-    (c .before .before .before .before .before .before .before .first-quarter .ensures) (c .before .before .before .before .before .second-quarter .ensures) (c .before .before .before .third-quarter .ensures) (c .before .last-quarter .ensures)
+    ends secret (a .a) (a .s .now) (a .k) (a .n) (l .to) (l .end)
+    (l .inv .0) (l .inv .1) (l .inv .2) (c .if1 .taken) (l .inv .3)
+    (c .before .before .before .before .before .before .before .first-quarter .ensures)
+    (c .before .before .before .before .before .second-quarter .ensures)
+    (c .before .before .before .third-quarter .ensures)
+    (c .before .last-quarter .ensures)
 
 slice-aggregate-scramble : tie.Need-slice-aggregate-scramble Inv-loop μ-loop
 slice-aggregate-scramble c = search needs
@@ -82,7 +86,9 @@ scramble-requires : tie.Need-scramble-requires Inv-loop μ-loop
 scramble-requires c κs = search needs
 
 add-to : tie.Need-add-to Inv-loop μ-loop
-add-to c = let l = c .before .before .before .before .before .before .before .before .before .before .before .loop .inv .2 in omega (arith, l, c .before .before .before .before .before .before .before .before .before .before .before .before .before .pre)
+add-to c =
+    let l = c .before .before .before .before .before .before .before .before .before .before .before in
+    omega (arith, l .loop .inv .2, l .before .before .pre)
 
 loop-less : tie.Need-loop-less Inv-loop μ-loop
 loop-less c = search needs
@@ -98,8 +104,12 @@ loop-again c =
       u + 16,
       suc (l .inv .1),
       record { bytes = omega (arith, lies); last = omega (arith, lies); first = omega (arith, lies) },
-      whole secret (a .a) (a .s .now) (a .k) (a .n) (l .to) (l .end) u (l .inv .1) lies (c .before .before .if1 .left) (l .inv .3)
-          (c .before .before .before .before .before .before .before .before .before .first-quarter .ensures) (c .before .before .before .before .before .before .before .second-quarter .ensures) (c .before .before .before .before .before .third-quarter .ensures) (c .before .before .before .last-quarter .ensures)
+      whole secret (a .a) (a .s .now) (a .k) (a .n) (l .to) (l .end)
+          u (l .inv .1) lies (let h = c .before .before .if1 .left in omega (arith, h)) (l .inv .3)
+          (c .before .before .before .before .before .before .before .before .before .first-quarter .ensures)
+          (c .before .before .before .before .before .before .before .second-quarter .ensures)
+          (c .before .before .before .before .before .third-quarter .ensures)
+          (c .before .before .before .last-quarter .ensures)
           (c .scramble .ensures)
           ∙ ap (λ (x : ℕ). runOn secret (a .a) (a .s .now) (a .k) x) e,
     )

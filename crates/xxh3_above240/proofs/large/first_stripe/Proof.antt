@@ -1,7 +1,7 @@
 use borrow.Author.Needs.{needs}
 use Rattle.xxh3_spec.specs.Xxh3.{secret, startLanes}
-use Rattle.xxh3_above240.proofs.large.begun.Statement.{statement}
-use Rattle.xxh3_above240.proofs.large.begun.Tie as tie
+use Rattle.xxh3_above240.proofs.large.first_stripe.Statement.{statement}
+use Rattle.xxh3_above240.proofs.large.first_stripe.Tie as tie
 
 slice-aggregate-accumulate : tie.Need-slice-aggregate-accumulate
 slice-aggregate-accumulate c = search needs
@@ -13,5 +13,5 @@ returns : tie.Need-returns
 unfolding secret startLanes
 returns c = c .accumulate .ensures
 
-pub begun-spec : {M : Type 1} → statement M
-begun-spec = tie.close (tie.spec slice-aggregate-accumulate accumulate-requires returns)
+pub first-stripe-spec : {M : Type 1} → statement M
+first-stripe-spec = tie.close (tie.spec slice-aggregate-accumulate accumulate-requires returns)
