@@ -5,15 +5,15 @@
 
 #include "../common/batch.h"
 #include "../common/file.h"
-#include "../common/format.h"
 #include "../common/plain.h"
+#include "../common/rule22.h"
 
 typedef EdgeSstTold checker(const uint8_t *p, size_t n);
 
 typedef enum { ALL_SPLIT, ALL_DENSE, EVEN_SPLIT } form;
 
-/* A file filled to so many bytes with keys of so many partners, and to `whole` bytes with a property stream where that is
- * not 0; or that of a batch. */
+/* A file filled to so many bytes with keys of so many partners, and to `whole` bytes, where
+ * that is not 0, with a property stream; or that of a batch. */
 typedef struct {
     size_t most;
     uint64_t degree;
@@ -83,14 +83,8 @@ static bytes filled(const plan *w) {
     return file_of(&c);
 }
 
-/* The sums of all sections, by ours, of a file that opens. */
-static EdgeSstTold own_sums(const uint8_t *p, size_t n) {
-    const uint8_t *body = p + n - le32(p + n - TRAILER + 8), *entry = body + 2;
-    for (uint64_t i = 0; i < le16(body); i++, entry += ENTRY + entry[3])
-        if (edge_sst_sum(p + le64(entry + 4), le64(entry + 12)) != le64(entry + 20))
-            return (EdgeSstTold){.number = EDGE_SST_SUM, .place = i};
-    return (EdgeSstTold){.number = 0};
-}
+/* Rule 22 alone, by our own sum. */
+static EdgeSstTold own_sums(const uint8_t *p, size_t n) { return sums_by(edge_sst_sum, p, n); }
 
 void prepare(const row *r) {
     const plan *w = r->plan;
@@ -142,6 +136,15 @@ static void change(const plan *w, uint64_t told[NUMBERS]) {
     }
 }
 
+/* A changed byte in the middle is in a section, and rule 22 tells which, by either sum. */
+static void sums_asked(bytes f) {
+    f.bytes[f.size / 2] ^= 1;
+    EdgeSstTold a = own_sums(f.bytes, f.size), b = plain_sums(f.bytes, f.size);
+    f.bytes[f.size / 2] ^= 1;
+    if (a.number != EDGE_SST_SUM || memcmp(&a, &b, sizeof a) != 0)
+        stop(1, "a changed byte has the same sum");
+}
+
 void compare(void) {
     bytes corpus = read_all("crates/test_check/stdin"), answers = read_all("crates/test_check/stdout"), f;
     char name[256];
@@ -154,8 +157,9 @@ void compare(void) {
     }
     for (const row *r = rows; r->name != NULL; r++) {
         prepare(r);
-        if (same(r->name, input).number != 0)
+        if (same(r->name, input).number != 0 || ((checker *)r->plain)(input.bytes, input.size).number != 0)
             stop(1, "'%s' does not pass", r->name);
+        sums_asked(input);
         free(input.bytes);
     }
     for (int i = 0; i < SMALL; i++)

@@ -3,6 +3,7 @@
 
 #include "../common/fault.h"
 #include "../common/group.h"
+#include "../common/rule22.h"
 
 static inline int any_set(const uint8_t *p, size_t n) {
     uint8_t all = 0;
@@ -41,17 +42,10 @@ EdgeSstTold plain_edges(const uint8_t *file, const EdgeSstOpened *o) {
     return (EdgeSstTold){.number = 0};
 }
 
-/* Rule 22, of a file that opens: opening has looked at the table and the ranges. */
-EdgeSstTold plain_sums(const uint8_t *file, size_t size) {
-    const uint8_t *body = file + size - le32(file + size - TRAILER + 8), *p = body + 2;
-    uint64_t sections = le16(body);
-    for (uint64_t i = 0; i < sections; i++) {
-        if (XXH3_64bits(file + le64(p + 4), le64(p + 12)) != le64(p + 20))
-            return (EdgeSstTold){.number = EDGE_SST_SUM, .place = i};
-        p += ENTRY + p[3];
-    }
-    return (EdgeSstTold){.number = 0};
-}
+/* Rule 22 by xxHash. */
+static uint64_t xxhash(const uint8_t *p, size_t n) { return XXH3_64bits(p, n); }
+
+EdgeSstTold plain_sums(const uint8_t *p, size_t n) { return sums_by(xxhash, p, n); }
 
 EdgeSstTold plain_check(const uint8_t *p, size_t n) {
     EdgeSstOpened o = plain_open(p, n);

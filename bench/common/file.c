@@ -52,10 +52,12 @@ size_t size_of(const content *c) {
            c->stream + 2 + ENTRY * sections + FOOTER_COUNTS + TRAILER;
 }
 
+enum { MOST_ROWS = 7 };
+
 /* A file under way: its bytes and the table of the sections that stand in it. */
 typedef struct {
     bytes file;
-    uint8_t table[7 * ENTRY];
+    uint8_t table[MOST_ROWS * ENTRY];
     size_t rows;
 } draft;
 
@@ -103,6 +105,8 @@ static uint8_t *put_sections(draft *d, const content *c, uint8_t *p) {
     if (fences_of(c) > 0)
         section(d, FENCES, p = put_fences(p, c));
     if (c->stream > 0) {
+        if (partners == 0)
+            stop(2, "no groups to fill a stream with");
         for (size_t i = 0; i < c->stream; i += partners)
             memcpy(p + i, c->partners, c->stream - i < partners ? c->stream - i : partners);
         section(d, PROPERTIES, p += c->stream);
@@ -151,6 +155,6 @@ void change_byte(bytes f, bytes g, uint64_t i, uint64_t seed) {
     size_t place = i % 16 == 5 ? 12 : (size_t)(seed >> 20) % f.size;
     memcpy(g.bytes, f.bytes, f.size);
     g.bytes[place] = seed >> 63 ? (uint8_t)(seed >> 8) : (uint8_t)(g.bytes[place] ^ 1u << (seed >> 60));
-    if (i % 4 != 0 && place < f.size - TRAILER - FOOTER_COUNTS - 6 * ENTRY)
+    if (i % 4 != 0 && place < f.size - TRAILER - FOOTER_COUNTS - MOST_ROWS * ENTRY)
         seal(g);
 }

@@ -1,9 +1,10 @@
-/* How many bytes a second each sum takes: ours, plain Rust written to be fast, and xxHash's own SSE2 C, on the same bytes.
+/* How many bytes a second each sum takes: ours, plain Rust written to be fast, and xxHash's own
+ * SSE2 C, on the same bytes.
  *
  *   rates      a line for each length: the bytes, warm or cold, and bytes a second of the three
  *
- * Warm: one buffer again and again, whose start depends on the sum before, the least of RUNS runs in turns. Cold: all lines
- * of the buffer are flushed from the caches before each call, the least of RUNS calls in turns. */
+ * Warm: one buffer again and again, whose start depends on the sum before. Cold: all lines of
+ * the buffer are flushed from the caches before each call. The best of RUNS runs in turns. */
 #include <emmintrin.h>
 #include <stdio.h>
 #include <stdlib.h>
@@ -60,18 +61,29 @@ static void told(const char *how, timer *t, const uint8_t *p, size_t n, uint64_t
     printf("\n");
 }
 
+static void same(const uint8_t *p, size_t n) {
+    uint64_t sum = sums[0](p, n);
+    for (int i = 1; i < THREE; i++)
+        if (sums[i](p, n) != sum) {
+            fprintf(stderr, "rates: the sums differ at %zu bytes\n", n);
+            exit(1);
+        }
+}
+
 int main(void) {
     static const size_t lengths[] = {64, 240, 4096, MOST};
     uint8_t *p = aligned_alloc(LINE, MOST + 2 * SHIFT);
     uint64_t x = 1;
-    if (p == NULL)
+    if (p == NULL) {
+        fprintf(stderr, "rates: no memory\n");
         return 2;
+    }
     for (size_t i = 0; i < MOST + 2 * SHIFT; i++)
         p[i] = (uint8_t)((x = x * 6364136223846793005u + 1442695040888963407u) >> 56);
     for (size_t n = 0; n <= 1100; n++)
-        for (int i = 1; i < THREE; i++)
-            if (sums[i](p, n) != sums[0](p, n) || sums[i](p + 1, MOST - n) != sums[0](p + 1, MOST - n))
-                return 1;
+        same(p, n);
+    for (size_t n = 0; n <= 16; n++)
+        same(p + n, MOST - 61 * n);
     for (size_t k = 0; k < sizeof lengths / sizeof lengths[0]; k++) {
         uint64_t calls = 1;
         while (warm(sums[0], p, lengths[k], calls) * (double)calls < LEAST)

@@ -21,8 +21,8 @@ const row rows[] = {
     {"128", &(size_t){128}, SSE2, 8000, 0},
     {"240", &(size_t){240}, SSE2, 8000, 0},
     {"256", &(size_t){256}, SSE2, 8000, 1.307},
-    {"512", &(size_t){512}, SSE2, 8000, 1.224},
-    {"1024", &(size_t){1024}, SSE2, 8000, 1.168},
+    {"512", &(size_t){512}, SSE2, 8000, 1.225},
+    {"1024", &(size_t){1024}, SSE2, 8000, 1.169},
     {"4096", &(size_t){4096}, SSE2, 8000, 1.04},
     {"65536", &(size_t){65536}, SSE2, 400, 1.04},
     {"1m", &(size_t){1 << 20}, SSE2, 20, 1.04},
@@ -58,8 +58,7 @@ void compare(void) {
     prepare(&(row){.plan = &(size_t){MOST}});
     for (size_t n = 0; n <= 1100; n++)
         same(n);
-    same(65536);
     for (const row *r = rows; r->name != NULL; r++)
         same(*(const size_t *)r->plan);
-    printf("The same sums: at 0 to 1,100 and 65,536 bytes, and at the lengths of the table.\n");
+    printf("The same sums: at 0 to 1,100 bytes, and at the lengths of the table.\n");
 }
