@@ -80,7 +80,7 @@ int main(void) {
     }
     for (size_t i = 0; i < MOST + 2 * SHIFT; i++)
         p[i] = (uint8_t)((x = x * 6364136223846793005u + 1442695040888963407u) >> 56);
-    for (size_t n = 0; n <= 1100; n++)
+    for (size_t n = 0; n <= 4400; n++)
         same(p, n);
     for (size_t n = 0; n <= 16; n++)
         same(p + n, MOST - 61 * n);

@@ -56,9 +56,9 @@ static void same(size_t n) {
 
 void compare(void) {
     prepare(&(row){.plan = &(size_t){MOST}});
-    for (size_t n = 0; n <= 1100; n++)
+    for (size_t n = 0; n <= 4400; n++)
         same(n);
     for (const row *r = rows; r->name != NULL; r++)
         same(*(const size_t *)r->plan);
-    printf("The same sums: at 0 to 1,100 bytes, and at the lengths of the table.\n");
+    printf("The same sums: at 0 to 4,400 bytes, and at the lengths of the table.\n");
 }

@@ -1,5 +1,5 @@
-// Prints the XXH3-64 of the byte family's first n bytes, for n from 0 to 1,100 and around each multiple of a block of
-// 1,024 bytes up to 65,536. The expected output is made by second/.
+// Prints the XXH3-64 of the byte family's first n bytes, for n from 0 to 1,100 and around each multiple of 64 up to 65,536, so that
+// each stripe of a block is once the last, in every block. The expected output is made by second/.
 use test_corpus::decimal;
 use test_corpus::family;
 use test_corpus::sum;
@@ -26,13 +26,13 @@ fn short_lines(s: &[u8]) {
     }
 }
 
-fn block_lines(s: &[u8]) {
-    let mut n: usize = 2048;
+fn stripe_lines(s: &[u8]) {
+    let mut n: usize = 1152;
     while n <= 65536 {
         line_of(s, n - 1);
         line_of(s, n);
         line_of(s, n + 1);
-        n += 1024;
+        n += 64;
     }
 }
 
@@ -40,5 +40,5 @@ fn main() {
     let mut space = io::large_buffer();
     family(&mut space);
     short_lines(&space);
-    block_lines(&space);
+    stripe_lines(&space);
 }

@@ -1,5 +1,5 @@
 //! Checksums of beginnings of the byte family: every length through all short
-//! forms and past the first block, then around each end of a block.
+//! forms and past the first block, then around each end of a stripe.
 
 use crate::family;
 use crate::xxh3::xxh3_64;
@@ -7,8 +7,8 @@ use crate::xxh3::xxh3_64;
 const LONGEST: usize = 65536;
 
 fn lengths() -> impl Iterator<Item = usize> {
-    let around_blocks = (2..=64).flat_map(|k| [1024 * k - 1, 1024 * k, 1024 * k + 1]);
-    (0..=1100).chain(around_blocks.filter(|&n| n <= LONGEST))
+    let around_stripes = (18..=1024).flat_map(|k| [64 * k - 1, 64 * k, 64 * k + 1]);
+    (0..=1100).chain(around_stripes.filter(|&n| n <= LONGEST))
 }
 
 pub fn lines() -> String {

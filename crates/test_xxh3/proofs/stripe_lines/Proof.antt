@@ -1,14 +1,14 @@
--- `test_xxh3::block_lines` meets its contract.
+-- `test_xxh3::stripe_lines` meets its contract.
 use Prim.Native.Nat.{_-_, _≤_}
 use borrow.Author.Needs.{needs}
-use Rattle.test_xxh3.proofs.block_lines.Statement.{statement}
-use Rattle.test_xxh3.proofs.block_lines.Tie as tie
+use Rattle.test_xxh3.proofs.stripe_lines.Statement.{statement}
+use Rattle.test_xxh3.proofs.stripe_lines.Tie as tie
 
 abbrev Inv-loop : tie.InvT-loop
-Inv-loop s n₀ n = (2048 ≤ n) × (n ≤ 66560)
+Inv-loop s n₀ n = (1152 ≤ n) × (n ≤ 65600)
 
 abbrev μ-loop : tie.MeasureT-loop
-μ-loop s n₀ n = 66560 - n
+μ-loop s n₀ n = 65600 - n
 
 loop-holds : tie.Need-loop-holds Inv-loop μ-loop
 loop-holds c = search needs
@@ -40,8 +40,8 @@ loop-again c = search needs
 returns : tie.Need-returns Inv-loop μ-loop
 returns c = search needs
 
-pub block-lines-spec : {M : Type 1} → statement M
-block-lines-spec =
+pub stripe-lines-spec : {M : Type 1} → statement M
+stripe-lines-spec =
     tie.close
     (tie.spec
     Inv-loop
