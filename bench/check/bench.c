@@ -136,13 +136,14 @@ static void change(const plan *w, uint64_t told[NUMBERS]) {
     }
 }
 
-/* A changed byte in the middle is in a section, and rule 22 tells which, by either sum. */
+/* The byte before the footer is the last section's: where it is changed, rule 22 tells that section, by either sum. */
 static void sums_asked(bytes f) {
-    f.bytes[f.size / 2] ^= 1;
+    uint8_t *body = f.bytes + f.size - le32(f.bytes + f.size - TRAILER + 8);
+    body[-1] ^= 1;
     EdgeSstTold a = own_sums(f.bytes, f.size), b = plain_sums(f.bytes, f.size);
-    f.bytes[f.size / 2] ^= 1;
-    if (a.number != EDGE_SST_SUM || memcmp(&a, &b, sizeof a) != 0)
-        stop(1, "a changed byte has the same sum");
+    body[-1] ^= 1;
+    if (a.number != EDGE_SST_SUM || a.place != le16(body) - 1 || memcmp(&a, &b, sizeof a) != 0)
+        stop(1, "a changed section has the same sum");
 }
 
 void compare(void) {
