@@ -34,6 +34,7 @@
  *   edge_sst_lookup_with      21, 14, the group's, 19, 20
  *   edge_sst_check            1 to 15, 22, each group's, 23
  *   edge_sst_read_out         those of edge_sst_check, 20
+ *   edge_sst_summary          those of edge_sst_check
  *   edge_sst_needed           24 and 25 record by record, 26
  *   edge_sst_write            24 and 25 record by record, 26, 20
  *   edge_sst_sum              none
@@ -313,6 +314,27 @@ typedef struct {
 /* Writes the batch of the n bytes at p over the start of the m bytes at out, once the
  * file has passed the full check. */
 EdgeSstDone edge_sst_read_out(const uint8_t *p, size_t n, uint8_t *out, size_t m);
+
+/* Buckets of a summary. */
+#define EDGE_SST_BUCKETS 64
+
+/* The summary of a file's edges: keys, edges, dead edges, and the largest degree, 0 where
+ * there is no edge. A degree counts a key's edges, dead ones too. extremes is 1 where there
+ * are edges: then the four fields after it are the smallest and largest key and log number,
+ * of dead edges too; otherwise there is no smallest and largest, and all five are 0. Bucket i
+ * counts the keys of degree 2^i up to, but not including, 2^(i+1); as a file has at most 2^26
+ * edges, buckets 27 to 63 are 0. Where it is refused, all but the refusal is 0. */
+typedef struct {
+    uint64_t number, place, beside;
+    uint64_t keycount, edgecount, tombstones, largestdegree;
+    uint64_t extremes;
+    uint8_t smallestkey[16], largestkey[16];
+    uint64_t smallestlog, largestlog;
+    uint64_t buckets[EDGE_SST_BUCKETS];
+} EdgeSstSummary;
+
+/* The summary of the n bytes at p, once they have passed the full check. */
+EdgeSstSummary edge_sst_summary(const uint8_t *p, size_t n);
 
 /* How many bytes the file of the batch of n bytes at p takes. */
 EdgeSstDone edge_sst_needed(const uint8_t *p, size_t n);

@@ -14,6 +14,7 @@ EdgeSstTold plain_edges(const uint8_t *p, const EdgeSstOpened *o); /* the groups
 EdgeSstTold plain_check(const uint8_t *p, size_t n);
 /* The lower halves of dense partners are read only where the upper ones are equal. */
 EdgeSstTold sparing_check(const uint8_t *p, size_t n);
+EdgeSstSummary plain_summary(const uint8_t *p, size_t n);
 EdgeSstDone plain_needed(const uint8_t *p, size_t n);
 EdgeSstDone plain_write(const uint8_t *p, size_t n, uint8_t *out, size_t m);
 EdgeSstDone plain_read_out(const uint8_t *p, size_t n, uint8_t *out, size_t m);

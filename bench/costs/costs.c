@@ -85,6 +85,7 @@ int main(int argc, char **argv) {
     o = edge_sst_open(file, m);
     expect(o.number);
     expect(edge_sst_check(file, m).number);
+    expect(edge_sst_summary(file, m).number);
     expect(edge_sst_read_out(file, m, out, n).number);
     if (memcmp(batch, out, n) != 0)
         return 1;

@@ -7,6 +7,7 @@ mod print;
 mod read_out;
 mod sections;
 mod sum;
+mod summary;
 mod to_text;
 mod write;
 
@@ -29,11 +30,12 @@ pub struct Command {
     run: fn(&Arguments, &Watch) -> Result<Status, Failure>,
 }
 
-const COMMANDS: [&Command; 9] = [
+const COMMANDS: [&Command; 10] = [
     &check::COMMAND,
     &print::COMMAND,
     &lookup::COMMAND,
     &sections::COMMAND,
+    &summary::COMMAND,
     &write::COMMAND,
     &read_out::COMMAND,
     &to_text::COMMAND,

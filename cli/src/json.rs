@@ -38,7 +38,15 @@ impl Object {
     }
 
     pub fn array(self, name: &str, values: impl Iterator<Item = Object>) -> Object {
-        let values: Vec<String> = values.map(|value| value.to_string()).collect();
+        self.list(name, values.map(|value| value.to_string()))
+    }
+
+    pub fn numbers(self, name: &str, values: &[u64]) -> Object {
+        self.list(name, values.iter().map(u64::to_string))
+    }
+
+    fn list(self, name: &str, values: impl Iterator<Item = String>) -> Object {
+        let values: Vec<String> = values.collect();
         self.member(name, &format!("[{}]", values.join(",")))
     }
 
@@ -94,8 +102,10 @@ mod tests {
         let object = Object::new()
             .number("a", u64::MAX)
             .array("b", [inner(), inner()].into_iter())
-            .string_or_null("d", None);
-        let expected = r#"{"a":18446744073709551615,"b":[{"c":true},{"c":true}],"d":null}"#;
+            .string_or_null("d", None)
+            .numbers("e", &[0, 7]);
+        let expected =
+            r#"{"a":18446744073709551615,"b":[{"c":true},{"c":true}],"d":null,"e":[0,7]}"#;
         assert_eq!(object.to_string(), expected);
         assert_eq!(Object::new().to_string(), "{}");
     }

@@ -8,6 +8,7 @@ mod lookups;
 mod opening;
 mod printing;
 mod running;
+mod summaries;
 mod writing;
 
 use crate::corpus::{self, Record};

@@ -1,5 +1,6 @@
 //! The second program: an independent opinion on checksums, number codes, the
-//! opening of files, the lookup of keys, the full check, read-out and writing.
+//! opening of files, the lookup of keys, the full check, the summary, read-out
+//! and writing.
 //! See README.md.
 
 mod batch;
@@ -20,6 +21,7 @@ mod random;
 mod read_out;
 mod refusal;
 mod running;
+mod summary;
 mod varint;
 mod write;
 mod xxh3;
@@ -32,7 +34,7 @@ use std::process::ExitCode;
 
 const USAGE: &str =
     "usage: second check | make DIR | make-large DIR | compare DIR | bytes NAME | family N
-       second write | read-out | print | sum, each with its input on standard input";
+       second write | read-out | print | summary | sum, each with its input on standard input";
 
 fn main() -> ExitCode {
     let arguments: Vec<String> = std::env::args().skip(1).collect();
@@ -47,6 +49,7 @@ fn main() -> ExitCode {
         ["write"] => write(),
         ["read-out"] => read_out(),
         ["print"] => print(),
+        ["summary"] => summary(),
         ["sum"] => sum(),
         _ => Err(USAGE.to_string()),
     };
@@ -150,6 +153,12 @@ fn read_out() -> Result<(), String> {
 fn print() -> Result<(), String> {
     let file = standard_input()?;
     write_out(print::print(&file).as_bytes())
+}
+
+/// The summary of a file, as the corpus of the full check has it.
+fn summary() -> Result<(), String> {
+    let text = corpus::check_files::summary_text(&standard_input()?);
+    write_out(format!("{text}\n").as_bytes())
 }
 
 /// The XXH3-64 of any bytes.

@@ -1,4 +1,4 @@
-/* The full check, the read-out and the writer. */
+/* The full check, the read-out and the writer, with the summary of each file. */
 #include <inttypes.h>
 #include <stdio.h>
 #include <string.h>
@@ -102,11 +102,13 @@ static void hold_check(const char *name, Bytes file, const char *line) {
                   told.beside);
 }
 
-/* A file that passes: its read-out with other rooms, its keys, its batch written. */
+/* A file that passes: its read-out with other rooms, its keys, its batch written, and
+ * summaries of it with bits changed. */
 static void file_passes(const char *name, Bytes file, Bytes batch) {
     hold_rooms(name, edge_sst_read_out, file, batch);
     test_keys(name, file, batch);
     test_again(name, batch);
+    test_damaged(name, file);
 }
 
 static void check_file(const char *name, Bytes file, Lines *lines) {
@@ -114,6 +116,7 @@ static void check_file(const char *name, Bytes file, Lines *lines) {
     Lent out = lend(ROOM, AS_BYTES);
     EdgeSstDone got;
     hold_check(name, file, line_for(lines, name, line));
+    test_summary_line(name, file, line_for(lines, name, line));
     got = call(edge_sst_read_out, file, out);
     line_for(lines, name, line);
     if (got.number != 0) {
@@ -200,6 +203,7 @@ static void batch_written(const char *name, Bytes batch, Bytes file, Lines *line
     if (file.n <= FILE_SHOWN)
         hold_hex(name, file, line_for(lines, name, line));
     hold_check(name, file, line_for(lines, name, line));
+    test_summary_line(name, file, line_for(lines, name, line));
     hold_line(name, line_for(lines, name, line), "reads back");
     hold_back(name, file, batch);
     hold_rooms(name, edge_sst_write, batch, file);

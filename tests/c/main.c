@@ -23,6 +23,7 @@ static const Part parts[] = {
     {"groups", test_groups},
     {"checks", test_checks},
     {"writing", test_writes},
+    {"summaries", test_summaries},
 #endif
 };
 

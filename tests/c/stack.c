@@ -41,6 +41,7 @@ static void lookup_with(void) {
 }
 static void check(void) { told = edge_sst_check(file, file_bytes).number; }
 static void read_out(void) { told = edge_sst_read_out(file, file_bytes, out, ROOM).number; }
+static void summary(void) { told = edge_sst_summary(file, file_bytes).number; }
 static void needed(void) { told = edge_sst_needed(batch, batch_bytes).number; }
 static void write_file(void) { told = edge_sst_write(batch, batch_bytes, out, ROOM).number; }
 static void sum(void) { told = edge_sst_sum(file, file_bytes); }
@@ -63,6 +64,7 @@ static struct {
     {"edge_sst_lookup_with", lookup_with, 0},
     {"edge_sst_check", check, 0},
     {"edge_sst_read_out", read_out, 0},
+    {"edge_sst_summary", summary, 0},
     {"edge_sst_needed", needed, 0},
     {"edge_sst_write", write_file, 0},
     {"edge_sst_sum", sum, 0},

@@ -90,6 +90,7 @@ void test_lookups(const char *dir);
 void test_groups(const char *dir);
 void test_checks(const char *dir);
 void test_writes(const char *dir);
+void test_summaries(const char *dir);
 
 /* Lookups of every key of a file that passes, against its read-out. */
 void test_keys(const char *name, Bytes file, Bytes batch);
@@ -99,5 +100,19 @@ void test_records(const char *name, Bytes file, const EdgeSstOpened *opened);
 
 /* The batch of a file that passes, written and read out again. */
 void test_again(const char *name, Bytes batch);
+
+/* The summary of any bytes, which stay as they are. */
+EdgeSstSummary ask_summary(const char *name, Bytes file);
+
+/* Every byte of a summary. */
+void hold_summary(const char *name, const EdgeSstSummary *got, const EdgeSstSummary *expected);
+
+/* The summary of a file against the full check and a model over its read-out; and
+ * against its line too. */
+void test_summary(const char *name, Bytes file);
+void test_summary_line(const char *name, Bytes file, const char *line);
+
+/* Summaries of a file that passes with a bit changed, if it is not too long. */
+void test_damaged(const char *name, Bytes file);
 
 #endif

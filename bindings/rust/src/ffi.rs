@@ -71,6 +71,24 @@ pub struct Done {
 
 #[repr(C)]
 #[derive(Clone, Copy, Debug)]
+pub struct Summary {
+    pub number: u64,
+    pub place: u64,
+    pub beside: u64,
+    pub keycount: u64,
+    pub edgecount: u64,
+    pub tombstones: u64,
+    pub largestdegree: u64,
+    pub extremes: u64,
+    pub smallestkey: [u8; 16],
+    pub largestkey: [u8; 16],
+    pub smallestlog: u64,
+    pub largestlog: u64,
+    pub buckets: [u64; 64],
+}
+
+#[repr(C)]
+#[derive(Clone, Copy, Debug)]
 pub struct Listed {
     pub number: u64,
     pub place: u64,
@@ -111,6 +129,7 @@ extern "C" {
     ) -> Looked;
     pub fn edge_sst_check(p: *const u8, n: usize) -> Told;
     pub fn edge_sst_read_out(p: *const u8, n: usize, out: *mut u8, m: usize) -> Done;
+    pub fn edge_sst_summary(p: *const u8, n: usize) -> Summary;
     pub fn edge_sst_needed(p: *const u8, n: usize) -> Done;
     pub fn edge_sst_write(p: *const u8, n: usize, out: *mut u8, m: usize) -> Done;
     pub fn edge_sst_sum(p: *const u8, n: usize) -> u64;

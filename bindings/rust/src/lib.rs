@@ -2,7 +2,8 @@
 //!
 //! The workbench opens a file once and looks up keys: [`EdgeSst::open`],
 //! [`Opened::partners`], [`Opened::lookup`]. The release desk takes nothing from a
-//! file with one wrong section byte: [`check`], [`read_out`]. [`write`] makes a
+//! file with one wrong section byte: [`check`], [`read_out`]. The query planner asks
+//! for the counts and degrees of a file that passes: [`summary()`]. [`write`] makes a
 //! file of a batch, [`Batch`] reads its records, and [`sum`] is XXH3-64 alone, which
 //! [`RunningSum`] takes of bytes that come in chunks.
 //!
@@ -27,11 +28,13 @@ mod ffi;
 mod opened;
 mod refusal;
 mod running;
+mod summary;
 
 pub use batch::{Batch, Heading, Record};
 pub use opened::{Edge, EdgeSst, Edges, Header, Id, Opened, Partners, Section};
 pub use refusal::Refusal;
 pub use running::RunningSum;
+pub use summary::{Extremes, Summary};
 
 use refusal::refuse_if;
 
@@ -58,6 +61,23 @@ pub fn read_out(file: &[u8]) -> Result<Vec<u8>, Refusal> {
     refuse_if(done.number, done.place, done.beside)?;
     batch.truncate(done.bytes as usize);
     Ok(batch)
+}
+
+/// Counts a file's keys, edges, tombstones and degrees, after checking it in full: the
+/// refusals of [`check`].
+///
+/// ```
+/// let file = std::fs::read("../../samples/board.edges").unwrap();
+/// let summary = edge_sst::summary(&file).unwrap();
+/// // Keys of four partners and more.
+/// let many: u64 = summary.buckets[2..].iter().sum();
+/// assert_eq!((many, summary.key_count), (5, 12));
+/// ```
+pub fn summary(file: &[u8]) -> Result<Summary, Refusal> {
+    // SAFETY: the pointer and length are of one slice, and not null.
+    let told = unsafe { ffi::edge_sst_summary(file.as_ptr(), file.len()) };
+    refuse_if(told.number, told.place, told.beside)?;
+    Ok(Summary::of(&told))
 }
 
 /// Writes the file of a batch: refusals 24 to 26. The batch has the form that

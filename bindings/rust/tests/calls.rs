@@ -1,6 +1,8 @@
 //! The calls on the samples, and round trips through the writer.
 
-use edge_sst::{check, needed, read_out, sum, write, EdgeSst, Header, Heading, Id, Refusal};
+use edge_sst::{
+    check, needed, read_out, sum, summary, write, EdgeSst, Header, Heading, Id, Refusal,
+};
 
 fn sample(name: &str) -> Vec<u8> {
     let folder = concat!(env!("CARGO_MANIFEST_DIR"), "/../../samples/");
@@ -162,6 +164,7 @@ fn every_changed_section_byte_is_refused() {
         changed[place] ^= 1;
         assert!(check(&changed).is_err(), "byte {place}");
         assert!(read_out(&changed).is_err(), "byte {place}");
+        assert_eq!(summary(&changed).err(), check(&changed).err());
     }
 }
 
@@ -174,6 +177,7 @@ fn cut_files_are_refused() {
             refused(check(&file[..n])),
             refused(EdgeSst::open(&file[..n]))
         );
+        assert_eq!(summary(&file[..n]).err(), check(&file[..n]).err());
     }
     assert_eq!(refused(EdgeSst::open(&[])), (1, 0));
 }
@@ -289,6 +293,7 @@ fn faults_of_groups_are_told_with_their_byte() {
         let file = mended(file.clone(), old);
         assert_eq!(check(&file), Err(refusal));
         assert_eq!(read_out(&file), Err(refusal));
+        assert_eq!(summary(&file), Err(refusal));
     }
 }
 

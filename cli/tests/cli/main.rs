@@ -13,5 +13,6 @@ mod progress;
 mod run;
 mod sections;
 mod sum;
+mod summary;
 mod usage;
 mod words;

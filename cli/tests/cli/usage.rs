@@ -2,11 +2,12 @@
 
 use crate::run::{folder, run, run_on, sample};
 
-const COMMANDS: [&str; 9] = [
+const COMMANDS: [&str; 10] = [
     "check",
     "print",
     "lookup",
     "sections",
+    "summary",
     "write",
     "read-out",
     "to-text",
@@ -119,6 +120,7 @@ fn statuses() {
         ("check", &[][..]),
         ("print", &[]),
         ("sections", &[]),
+        ("summary", &[]),
         ("lookup", &[key]),
         ("read-out", &["-o", "out"]),
     ] {

@@ -133,7 +133,7 @@ module _ (logs dead : List ℕ) (key : Id) where
   logs-of [] e = refl
   logs-of (p ∷ ps) e = ap₂ (λ (x : ℕ) (y : List ℕ). x ∷ y) refl (logs-of ps (e + 1))
 
-  mark-is : (x : ℕ) → pick (eqb (x % 2) 1) 1 0 ≡ x % 2
+  pub mark-is : (x : ℕ) → pick (eqb (x % 2) 1) 1 0 ≡ x % 2
   mark-is x =
       elim (ℕ-discrete (x % 2) 1) [
         | yes q ↦ rw (eq-eqb (x % 2) 1 q) (sym q)
@@ -189,7 +189,7 @@ module _ (keys p o : List ℕ) (w : ℕ) (logs dead : List ℕ) where
 
   -- the edges before a group are those of the degrees before it
   module _ (n : ℕ) (up : OffsetsRise o w n (length p)) (ok : groupsFrom p o w n 0 ≡ Check.Fine) where
-    degree-here : (i : ℕ) → i < n → (degreeAt p o w i ≡ Degree.Is (keyDegree keys p o w logs dead i)) × (1 ≤ keyDegree keys p o w logs dead i)
+    pub degree-here : (i : ℕ) → i < n → (degreeAt p o w i ≡ Degree.Is (keyDegree keys p o w logs dead i)) × (1 ≤ keyDegree keys p o w logs dead i)
     degree-here i lt =
         let g = groupAt p o w i in
         let good = each-good n 0 ok i (omega arith) (omega arith) in

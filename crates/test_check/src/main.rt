@@ -1,5 +1,5 @@
-// Checks every file of a corpus in full and reads it out, and prints the answers with the sum of the output after each
-// read-out. Corpus and expected lines are made by second/.
+// Checks every file of a corpus in full, sums it up and reads it out, and prints the answers with the sum of the output after
+// each read-out. Corpus and expected lines are made by second/.
 use full_check::check;
 use readout::ReadOut;
 use readout::read_out;
@@ -12,6 +12,7 @@ use test_corpus::pattern;
 use test_corpus::refused;
 use test_corpus::sum;
 use test_corpus::word;
+use test_summary::summary_line;
 
 // The bytes that a read-out wrote, 0 where it was refused.
 fn answered(r: ReadOut) -> u64 {
@@ -48,6 +49,7 @@ fn short(name: &[u8], file: &[u8], out: &mut [u8], bytes: usize) {
 
 fn all(name: &[u8], file: &[u8], out: &mut [u8]) {
     check_line(name, check(file));
+    summary_line(name, file);
     let n = read_into(name, b": read-out ", file, out);
     short(name, file, out, n as usize);
 }

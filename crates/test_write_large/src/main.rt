@@ -1,4 +1,4 @@
-// Writes the few batches of a corpus that have more than 65,536 keys or nearly so, and prints the answers.
+// Writes the few batches of a corpus that have more than 65,536 keys or edges or nearly so, and prints the answers.
 ghost use mathlib.Core.Path.{_≡_};
 ghost use lib.ListN.{length};
 

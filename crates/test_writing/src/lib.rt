@@ -1,5 +1,5 @@
 // Prints what the writer makes of a batch, for the programs over corpora: its size, the file's sum with that of all the output
-// after the call, and that the file passes the full check and reads back.
+// after the call, that the file passes the full check, its summary, and that it reads back.
 use full_check::check;
 use readout::ReadOut;
 use readout::read_out;
@@ -14,6 +14,7 @@ use test_corpus::refused;
 use test_corpus::sum;
 use test_corpus::sum_front;
 use test_corpus::word;
+use test_summary::summary_line;
 use write_file::Written;
 use write_file::needed;
 use write_file::write;
@@ -128,6 +129,7 @@ fn more(name: &[u8], batch: &[u8], file: &[u8], whole: bool, less: &mut [u8]) {
 fn held(name: &[u8], batch: &[u8], file: &[u8], whole: bool, less: &mut [u8]) {
     more(name, batch, file, whole, less);
     check_line(name, check(file));
+    summary_line(name, file);
     back(name, batch, file, less);
 }
 
@@ -198,6 +200,7 @@ fn held_over(name: &[u8], out: &[u8], bytes: usize, space: &mut [u8], size: usiz
     if 0 < bytes {
         if bytes <= out.len() {
             check_line(name, check(&out[0..bytes]));
+            summary_line(name, &out[0..bytes]);
             back_over(name, &out[0..bytes], space, size, batch);
         }
     }

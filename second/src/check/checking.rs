@@ -1,7 +1,8 @@
-//! Checks of the full check, of read-out and of their corpus.
+//! Checks of the full check, of read-out and of their corpus; those of the
+//! summary stand beside.
 
 use super::groups::{check_fault, group_bytes, Spots, FAULTS};
-use super::{check_framed, check_names, Named, Tally};
+use super::{check_framed, check_names, summaries, Named, Tally};
 use crate::batch;
 use crate::corpus::check_files::{self, CheckFile, ROOM};
 use crate::corpus::fresh_output;
@@ -37,12 +38,13 @@ pub fn check(tally: &mut Tally) {
     check_refusals(tally, &files);
     check_spots(tally, &files);
     check_changed_bytes(tally, &files);
+    summaries::check(tally, &files);
 }
 
 fn check_sizes(tally: &mut Tally, files: &[CheckFile]) {
     let input = check_files::stdin(files).len();
     let output = check_files::stdout(files).len();
-    tally.same("check input at most 1900000", input <= 1_900_000, true);
+    tally.same("check input at most 2100000", input <= 2_100_000, true);
     for file in files {
         let within = file.bytes.len() <= LONGEST;
         tally.same(&format!("size of {}", file.name), within, true);

@@ -1,6 +1,6 @@
 //! Checks of the writer and of its corpus.
 
-use super::{check_framed, check_names, Named, Tally};
+use super::{check_framed, check_names, summaries, Named, Tally};
 use crate::batch::{self, Batch, KeyedEdge};
 use crate::corpus::check_files::{self, samples};
 use crate::corpus::fresh_output;
@@ -31,6 +31,7 @@ pub fn check(tally: &mut Tally) {
         // Not each key, as each lookup sums the degrees of all before it.
         check_batch(tally, batch, LARGE_ROOM, 997);
     }
+    check_large_degrees(tally, &large);
     check_refusals(tally, &small);
     check_beginnings(tally, &small);
     check_example(tally, &small);
@@ -183,6 +184,8 @@ fn check_batch(tally: &mut Tally, batch: &WriteBatch, room: usize, stride: usize
     }
     let file = &output[..size];
     tally.same(name, batch.reads_back(file), true);
+    let summary = check_files::summary_text(file);
+    tally.same(name, summary, summaries::line_of(&batch.bytes));
     let contents = full_check(file).expect("what reads back has passed");
     check_choices(tally, name, file, &contents);
     for group in contents.groups.iter().step_by(stride) {
@@ -192,6 +195,23 @@ fn check_batch(tally: &mut Tally, batch: &WriteBatch, room: usize, stride: usize
     let place = size as u64;
     tally.same(name, short.told, Err(Refusal::at(20, place)));
     tally.same(name, short.output == fresh_output(size - 1), true);
+}
+
+/// The large batches have degrees on both sides of each power of two that the
+/// small files have no room for.
+fn check_large_degrees(tally: &mut Tally, batches: &[WriteBatch]) {
+    let mut found = BTreeSet::new();
+    for batch in batches {
+        let edges = batch::parse(&batch.bytes).expect("a batch").edges;
+        let groups = edges.chunk_by(|a, b| a.key == b.key);
+        found.extend(groups.map(<[KeyedEdge]>::len));
+    }
+    let powers = (11..16).map(|exponent| 1 << exponent);
+    let sides = powers.flat_map(|power| [power - 1, power]);
+    for degree in sides.chain([5_000, 65_536]) {
+        let what = format!("a large batch with degree {degree}");
+        tally.same(&what, found.contains(&degree), true);
+    }
 }
 
 /// The writer's choices, each looked for in the file itself.

@@ -1,11 +1,12 @@
-//! The corpus of the full check and of read-out: whole files, sound and
-//! damaged, those of the other corpora among them.
+//! The corpus of the full check, of the summary and of read-out: whole files,
+//! sound and damaged, those of the other corpora among them.
 
 mod bad_groups;
 mod chance;
 mod order;
 pub mod samples;
 mod sound;
+mod summaries;
 mod sums;
 mod totals;
 
@@ -15,6 +16,7 @@ use crate::layout::Layout;
 use crate::print::LONGEST;
 use crate::read_out::read_out;
 use crate::refusal::Refusal;
+use crate::summary::summary;
 use crate::xxh3::xxh3_64;
 use std::collections::BTreeSet;
 
@@ -27,6 +29,8 @@ pub struct CheckFile {
     pub bytes: Vec<u8>,
     /// What the full check has to say in the author's view, where there is one.
     pub intended: Option<Result<(), Refusal>>,
+    /// What the summary has to say in the author's view, where there is one.
+    pub summed: Option<String>,
 }
 
 /// The files made for the full check come first, then those of the other
@@ -39,6 +43,7 @@ pub fn files() -> Vec<CheckFile> {
     totals::add(&mut files);
     order::add(&mut files);
     chance::add(&mut files);
+    summaries::add(&mut files);
     other_corpora(&mut files);
     files.0
 }
@@ -71,6 +76,13 @@ impl Files {
         self.bytes(name, layout.bytes(), Some(Ok(())));
     }
 
+    /// A file that passes, and its summary.
+    fn summed(&mut self, name: impl Into<String>, layout: Layout, summary: String) {
+        self.fine(name, layout);
+        let file = self.0.last_mut().expect("the file");
+        file.summed = Some(summary);
+    }
+
     fn refused(&mut self, name: impl Into<String>, layout: Layout, number: u8, place: u64) {
         let refusal = Refusal::at(number, place);
         self.bytes(name, layout.bytes(), Some(Err(refusal)));
@@ -99,6 +111,7 @@ impl Files {
             name: name.into(),
             bytes,
             intended,
+            summed: None,
         });
     }
 }
@@ -116,8 +129,8 @@ impl CheckFile {
         (told, output)
     }
 
-    /// A line for the check and one for the read-out; for a file that passes
-    /// also one for the read-out with a byte too little.
+    /// A line for the check, one for the summary and one for the read-out; for a
+    /// file that passes also one for the read-out with a byte too little.
     fn lines(&self) -> String {
         let name = &self.name;
         let check = match self.verdict() {
@@ -126,7 +139,8 @@ impl CheckFile {
         };
         let (told, output) = self.read_out(ROOM);
         let sum = xxh3_64(&output);
-        let mut lines = format!("{name}: check {check}\n");
+        let summary = summary_text(&self.bytes);
+        let mut lines = format!("{name}: check {check}\n{name}: summary {summary}\n");
         match told {
             Err(refusal) => lines += &format!("{name}: read-out {refusal} sum {sum:016x}\n"),
             Ok(size) => {
@@ -145,6 +159,14 @@ impl CheckFile {
             self.name,
             xxh3_64(&output)
         )
+    }
+}
+
+/// What the summary says of a file, as a line has it.
+pub fn summary_text(file: &[u8]) -> String {
+    match summary(file) {
+        Ok(summary) => summary.to_string(),
+        Err(refusal) => refusal.to_string(),
     }
 }
 

@@ -9,6 +9,7 @@ mod order;
 mod records;
 mod sound;
 
+use super::check_files::summary_text;
 use super::{framed, fresh_output};
 use crate::full_check::full_check;
 use crate::numbers::hex;
@@ -44,7 +45,8 @@ pub fn small() -> Vec<WriteBatch> {
     batches.0
 }
 
-/// Batches about the key count above which there are fences.
+/// Batches about the key count above which there are fences, and of large
+/// degrees.
 pub fn large() -> Vec<WriteBatch> {
     let mut batches = Batches::default();
     large::add(&mut batches);
@@ -139,12 +141,14 @@ impl WriteBatch {
         format!("{name}: needed {needed}\n{name}: {wrote} all {all:016x}\n")
     }
 
-    /// A written file passes the full check, and its read-out is the batch.
+    /// A written file passes the full check, has a summary, and its read-out is
+    /// the batch.
     fn back_lines(&self, file: &[u8]) -> String {
         let name = &self.name;
         full_check(file).expect("a sound file");
         assert!(self.reads_back(file), "{name} reads back");
-        format!("{name}: check fine\n{name}: reads back\n")
+        let summary = summary_text(file);
+        format!("{name}: check fine\n{name}: summary {summary}\n{name}: reads back\n")
     }
 
     pub fn reads_back(&self, file: &[u8]) -> bool {

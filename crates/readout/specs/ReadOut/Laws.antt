@@ -5,7 +5,7 @@ use Prim.Native.Nat.{ℕ, suc, _+_, _-_, _*_, _/_, _%_, _≤_, _<_}
 use native.Mathlib.Nat.{zero-add}
 use native.Mathlib.Omega.{arith}
 use mathlib.Core.List.{List, [], _++_}
-use mathlib.Core.Bool.{Bool, true, false, not}
+use mathlib.Core.Bool.{Bool, true, false, not, _&&_, Bool·beq}
 use lib.ListN.{length, getD, set, drop, length-append, drop-of-length-le}
 use native.Mathlib.Numerals.{add-one}
 use lib.Seq.{sets, drop-cons}
@@ -20,7 +20,7 @@ use Rattle.refusal.specs.Check.{_⊳_, refuse}
 use Rattle.refusal.specs.Check.Laws.{fine-parts, good-parts, and-parts, bad-then, fine-then, by-first, refuse-own, refuse-fine}
 use Rattle.frame.specs.declared.Opened.{Opened}
 use Rattle.frame.specs.declared.Opening.{Opening}
-use Rattle.frame.specs.Frame.{rowsOf, flagsOf, bodyOf, recordOf}
+use Rattle.frame.specs.Frame.{rowsOf, flag, flagsOf, bodyOf, recordOf}
 use Rattle.frame.specs.Open.{Known, knownOf, bytesAt, openOf, opening, fileCheck}
 use Rattle.frame.specs.Open.Laws.{opens-parts, size-parts, opens-record}
 use Rattle.lookup.specs.Record.{Holds}
@@ -29,12 +29,26 @@ use Rattle.reader.specs.Look.{opened-holds}
 use Rattle.batch.specs.declared.Edge.{Edge}
 use Rattle.batch.specs.Batch.{Heading, headingBytes, recordsOf, batchBytes}
 use Rattle.batch.specs.Batch.Laws.{length-records}
-use Rattle.full_check.specs.Full.{sumsFrom, groupsFrom, degreesFrom, denseFrom, dataGood, edgesCheck, fullCheck, checkedOf}
+use Rattle.full_check.specs.Full.{sumsFrom, groupsFrom, degreesFrom, denseFrom, marksOf, dataGood, edgesCheck, fullCheck, checkedOf}
 use Rattle.full_check.specs.Checked.{checked-opened, checked-fine, fine-checked, full-opened}
 use Rattle.readout.specs.declared.ReadOut.{ReadOut}
 use Rattle.readout.specs.Edges.{readFrom, edgesIn}
 use Rattle.readout.specs.Edges.Laws.{length-read, Readable}
 use Rattle.readout.specs.ReadOut.{headingIn, batchIn, neededFor, readCheck, readAnswer, readLeaves, readOutOf, readOutLeaves}
+
+-- ---- rule 23
+
+data-parts : (flags edges : ℕ) (s : List ℕ) (sum : ℕ) (dense : Bool) → dataGood flags edges s sum dense ≡ true → (sum ≡ edges) × (marksOf s edges .unused ≡ false)
+unfolding dataGood
+data-parts flags edges s sum dense h =
+    let a = and-parts (eqb sum edges) _ h in
+    let b = and-parts (Bool·beq (flag 1 flags) (marksOf s edges .dead)) _ (a .1) in
+    let c = and-parts (Bool·beq (flag 2 flags) dense) (not (marksOf s edges .unused)) (b .1) in
+    (eqb-true _ _ (a .0), not-true _ (c .1))
+  where
+    not-true : (b : Bool) → not b ≡ true → b ≡ false
+    not-true true h = sym h
+    not-true false h = refl
 
 -- ---- a file that the full check passes
 
@@ -45,15 +59,25 @@ module _ (f : List ℕ) (o : Opened) (e : checkedOf f ≡ Opening.Good o) where
   abbrev groupsFine : Type 0
   groupsFine = groupsFrom (bytesAt f (o .partners)) (bytesAt f (o .offsets)) (o .bits / 8) (o .keycount) 0 ≡ Check.Fine
 
+  -- the groups, then rule 23
+  checked-groups : (groupsFrom (bytesAt f (o .partners)) (bytesAt f (o .offsets)) (o .bits / 8) (o .keycount) 0 ≡ Check.Fine)
+      × (degreesFrom (bytesAt f (o .partners)) (bytesAt f (o .offsets)) (o .bits / 8) (o .keycount) 0 ≡ o .edgecount)
+      × (marksOf (pick (o .marked) (bytesAt f (o .dead)) []) (o .edgecount) .unused ≡ false)
+  unfolding edgesCheck knownOf
+  checked-groups =
+      let all = fine-parts (sumsFrom f (rowsOf (bodyOf f)) 0) _ (sym (full-opened f o opens) ∙ checked-fine f o e) in
+      let q = fine-parts (groupsFrom (bytesAt f (o .partners)) (bytesAt f (o .offsets)) (o .bits / 8) (o .keycount) 0) _ (all .1) in
+      let told = data-parts _ _ _ _ _ (good-parts Refusal.Data _ (q .1)) in
+      (q .0, told .0, told .1)
+
   -- all groups are good, and their degrees make the edge count
   pub checked-edges : (groupsFrom (bytesAt f (o .partners)) (bytesAt f (o .offsets)) (o .bits / 8) (o .keycount) 0 ≡ Check.Fine)
       × (degreesFrom (bytesAt f (o .partners)) (bytesAt f (o .offsets)) (o .bits / 8) (o .keycount) 0 ≡ o .edgecount)
-  unfolding edgesCheck knownOf dataGood
-  checked-edges =
-      let all = fine-parts (sumsFrom f (rowsOf (bodyOf f)) 0) _ (sym (full-opened f o opens) ∙ checked-fine f o e) in
-      let q = fine-parts (groupsFrom (bytesAt f (o .partners)) (bytesAt f (o .offsets)) (o .bits / 8) (o .keycount) 0) _ (all .1) in
-      let told = good-parts Refusal.Data _ (q .1) in
-      (q .0, eqb-true _ _ (and-parts _ _ told .0))
+  checked-edges = (checked-groups .0, checked-groups .1)
+
+  -- no unused bit of the tombstones is set
+  pub checked-unused : marksOf (pick (o .marked) (bytesAt f (o .dead)) []) (o .edgecount) .unused ≡ false
+  checked-unused = checked-groups .2
 
   pub checked-readable : Readable (bytesAt f (o .keys)) (bytesAt f (o .partners)) (bytesAt f (o .offsets)) (o .bits / 8) (bytesAt f (o .logs)) (o .keycount)
   checked-readable =
