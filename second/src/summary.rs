@@ -8,7 +8,7 @@ use crate::refusal::Refusal;
 use std::fmt;
 use std::ops::Range;
 
-pub const BUCKETS: usize = 64;
+const BUCKETS: usize = 64;
 
 #[derive(Clone, Debug, PartialEq, Eq)]
 pub struct Summary {
@@ -34,17 +34,17 @@ pub fn summary(file: &[u8]) -> Result<Summary, Refusal> {
 }
 
 /// Dead edges count in degrees and log numbers too.
-pub fn summary_of(groups: &[Group]) -> Summary {
-    let degrees: Vec<u64> = groups.iter().map(|g| g.edges.len() as u64).collect();
-    let keys_in = |degrees_of_bucket: Range<u128>| {
-        let inside = |degree: &&u64| degrees_of_bucket.contains(&u128::from(**degree));
-        degrees.iter().filter(inside).count() as u64
+fn summary_of(groups: &[Group]) -> Summary {
+    let degrees = || groups.iter().map(|group| group.edges.len() as u64);
+    let keys_in = |bucket: Range<u128>| {
+        let inside = degrees().filter(|&degree| bucket.contains(&degree.into()));
+        inside.count() as u64
     };
     Summary {
         key_count: groups.len() as u64,
         edge_count: edges(groups).count() as u64,
         tombstones: edges(groups).filter(|edge| edge.dead).count() as u64,
-        largest_degree: degrees.iter().copied().max().unwrap_or(0),
+        largest_degree: degrees().max().unwrap_or(0),
         extremes: extremes(groups),
         buckets: std::array::from_fn(|i| keys_in(bucket(i))),
     }

@@ -189,7 +189,7 @@ module _ (keys p o : List ℕ) (w : ℕ) (logs dead : List ℕ) where
 
   -- the edges before a group are those of the degrees before it
   module _ (n : ℕ) (up : OffsetsRise o w n (length p)) (ok : groupsFrom p o w n 0 ≡ Check.Fine) where
-    pub degree-here : (i : ℕ) → i < n → (degreeAt p o w i ≡ Degree.Is (keyDegree keys p o w logs dead i)) × (1 ≤ keyDegree keys p o w logs dead i)
+    degree-here : (i : ℕ) → i < n → (degreeAt p o w i ≡ Degree.Is (keyDegree keys p o w logs dead i)) × (1 ≤ keyDegree keys p o w logs dead i)
     degree-here i lt =
         let g = groupAt p o w i in
         let good = each-good n 0 ok i (omega arith) (omega arith) in

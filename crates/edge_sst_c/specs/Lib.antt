@@ -3,6 +3,7 @@ pub mod Look
 pub mod Desk
 pub mod Write
 pub mod SectionList
+pub mod Summary
 pub mod Header
 pub mod Refused
 pub mod Back

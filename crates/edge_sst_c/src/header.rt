@@ -26,7 +26,7 @@ pub struct EdgeSstHeader {
     pub destination: [u8; 16],
 }
 
-fn id_told(id: Id) -> [u8; 16]
+pub fn id_told(id: Id) -> [u8; 16]
     ensures { λ r. ⌜ r ≡ idBytes id ⌝ }
 {
     let mut bytes = [0u8; 16];

@@ -5,6 +5,7 @@ ghost use Rattle.refusal.specs.Refusal.{numberOf, placeOf, besideOf};
 ghost use Rattle.edge_sst_c.specs.Told.{truth, recordWith, refusalWith, openedTold};
 
 pub mod desk;
+pub mod figures;
 pub mod header;
 pub mod look;
 pub mod running;

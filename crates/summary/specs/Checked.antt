@@ -89,11 +89,11 @@ module _ (f : List ℕ) (o : Opened) (e : checkedOf f ≡ Opening.Good o) where
   -- ---- groups
 
   checked-told : AllTold ps os w n
-  checked-told = all-told keys ps os w logs dead n rise checked-offsets good
+  checked-told = all-told keys ps os w logs dead n rise good
 
   degrees-are : degreesAt ps os w n 0 ≡ degreesOf (groupsOf es)
   unfolding edgesIn knownOf
-  degrees-are = sym (read-degrees keys ps os w logs dead n rise checked-offsets good n 0 0 (omega arith))
+  degrees-are = sym (read-degrees keys ps os w logs dead n rise good n 0 0 (omega arith))
 
   -- what the pass over the groups asks of the sections that are lent to it, and what it gives
   module _ {x y : List ℕ} (p : x ≡ bytesAt f (o .partners)) (q : y ≡ bytesAt f (o .offsets)) where
@@ -174,7 +174,7 @@ module _ (f : List ℕ) (o : Opened) (e : checkedOf f ≡ Opening.Good o) where
     extremes-some u v r =
         let span : List ℕ → ℕ → Span = λ l m. spanOf (leAt l 0 8) (logsFrom (m - 1) l 1) in
         let is : extremesOf (readFrom keys ps os w logs dead n 0 0) ≡ Extremes.Some (halvesAt keys (0 * 16)) (halvesAt keys ((n - 1) * 16)) (span logs (o .edgecount) .smallest) (span logs (o .edgecount) .largest) =
-        read-extremes keys ps os w logs dead n rise checked-offsets good (some-keys some)
+        read-extremes keys ps os w logs dead n rise good (some-keys some)
         ∙ ap (λ (t : ℕ). Extremes.Some (halvesAt keys (0 * 16)) (halvesAt keys ((n - 1) * 16)) (span logs t .smallest) (span logs t .largest)) total in
         (λ i. Extremes.Some (u i) (v i) (r i .smallest) (r i .largest))
         ∙ (λ i. Extremes.Some (halvesAt (p i) (0 * 16)) (halvesAt (p i) ((n - 1) * 16)) (span (q i) (o .edgecount) .smallest) (span (q i) (o .edgecount) .largest))

@@ -10,14 +10,17 @@ use lib.Dec.{eqb, ltb}
 use borrow.Author.Tests.{lt-ltb, le-ltb}
 use Rattle.base.specs.Pick.{pick}
 use Rattle.codes.specs.declared.ids.Id.{Id}
+use Rattle.codes.specs.declared.varint.Varint.{Varint}
 use Rattle.codes.specs.Little.{leAt}
 use Rattle.codes.specs.Ids.{idNumber, halvesAt}
 use Rattle.codes.specs.Ids.Laws.{number-halves}
 use Rattle.refusal.specs.declared.Check.{Check}
 use Rattle.frame.specs.Open.{keyAt}
-use Rattle.index.specs.Order.{KeysRise, OffsetsRise}
-use Rattle.degrees.specs.Degrees.{degreeAt}
-use Rattle.group.specs.Group.{partnersOf}
+use Rattle.index.specs.Order.{KeysRise}
+use Rattle.degrees.specs.Degrees.{groupAt}
+use Rattle.group.specs.Group.{degreeOf, partnersOf}
+use Rattle.group.specs.Group.Laws.{good-is}
+use Rattle.group.specs.Good as group
 use Rattle.lookup.specs.Lookup.{markAt, logsFrom}
 use Rattle.batch.specs.declared.Edge.{Edge}
 use Rattle.batch.specs.Batch.{logsIn}
@@ -26,7 +29,7 @@ use Rattle.batch_groups.specs.Groups.Laws.{SameKey, OtherKey, groups-run}
 use Rattle.full_check.specs.Full.{groupIn, groupsFrom, degreesFrom}
 use Rattle.readout.specs.Edges.{edgeOf, edgesFrom, keyDegree, keyEdges, readFrom}
 use Rattle.readout.specs.Edges.Laws.{length-edges}
-use Rattle.agreement.specs.SameEdges.{mark-is, degree-here}
+use Rattle.agreement.specs.SameEdges.{mark-is, each-good}
 use Rattle.summary.specs.declared.figures.Extremes.{Extremes}
 use Rattle.summary.specs.Summary.{smallest, largest, smallestKey, largestKey, extremesOf, degreesOf, deadIn}
 use Rattle.summary.specs.Bits.{countDead}
@@ -110,13 +113,18 @@ module _ (keys p o : List ℕ) (w : ℕ) (logs dead : List ℕ) where
   read-dead zero i e = refl
   read-dead (suc d) i e = run-dead logs dead (key i) (partners i) e (degreesFrom p o w d (i + 1)) (read d (i + 1) (e + length (partners i))) (read-dead d (i + 1) (e + length (partners i)))
 
-  module _ (n : ℕ) (rise : KeysRise keys n) (up : OffsetsRise o w n (length p)) (ok : groupsFrom p o w n 0 ≡ Check.Fine) where
-    some : (i : ℕ) → i < n → 1 ≤ length (partners i)
-    some i h = degree-here keys p o w logs dead n up ok i h .1
+  module _ (n : ℕ) (rise : KeysRise keys n) (ok : groupsFrom p o w n 0 ≡ Check.Fine) where
+    -- a key's group begins with its degree, which is not 0
+    begins : (i : ℕ) → i < n → (1 ≤ length (partners i)) × ((next : ℕ) × (degreeOf (groupAt p o w i) ≡ Varint.Value (length (partners i)) next))
+    begins i h =
+        let (dense, is) = good-is (groupIn p o w i) (each-good keys p o w logs dead n 0 ok i (omega arith) (omega arith)) in
+        group.degree-is (groupAt p o w i) dense (partners i) is
 
-    -- a group's degree as it is read
-    degree-read : (i : ℕ) → i < n → degreeTold (degreeAt p o w i) ≡ length (partners i)
-    degree-read i h = sym (told-is _ _ (degree-here keys p o w logs dead n up ok i h .0))
+    some : (i : ℕ) → i < n → 1 ≤ length (partners i)
+    some i h = begins i h .0
+
+    degree-read : (i : ℕ) → i < n → degreeTold (degreeOf (groupAt p o w i)) ≡ length (partners i)
+    degree-read i h = let b = begins i h .1 in sym (told-is _ _ _ (b .1))
 
     pub all-told : AllTold p o w n
     all-told i h = let s = some i h in let d = degree-read i h in omega arith

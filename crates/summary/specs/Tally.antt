@@ -10,25 +10,35 @@ use lib.ListN.{length, getD, set, replicate, length-set, getD-replicate}
 use lib.Seq.{getD-set-same, getD-set-other, ext-getD}
 use lib.Dec.{ltb}
 use Rattle.base.specs.Pick.{pick}
+use Rattle.base.specs.Over.{part}
+use Rattle.codes.specs.declared.varint.Unread.{Unread}
+use Rattle.codes.specs.declared.varint.Varint.{Varint}
+use Rattle.codes.specs.Varint.{varintAt}
 use Rattle.frame.specs.Open.{offsetAt}
-use Rattle.degrees.specs.declared.Degree.{Degree}
-use Rattle.degrees.specs.Degrees.{degreeIn, degreeAt}
+use Rattle.index.specs.Order.{OffsetsRise}
+use Rattle.degrees.specs.Degrees.{groupAt}
+use Rattle.group.specs.Group.{degreeOf}
 use Rattle.summary.specs.declared.tally.Tally.{Tally}
 use Rattle.summary.specs.Summary.{largest, inBucket, bucket, bucketsFrom, bucketsOf}
 use Rattle.summary.specs.Summary.Laws.{bucket-once, bucket-at, length-buckets}
 
 -- a degree that was read, 0 where there is none
-unfoldable pub degreeTold : Degree → ℕ
-degreeTold (Degree.Is d) = d
-degreeTold Degree.Bad = 0
+unfoldable pub degreeTold : Varint → ℕ
+degreeTold (Varint.Value d next) = d
+degreeTold (Varint.Bad why) = 0
 
-pub told-is : (x : Degree) (d : ℕ) → x ≡ Degree.Is d → d ≡ degreeTold x
+pub told-is : (x : Varint) (d next : ℕ) → x ≡ Varint.Value d next → d ≡ degreeTold x
 unfolding degreeTold
-told-is x d e = sym (ap degreeTold e)
+told-is x d next e = sym (ap degreeTold e)
 
-pub told-bad : (x : Degree) → x ≡ Degree.Bad → 0 ≡ degreeTold x
-unfolding degreeTold
-told-bad x e = sym (ap degreeTold e)
+-- a group's, as it is read
+pub degree-is : (g : List ℕ) (d next : ℕ) → varintAt g 0 ≡ Varint.Value d next → d ≡ degreeTold (degreeOf g)
+unfolding degreeOf
+degree-is g d next e = told-is (varintAt g 0) d next e
+
+pub degree-bad : (g : List ℕ) (why : Unread) → varintAt g 0 ≡ Varint.Bad why → 0 ≡ degreeTold (degreeOf g)
+unfolding degreeOf degreeTold
+degree-bad g why e = sym (ap degreeTold e)
 
 -- what a tally of degrees says
 unfoldable pub tallyOf : List ℕ → Tally
@@ -38,11 +48,11 @@ module _ (p o : List ℕ) (w : ℕ) where
   -- the degrees of d groups from group i on
   unfoldable pub degreesAt : ℕ → ℕ → List ℕ
   degreesAt zero i = []
-  degreesAt (suc d) i = degreeTold (degreeAt p o w i) ∷ degreesAt d (i + 1)
+  degreesAt (suc d) i = degreeTold (degreeOf (groupAt p o w i)) ∷ degreesAt d (i + 1)
 
   -- n groups have one
   abbrev pub AllTold : ℕ → Type 0
-  AllTold n = (i : ℕ) → i < n → 1 ≤ degreeTold (degreeAt p o w i)
+  AllTold n = (i : ℕ) → i < n → 1 ≤ degreeTold (degreeOf (groupAt p o w i))
 
 pub length-degreesAt : (p o : List ℕ) (w d i : ℕ) → length (degreesAt p o w d i) ≡ d
 unfolding degreesAt
@@ -98,11 +108,18 @@ module _ (p o : List ℕ) (w n : ℕ) where
     pub tallying-few : (j : ℕ) → j < 64 → getD bs j 0 ≤ n
     tallying-few j l = let c = h .counts j l in let b = bucket-le j (degreesAt p o w n 0) in let k = length-degreesAt p o w n 0 in omega arith
 
-    module _ (lt : i < n) (e d : ℕ) (q : e ≡ offsetAt o w (i + 1)) (r : d ≡ degreeTold (degreeIn p a e)) where
+    -- the group lies within the partners
+    pub tallying-lies : OffsetsRise o w n (length p) → i < n → {e : ℕ} → e ≡ offsetAt o w (i + 1) → (a ≤ e) × (e ≤ length p)
+    tallying-lies up lt q =
+        let at = h .place-is in
+        let rise = up .above i lt in
+        let end = up .within (i + 1) (omega arith) in
+        (omega arith, omega arith)
+
+    module _ (lt : i < n) (e d : ℕ) (q : e ≡ offsetAt o w (i + 1)) (r : d ≡ degreeTold (degreeOf (part p a e))) where
       -- the degree of group i
-      pub tallying-degree : d ≡ degreeTold (degreeAt p o w i)
-      unfolding degreeAt
-      tallying-degree = r ∙ ap₂ (λ (x y : ℕ). degreeTold (degreeIn p x y)) (h .place-is) q
+      pub tallying-degree : d ≡ degreeTold (degreeOf (groupAt p o w i))
+      tallying-degree = r ∙ ap₂ (λ (x y : ℕ). degreeTold (degreeOf (part p x y))) (h .place-is) q
 
       next : rest i ≡ d ∷ rest (i + 1)
       unfolding degreesAt

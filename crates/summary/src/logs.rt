@@ -1,5 +1,6 @@
 // The smallest and largest log number, in one pass.
 ghost use mathlib.Core.Path.{_≡_};
+ghost use mathlib.Core.Bool.{true};
 ghost use Prim.Native.Nat.{_+_, _-_, _*_, _≤_, _<_};
 ghost use lib.ListN.{length};
 ghost use lib.Dec.{ltb};
@@ -7,14 +8,19 @@ ghost use Rattle.base.specs.Pick.{pick};
 ghost use Rattle.codes.specs.Little.{leAt};
 ghost use Rattle.frame.specs.Kind.{logSize, mostEdges};
 ghost use Rattle.lookup.specs.Lookup.{logsFrom};
-ghost use Rattle.summary.specs.Logs.{spanOf};
-use super::tally::larger;
+ghost use Rattle.summary.specs.Logs.{spanOn, spanOf, Within};
 use codes::little::le64;
 use frame::kind::Logs;
+use std::num::wrapping_sub_u64;
 
 pub struct Span {
     pub smallest: u64,
     pub largest: u64,
+}
+
+impl Span {
+    // So many log numbers are held to a span at once.
+    pub const BLOCK: usize = 64;
 }
 
 // The smaller of two numbers.
@@ -27,19 +33,74 @@ fn smaller(x: u64, y: u64) -> u64
     x
 }
 
-// Of n log numbers, of which there is one at least.
-pub fn span_of(logs: &[u8], n: usize) -> Span
-    requires { ⌜ (1 ≤ n) × (n ≤ mostEdges) × (logSize * n ≤ length (now logs)) ⌝ }
-    ensures { λ r. ⌜ r ≡ spanOf (leAt (now (logs .entry)) 0 8) (logsFrom (n - 1) (now (logs .entry)) 1) ⌝ }
+// The larger of two numbers.
+pub fn larger(x: u64, y: u64) -> u64
+    ensures { λ r. ⌜ r ≡ pick (ltb x y) y x ⌝ }
 {
-    let mut smallest = le64(logs, 0);
-    let mut largest = smallest;
-    let mut i: usize = 1;
+    if x < y {
+        return y;
+    }
+    x
+}
+
+// A span that takes in n log numbers more, from edge e on: one by one.
+fn with_each(logs: &[u8], e: usize, n: usize, s: Span) -> Span
+    requires { ⌜ (e + n ≤ mostEdges) × (logSize * (e + n) ≤ length (now logs)) ⌝ }
+    ensures { λ r. ⌜ r ≡ spanOn s (logsFrom n (now (logs .entry)) e) ⌝ }
+{
+    let mut smallest = s.smallest;
+    let mut largest = s.largest;
+    let mut i: usize = 0;
     while i < n {
-        let log = le64(logs, (Logs::ROW as usize) * i);
+        let log = le64(logs, (Logs::ROW as usize) * (e + i));
         smallest = smaller(smallest, log);
         largest = larger(largest, log);
         i = i + 1;
     }
     Span { smallest, largest }
+}
+
+// Do the log numbers of a block from edge e on lie within a span for sure? Two at a time: no difference to either end has its
+// top bit set. A span of 2^63 or more is never sure.
+fn surely_within(logs: &[u8], e: usize, s: Span) -> bool
+    requires { ⌜ (s .smallest ≤ s .largest) × (e + 64 ≤ mostEdges) × (logSize * (e + 64) ≤ length (now logs)) ⌝ }
+    ensures { λ r. ⌜ (r ≡ true → Within (now (logs .entry)) e 64 s) ⌝ }
+{
+    let mut signs: u64 = 0;
+    let mut i: usize = 0;
+    while i < Span::BLOCK {
+        let log = le64(logs, (Logs::ROW as usize) * (e + i));
+        signs = signs | wrapping_sub_u64(log, s.smallest) | wrapping_sub_u64(s.largest, log);
+        i = i + 1;
+    }
+    signs < 0x8000_0000_0000_0000
+}
+
+// A span that takes in a block more.
+fn with_block(logs: &[u8], e: usize, s: Span) -> Span
+    requires { ⌜ (s .smallest ≤ s .largest) × (e + 64 ≤ mostEdges) × (logSize * (e + 64) ≤ length (now logs)) ⌝ }
+    ensures { λ r. ⌜ r ≡ spanOn s (logsFrom 64 (now (logs .entry)) e) ⌝ }
+{
+    if surely_within(logs, e, s) {
+        return s;
+    }
+    with_each(logs, e, Span::BLOCK, s)
+}
+
+// Of n log numbers, of which there is one at least.
+pub fn span_of(logs: &[u8], n: usize) -> Span
+    requires { ⌜ (1 ≤ n) × (n ≤ mostEdges) × (logSize * n ≤ length (now logs)) ⌝ }
+    ensures { λ r. ⌜ r ≡ spanOf (leAt (now (logs .entry)) 0 8) (logsFrom (n - 1) (now (logs .entry)) 1) ⌝ }
+{
+    let first = le64(logs, 0);
+    let mut s = Span {
+        smallest: first,
+        largest: first,
+    };
+    let mut e: usize = 1;
+    while Span::BLOCK <= n - e {
+        s = with_block(logs, e, s);
+        e = e + Span::BLOCK;
+    }
+    with_each(logs, e, n - e, s)
 }

@@ -3,15 +3,14 @@ ghost use mathlib.Core.Path.{_≡_};
 ghost use mathlib.Core.Bool.{true};
 ghost use Prim.Native.Nat.{_+_, _*_, _≤_, _<_};
 ghost use lib.ListN.{length};
-ghost use lib.Dec.{ltb};
-ghost use Rattle.base.specs.Pick.{pick};
 ghost use Rattle.frame.specs.Kind.{mostKeys};
 ghost use Rattle.index.specs.Order.{OffsetsRise};
-ghost use Rattle.degrees.specs.Degrees.{degreeIn};
+ghost use Rattle.group.specs.Group.{degreeOf};
 ghost use Rattle.summary.specs.Summary.{inBucket};
 ghost use Rattle.summary.specs.Tally.{degreeTold, degreesAt, AllTold, tallyOf};
-use degrees::Degree;
-use degrees::degree_in;
+use super::logs::larger;
+use codes::varint::Varint;
+use codes::varint::varint_at;
 use index::offsets::offset_at;
 
 // The largest degree, 0 where there is none, and the buckets.
@@ -28,24 +27,14 @@ fn bucket_of(d: u64) -> usize
     63 - (u64::leading_zeros(d) as usize)
 }
 
-// The degree of the group from a to e, 0 where it has none.
-fn degree_of(partners: &[u8], a: usize, e: usize) -> u64
-    ensures { λ r. ⌜ r ≡ degreeTold (degreeIn (now (partners .entry)) a e) ⌝ }
+// The degree that a group begins with, 0 where it has none.
+fn degree_of(g: &[u8]) -> u64
+    ensures { λ r. ⌜ r ≡ degreeTold (degreeOf (now (g .entry))) ⌝ }
 {
-    match degree_in(partners, a, e) {
-        Degree::Is { degree } => degree,
-        Degree::Bad => 0,
+    match varint_at(g, 0) {
+        Varint::Value { value, next: _ } => value,
+        Varint::Bad { why: _ } => 0,
     }
-}
-
-// The larger of two numbers.
-pub fn larger(x: u64, y: u64) -> u64
-    ensures { λ r. ⌜ r ≡ pick (ltb x y) y x ⌝ }
-{
-    if x < y {
-        return y;
-    }
-    x
 }
 
 // The tally of n groups, whose offsets rise from 0 to the partners' length and which all have a degree.
@@ -59,7 +48,7 @@ pub fn tally_of(partners: &[u8], offs: &[u8], w: usize, n: usize) -> Tally
     let mut i: usize = 0;
     while i < n {
         let e = offset_at(offs, w, i + 1) as usize;
-        let d = degree_of(partners, a, e);
+        let d = degree_of(&partners[a..e]);
         let b = bucket_of(d);
         buckets[b] = buckets[b] + 1;
         largest = larger(largest, d);

@@ -95,30 +95,23 @@ pub fn line_of(batch: &[u8]) -> String {
     let mut words = vec![
         format!("keys {} edges {}", degrees.len(), live + dead),
         format!("tombstones {dead} degree {largest}"),
+        extreme_words(&degrees, &logs).unwrap_or("without edges".to_string()),
+        "buckets".to_string(),
     ];
-    words.extend(
-        match (degrees.first_key_value(), degrees.last_key_value()) {
-            (Some((first, _)), Some((last, _))) => {
-                let (first, last) = (hex(first), hex(last));
-                let (low, high) = (logs.first().unwrap(), logs.last().unwrap());
-                [
-                    format!("from {first} to {last}"),
-                    format!("logs {low} to {high}"),
-                ]
-            }
-            _ => ["without".to_string(), "edges".to_string()],
-        },
-    );
-    words.push("buckets".to_string());
-    let degrees: Vec<u64> = degrees.into_values().collect();
-    words.extend(bucket_words(&degrees));
+    words.extend(bucket_words(degrees.into_values()));
     words.join(" ")
 }
 
-fn bucket_words(degrees: &[u64]) -> Vec<String> {
+fn extreme_words(degrees: &BTreeMap<&[u8], u64>, logs: &BTreeSet<u64>) -> Option<String> {
+    let (smallest, largest) = (degrees.first_key_value()?.0, degrees.last_key_value()?.0);
+    let (low, high) = (logs.first()?, logs.last()?);
+    let (smallest, largest) = (hex(smallest), hex(largest));
+    Some(format!("from {smallest} to {largest} logs {low} to {high}"))
+}
+
+fn bucket_words(degrees: impl IntoIterator<Item = u64>) -> Vec<String> {
     let mut buckets: BTreeMap<u32, u64> = BTreeMap::new();
-    for &degree in degrees {
-        let mut degree = degree;
+    for mut degree in degrees {
         let mut halved = 0;
         while degree > 1 {
             degree /= 2;
@@ -130,35 +123,39 @@ fn bucket_words(degrees: &[u64]) -> Vec<String> {
     buckets.into_iter().map(word).collect()
 }
 
+/// The number after a word of a line.
+fn number(line: &str, word: &str) -> u64 {
+    let mut words = line.split(' ').skip_while(|&found| found != word);
+    let number = words.nth(1).expect("a word after it");
+    number.parse().expect("a number")
+}
+
+/// The buckets that a line tells: number and keys.
+fn buckets(line: &str) -> Vec<(u32, u64)> {
+    let (_, words) = line.split_once(" buckets").expect("buckets");
+    let bucket = |word: &str| {
+        let (i, keys) = word.split_once(':')?;
+        Some((i.parse().ok()?, keys.parse().ok()?))
+    };
+    let words = words.split_whitespace();
+    words.map(|word| bucket(word).expect("I:COUNT")).collect()
+}
+
 /// What the numbers of a line say of each other: the buckets hold the keys, the
 /// edges are as many as such degrees can have, and the last bucket has the
 /// largest degree.
 fn check_sums(tally: &mut Tally, name: &str, line: &str) {
-    let words: Vec<&str> = line.split(' ').collect();
-    let number = |word: &str| -> u128 {
-        let place = words.iter().position(|&w| w == word);
-        words[place.expect("the word") + 1]
-            .parse()
-            .expect("a number")
-    };
-    let (_, buckets) = line.split_once(" buckets").expect("buckets");
-    let buckets: Vec<(u32, u128)> = buckets
-        .split_whitespace()
-        .map(|word| {
-            let (i, keys) = word.split_once(':').expect("I:COUNT");
-            (i.parse().expect("a bucket"), keys.parse().expect("a count"))
-        })
-        .collect();
-    let sum = |weight: fn(u32) -> u128| -> u128 {
+    let buckets = buckets(line);
+    let sum = |weight: fn(u32) -> u64| -> u64 {
         let weighed = buckets.iter().map(|&(i, keys)| keys * weight(i));
         weighed.sum()
     };
-    let (keys, edges) = (number("keys"), number("edges"));
-    tally.same(name, sum(|_| 1), keys);
+    let edges = number(line, "edges");
+    tally.same(name, sum(|_| 1), number(line, "keys"));
     let (least, most) = (sum(|i| 1 << i), sum(|i| (2 << i) - 1));
     tally.same(name, (least..=most).contains(&edges), true);
-    tally.same(name, number("tombstones") <= edges, true);
-    let largest = number("degree");
+    tally.same(name, number(line, "tombstones") <= edges, true);
+    let largest = number(line, "degree");
     let fits = match buckets.last() {
         None => largest == 0,
         Some(&(i, _)) => (1 << i..2 << i).contains(&largest),
@@ -175,12 +172,11 @@ fn check_degrees(tally: &mut Tally, file: &CheckFile, line: &str) {
         _ => 0,
     };
     let degrees: Vec<u64> = (0..record.key_count).map(degree).collect();
-    let sum: u64 = degrees.iter().sum();
-    let largest = degrees.iter().max().unwrap_or(&0);
-    let begin = format!("keys {} edges {sum} ", degrees.len());
-    tally.same(&file.name, line.starts_with(&begin), true);
-    let largest = format!(" degree {largest} ");
-    tally.same(&file.name, line.contains(&largest), true);
-    let buckets = [vec!["buckets".to_string()], bucket_words(&degrees)].concat();
-    tally.same(&file.name, line.ends_with(&buckets.join(" ")), true);
+    let (keys, name) = (degrees.len() as u64, &file.name);
+    tally.same(name, number(line, "keys"), keys);
+    tally.same(name, number(line, "edges"), degrees.iter().sum());
+    let largest = degrees.iter().copied().max().unwrap_or(0);
+    tally.same(name, number(line, "degree"), largest);
+    let (_, words) = line.split_once(" buckets").expect("buckets");
+    tally.same(name, words.trim(), &bucket_words(degrees).join(" "));
 }

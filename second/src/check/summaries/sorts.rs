@@ -63,7 +63,7 @@ fn degree_sorts() -> Vec<Sort> {
         }
     }
     for (word, place) in [("first", 0), ("middle", 1), ("last", 2)] {
-        let what = format!("the largest degree in the {word} group");
+        let what = format!("the largest degree in the {word} group only");
         sorts.push(sort(what, move |groups| {
             only_in(groups, place, largest_degree)
         }));
@@ -75,11 +75,12 @@ fn largest_degree(groups: &[Group]) -> Option<u64> {
     groups.iter().map(|group| degree(group) as u64).max()
 }
 
-/// Does this hold only of the first group, of one between, or of the last?
+/// Is this number of all groups that of one group alone: of the first (0), of
+/// one between (1), or of the last (2)?
 fn only_in(groups: &[Group], place: usize, of: fn(&[Group]) -> Option<u64>) -> bool {
     let n = groups.len();
-    let holds = |group: &Group| of(std::slice::from_ref(group)) == of(groups);
-    let places: Vec<usize> = (0..n).filter(|&i| holds(&groups[i])).collect();
+    let has_it = |&i: &usize| of(&groups[i..=i]) == of(groups);
+    let places: Vec<usize> = (0..n).filter(has_it).collect();
     let [at] = places[..] else {
         return false;
     };
@@ -108,8 +109,8 @@ fn largest_log(groups: &[Group]) -> Option<u64> {
     edges(groups).map(|edge| edge.log).max()
 }
 
-/// The ends of the log numbers as one edge alone and as the first, the last and
-/// one in a middle group; and extremes of one group only.
+/// The ends of the log numbers, of one edge alone, and of the first, the last and
+/// one in a middle group among others; and extremes of one group only.
 fn log_sorts() -> Vec<Sort> {
     let mut sorts = Vec::new();
     for end in [0, u64::MAX] {
@@ -118,15 +119,16 @@ fn log_sorts() -> Vec<Sort> {
             sorts.push(sort(what, move |groups| is(groups, end)));
         };
         add("alone", |groups, end| logs(groups) == [end]);
-        add("first only", |groups, end| places(groups, end) == [0]);
-        add("last only", |groups, end| {
-            let n = logs(groups).len();
-            n > 1 && places(groups, end) == [n - 1]
+        add("first only", |groups, end| {
+            groups.len() > 2 && places(groups, end) == [0]
         });
-        add("in the middle group only", |groups, end| {
-            groups.len() == 3
-                && [0, 2].map(|i| places(&groups[i..=i], end).len()) == [0, 0]
-                && !places(groups, end).is_empty()
+        add("last only", |groups, end| {
+            groups.len() > 2 && places(groups, end) == [logs(groups).len() - 1]
+        });
+        add("in a middle group only", |groups, end| {
+            let places_in = |i: usize| places(&groups[i..=i], end).len();
+            let n = groups.len();
+            n > 2 && places(groups, end).len() == 1 && places_in(0) + places_in(n - 1) == 0
         });
     }
     for (word, of) in [
@@ -166,8 +168,8 @@ fn dead_sorts() -> Vec<Sort> {
             let what = format!("more than 8 edges, {rest} modulo 8, {what} dead");
             sorts.push(sort(what, move |groups| {
                 let n = edges(groups).count();
-                let dead: Vec<usize> = dead_places(groups);
-                n > 8 && n % 8 == rest && dead.into_iter().eq(first_dead(n)..n)
+                let dead = dead_places(groups).into_iter();
+                n > 8 && n % 8 == rest && dead.eq(first_dead(n)..n)
             }));
         };
         add("all", |_| 0);

@@ -1,50 +1,50 @@
 -- `summary::logs::span_of` meets its contract.
 use Prim.Native.Nat.{_-_}
 use native.Mathlib.Omega.{arith}
-use Rattle.summary.specs.Logs.{Spanning, spanning-start, spanning-on, spanning-end}
+use Rattle.summary.specs.Logs.{Blocks, blocks-start, blocks-on, blocks-end}
 use borrow.Author.Needs.{needs}
 use Rattle.summary.proofs.logs.span_of.Statement.{statement}
 use Rattle.summary.proofs.logs.span_of.Tie as tie
 
 abbrev Inv-loop : tie.InvT-loop
-Inv-loop logs n smallest₀ largest₀ i₀ smallest largest i = Spanning logs n smallest largest i
+Inv-loop logs n first s₀ e₀ s e = Blocks logs n s e
 
 abbrev μ-loop : tie.MeasureT-loop
-μ-loop logs n smallest₀ largest₀ i₀ smallest largest i = n - i
+μ-loop logs n first s₀ e₀ s e = n - e
 
 le64-requires : tie.Need-le64-requires Inv-loop μ-loop
 le64-requires c κs = omega arith
 
 loop-holds : tie.Need-loop-holds Inv-loop μ-loop
-loop-holds c = let a = c .before .before .args in spanning-start (a .logs .now) (a .n) (omega arith) (c .le64 .ensures)
+loop-holds c = let a = c .before .before .args in blocks-start (a .logs .now) (a .n) (omega arith) (c .le64 .ensures)
 
-mul-le64 : tie.Need-mul-le64 Inv-loop μ-loop
-mul-le64 c = omega arith
+sub-loop : tie.Need-sub-loop Inv-loop μ-loop
+sub-loop c = c .loop .inv .most
 
-le64-requires-2 : tie.Need-le64-requires-2 Inv-loop μ-loop
-le64-requires-2 c κs = omega arith
+with-block-requires : tie.Need-with-block-requires Inv-loop μ-loop
+with-block-requires c κs = let most = c .before .loop .inv .most in (c .before .loop .inv .ends, omega arith, omega arith)
 
-smaller-requires : tie.Need-smaller-requires Inv-loop μ-loop
-smaller-requires c κs = search needs
-
-larger-requires : tie.Need-larger-requires Inv-loop μ-loop
-larger-requires c κs = search needs
-
-add-i : tie.Need-add-i Inv-loop μ-loop
-add-i c = omega arith
+add-e : tie.Need-add-e Inv-loop μ-loop
+add-e c = let most = c .before .before .loop .inv .most in omega arith
 
 loop-less : tie.Need-loop-less Inv-loop μ-loop
-loop-less c = omega arith
+loop-less c = let most = c .before .before .loop .inv .most in omega arith
 
 loop-again : tie.Need-loop-again Inv-loop μ-loop
-loop-again c = let a = c .before .before .before .before .before .before .before .args in
-    let l = c .before .before .before .before .loop in
-    spanning-on (a .logs .now) (a .n) (l .smallest) (l .largest) (l .i) (l .inv) (omega arith) (c .before .before .le642 .ensures) (c .before .smaller .ensures) (c .larger .ensures)
+loop-again c = let a = c .before .before .before .before .before .args in
+    let l = c .before .before .loop in
+    blocks-on (a .logs .now) (a .n) (l .s) (l .e) (l .inv) (omega arith) (c .with-block .ensures)
+
+sub-with-each : tie.Need-sub-with-each Inv-loop μ-loop
+sub-with-each c = c .before .loop .inv .most
+
+with-each-requires : tie.Need-with-each-requires Inv-loop μ-loop
+with-each-requires c κs = let most = c .before .loop .inv .most in (omega arith, omega arith)
 
 returns : tie.Need-returns Inv-loop μ-loop
-returns c = let a = c .before .before .before .before .args in
-    let l = c .before .loop in
-    spanning-end (a .logs .now) (a .n) (l .smallest) (l .largest) (l .i) (l .inv) (omega arith)
+returns c = let a = c .before .before .before .before .before .args in
+    let l = c .before .before .loop in
+    blocks-end (a .logs .now) (a .n) (l .s) (l .e) (l .inv) (c .with-each .ensures)
 
 pub span-of-spec : {M : Type 1} → statement M
 span-of-spec =
@@ -54,11 +54,11 @@ span-of-spec =
     μ-loop
     le64-requires
     loop-holds
-    mul-le64
-    le64-requires-2
-    smaller-requires
-    larger-requires
-    add-i
+    sub-loop
+    with-block-requires
+    add-e
     loop-less
     loop-again
+    sub-with-each
+    with-each-requires
     returns)

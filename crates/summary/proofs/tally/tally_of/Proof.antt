@@ -2,11 +2,18 @@
 use mathlib.Core.Path.{sym, _∙_}
 use Prim.Native.Nat.{_+_, _-_, _*_, _≤_}
 use native.Mathlib.Nat.{mul-le-mul-right}
+use lib.ListN.{length}
 use native.Mathlib.Omega.{arith}
-use Rattle.summary.specs.Tally.{Tallying, tallying-start, tallying-few, tallying-degree, tallying-on, tallying-end}
+use Rattle.summary.specs.Tally.{Tallying, tallying-start, tallying-few, tallying-lies, tallying-degree, tallying-on, tallying-end}
 use borrow.Author.Needs.{needs}
 use Rattle.summary.proofs.tally.tally_of.Statement.{statement}
 use Rattle.summary.proofs.tally.tally_of.Tie as tie
+use Rattle.summary.proofs.tally.tally_of.Reads as reads
+use Rattle.summary.proofs.tally.tally_of.Lts as lts
+use Rattle.index.proofs.offsets.offset_at.Reads as offset-at-reads
+use Rattle.summary.proofs.tally.bucket_of.Reads as bucket-of-reads
+use Rattle.summary.proofs.tally.degree_of.Reads as degree-of-reads
+use Rattle.summary.proofs.logs.larger.Reads as larger-reads
 
 abbrev Inv-loop : tie.InvT-loop
 Inv-loop partners offs w n largest₀ buckets₀ a₀ i₀ largest buckets a i = Tallying partners offs w n largest buckets a i
@@ -20,20 +27,37 @@ loop-holds c = let s = c .before .before in let a = s .args in tallying-start (a
 add-offset-at : tie.Need-add-offset-at Inv-loop μ-loop
 add-offset-at c = omega arith
 
+-- the group that is next lies within the partners
+lies : (c : lts.After-offset-at (offset-at-reads.Asked, offset-at-reads.Learnt, degree-of-reads.Asked, degree-of-reads.Learnt, bucket-of-reads.Asked, bucket-of-reads.Learnt, larger-reads.Asked, larger-reads.Learnt) reads.Pre reads.Post Inv-loop μ-loop)
+    → (c .before .before .loop .a ≤ c .offset-at .result) × (c .offset-at .result ≤ length (c .before .before .before .before .before .args .partners .now))
+lies c = let s = c .before .before .before .before .before in
+    let a = s .args in
+    let l = c .before .before .loop in
+    tallying-lies (a .partners .now) (a .offs .now) (a .w) (a .n) (l .largest) (l .buckets) (l .a) (l .i) (l .inv) (s .pre .4) (omega arith) (c .offset-at .ensures .0)
+
 offset-at-requires : tie.Need-offset-at-requires Inv-loop μ-loop
 offset-at-requires c κs = let a = c .before .before .before .before .args in
     let l = c .before .loop in
     let m : (l .i + 1 + 1) * a .w ≤ (a .n + 1) * a .w = mul-le-mul-right (a .w) (omega arith) in
     (search needs, search needs, omega arith, omega arith)
 
+sub-degree-of : tie.Need-sub-degree-of Inv-loop μ-loop
+sub-degree-of c = let r = lies c in omega arith
+
+part-degree-of-start : tie.Need-part-degree-of-start Inv-loop μ-loop
+part-degree-of-start c = let r = lies c in omega arith
+
+part-degree-of-end : tie.Need-part-degree-of-end Inv-loop μ-loop
+part-degree-of-end c = let r = lies c in omega arith
+
 degree-of-requires : tie.Need-degree-of-requires Inv-loop μ-loop
 degree-of-requires c κs = search needs
 
 bucket-of-requires : tie.Need-bucket-of-requires Inv-loop μ-loop
-bucket-of-requires c κs = let s = c .before .before .before .before .before .before in
+bucket-of-requires c κs = let s = c .before .before .before .before .before .before .before in
     let a = s .args in
-    let l = c .before .before .before .loop in
-    let d = tallying-degree (a .partners .now) (a .offs .now) (a .w) (a .n) (l .largest) (l .buckets) (l .a) (l .i) (l .inv) (omega arith) _ _ (c .before .offset-at .ensures .0) (c .degree-of .ensures) in
+    let l = c .before .before .before .before .loop in
+    let d = tallying-degree (a .partners .now) (a .offs .now) (a .w) (a .n) (l .largest) (l .buckets) (l .a) (l .i) (l .inv) (omega arith) _ _ (c .before .before .offset-at .ensures .0) (c .degree-of .ensures) in
     let told = s .pre .5 (l .i) (omega arith) in
     omega arith
 
@@ -44,8 +68,8 @@ array-read-buckets : tie.Need-array-read-buckets Inv-loop μ-loop
 array-read-buckets c = omega arith
 
 add-buckets : tie.Need-add-buckets Inv-loop μ-loop
-add-buckets c = let a = c .before .before .before .before .before .before .before .args in
-    let l = c .before .before .before .before .loop in
+add-buckets c = let a = c .before .before .before .before .before .before .before .before .args in
+    let l = c .before .before .before .before .before .loop in
     let few = tallying-few (a .partners .now) (a .offs .now) (a .w) (a .n) (l .largest) (l .buckets) (l .a) (l .i) (l .inv) (c .bucket-of .result) (c .bucket-of .ensures .0) in
     omega arith
 
@@ -65,11 +89,11 @@ loop-less : tie.Need-loop-less Inv-loop μ-loop
 loop-less c = omega arith
 
 loop-again : tie.Need-loop-again Inv-loop μ-loop
-loop-again c = let a = c .before .before .before .before .before .before .before .before .args in
-    let l = c .before .before .before .before .before .loop in
+loop-again c = let a = c .before .before .before .before .before .before .before .before .before .args in
+    let l = c .before .before .before .before .before .before .loop in
     let b = c .before .bucket-of in
     tallying-on (a .partners .now) (a .offs .now) (a .w) (a .n) (l .largest) (l .buckets) (l .a) (l .i) (l .inv) (omega arith) _ _
-    (c .before .before .before .offset-at .ensures .0) (c .before .before .degree-of .ensures) (b .result) (b .ensures .0) (b .ensures .1) (c .larger .ensures)
+    (c .before .before .before .before .offset-at .ensures .0) (c .before .before .degree-of .ensures) (b .result) (b .ensures .0) (b .ensures .1) (c .larger .ensures)
 
 returns : tie.Need-returns Inv-loop μ-loop
 returns c = let a = c .before .before .before .before .args in
@@ -85,6 +109,9 @@ tally-of-spec =
     loop-holds
     add-offset-at
     offset-at-requires
+    sub-degree-of
+    part-degree-of-start
+    part-degree-of-end
     degree-of-requires
     bucket-of-requires
     mul-buckets
