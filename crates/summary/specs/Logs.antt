@@ -1,13 +1,13 @@
 -- The pass over the log numbers.
 use mathlib.Core.Path.{_≡_, refl, sym, ap, ap₂, _∙_}
-use Prim.Native.Nat.{ℕ, zero, suc, _+_, _-_, _*_, _%_, _^_, _≤_, _<_}
+use Prim.Native.Nat.{ℕ, zero, suc, _+_, _-_, _*_, _/_, _%_, _^_, _≤_, _<_}
 use native.Mathlib.Nat.{le-refl, add-zero, zero-add, sub-zero}
 use native.Mathlib.Omega.{arith}
 use native.Mathlib.Decide.{decLt, decLe}
 use mathlib.Core.List.{List, [], _∷_}
 use mathlib.Core.Bool.{Bool, true, false}
 use lib.Dec.{ltb}
-use lib.Bits.{bitOr, bitAnd, or-add-and, and-le-l, and-le-r}
+use lib.Bits.{bitOr, bitAnd, or-add-and, and-le-l, and-le-r, and-shr}
 use borrow.Author.Tests.{le-ltb, ltb-true, ltb-false}
 use Rattle.base.specs.Pick.{pick}
 use Rattle.codes.specs.Little.{leAt}
@@ -62,9 +62,12 @@ module _ (s : List ℕ) (e n : ℕ) (t : Span) where
 
 -- ---- a block that lies within a span
 
+abbrev pub InSpan : ℕ → Span → Type 0
+InSpan x t = (t .smallest ≤ x) × (x ≤ t .largest)
+
 -- n log numbers from edge e on do
 abbrev pub Within : List ℕ → ℕ → ℕ → Span → Type 0
-Within s e n t = (i : ℕ) → i < n → (t .smallest ≤ leAt s (8 * (e + i)) 8) × (leAt s (8 * (e + i)) 8 ≤ t .largest)
+Within s e n t = (i : ℕ) → i < n → InSpan (leAt s (8 * (e + i)) 8) t
 
 -- they leave the span as it is
 within-same : (n : ℕ) (s : List ℕ) (e : ℕ) (t : Span) → Within s e n t → spanOn t (logsFrom n s e) ≡ t
@@ -81,7 +84,7 @@ within-same (suc n) s e t h =
 pub block-same : (s : List ℕ) (e : ℕ) (t : Span) → Within s e 64 t → t ≡ spanOn t (logsFrom 64 s e)
 block-same s e t h = sym (within-same 64 s e t h)
 
--- ---- differences without a top bit
+-- ---- differences to the ends, modulo 2^64: a is x less the smaller end, b the larger end less x
 
 or-left : (a b : ℕ) → a ≤ bitOr a b
 or-left a b = let sum = or-add-and a b in let r = and-le-r a b in omega arith
@@ -89,9 +92,25 @@ or-left a b = let sum = or-add-and a b in let r = and-le-r a b in omega arith
 or-right : (a b : ℕ) → b ≤ bitOr a b
 or-right a b = let sum = or-add-and a b in let l = and-le-l a b in omega arith
 
--- x is between two ends if neither difference, modulo 2^64, has its top bit set
-between-ends : (low high x a b : ℕ) → low ≤ high → low < 2 ^ 64 → high < 2 ^ 64 → x < 2 ^ 64 → a < 2 ^ 63 → b < 2 ^ 63 → (a + low) % 2 ^ 64 ≡ x → (b + x) % 2 ^ 64 ≡ high → (low ≤ x) × (x ≤ high)
-between-ends low high x a b le fl fh fx la lb p q = (omega arith, omega arith)
+module _ (t : Span) (x a b : ℕ) (fl : t .smallest < 2 ^ 64) (fh : t .largest < 2 ^ 64) (fx : x < 2 ^ 64) (p : (a + t .smallest) % 2 ^ 64 ≡ x) (q : (b + x) % 2 ^ 64 ≡ t .largest) where
+  -- neither has its top bit set
+  pub narrow-sure : t .smallest ≤ t .largest → bitOr a b < 2 ^ 63 → InSpan x t
+  narrow-sure le small = let l = or-left a b in let r = or-right a b in (omega arith, omega arith)
+
+  -- not both have
+  pub wide-sure : t .smallest + 2 ^ 63 ≤ t .largest → a < 2 ^ 64 → b < 2 ^ 64 → bitAnd a b < 2 ^ 63 → InSpan x t
+  wide-sure le fa fb small = elim (decLt a (2 ^ 63)) [
+    | yes h ↦ (omega arith, omega arith)
+    | no h ↦ elim (decLt b (2 ^ 63)) [
+      | yes k ↦ (omega arith, omega arith)
+      | no k ↦
+          let top : bitAnd a b / 2 ^ 63 ≡ bitAnd (a / 2 ^ 63) (b / 2 ^ 63) = and-shr a b 63 in
+          let one : a / 2 ^ 63 ≡ 1 = omega arith in
+          let two : b / 2 ^ 63 ≡ 1 = omega arith in
+          let both : bitAnd (a / 2 ^ 63) (b / 2 ^ 63) ≡ 1 = ap₂ bitAnd one two in
+          absurd (omega arith)
+    ]
+  ]
 
 -- i of the block's log numbers are passed: where no top bit was met they lie within
 pub record Signs (s : List ℕ) (e : ℕ) (t : Span) (signs i : ℕ) : Type 0 where
@@ -102,22 +121,18 @@ pub signs-start : (s : List ℕ) (e : ℕ) (t : Span) → Signs s e t 0 0
 signs-start s e t = record { most = omega arith; sure = λ h i l. absurd (omega arith) }
 
 module _ (s : List ℕ) (e : ℕ) (t : Span) (signs i : ℕ) (h : Signs s e t signs i) where
-  pub signs-on : i < 64 → t .smallest ≤ t .largest → t .smallest < 2 ^ 64 → t .largest < 2 ^ 64 → (x a b : ℕ) → x ≡ leAt s (8 * (e + i)) 8 → x < 2 ^ 64
-      → (a + t .smallest) % 2 ^ 64 ≡ x → (b + x) % 2 ^ 64 ≡ t .largest → Signs s e t (bitOr (bitOr signs a) b) (i + 1)
-  signs-on lt le fl fh x a b q fx p r = record {
+  pub signs-on : i < 64 → (x v : ℕ) → x ≡ leAt s (8 * (e + i)) 8 → (v < 2 ^ 63 → InSpan x t) → Signs s e t (bitOr signs v) (i + 1)
+  signs-on lt x v q here = record {
     most = omega arith;
     sure = λ small j l.
-        let inner = or-left (bitOr signs a) b in
-        let last = or-right (bitOr signs a) b in
-        let old = or-left signs a in
-        let first = or-right signs a in
+        let old = or-left signs v in
+        let last = or-right signs v in
         elim (decLt j i) [
           | yes k ↦ h .sure (omega arith) j k
           | no k ↦
               let same : j ≡ i = omega arith in
-              let here = between-ends (t .smallest) (t .largest) x a b le fl fh fx (omega arith) (omega arith) p r in
               let at : leAt s (8 * (e + j)) 8 ≡ x = ap (λ (y : ℕ). leAt s (8 * (e + y)) 8) same ∙ sym q in
-              rw at here
+              rw at (here (omega arith))
         ];
   }
 

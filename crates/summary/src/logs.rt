@@ -1,14 +1,14 @@
 // The smallest and largest log number, in one pass.
 ghost use mathlib.Core.Path.{_≡_};
 ghost use mathlib.Core.Bool.{true};
-ghost use Prim.Native.Nat.{_+_, _-_, _*_, _≤_, _<_};
+ghost use Prim.Native.Nat.{_+_, _-_, _*_, _^_, _≤_, _<_};
 ghost use lib.ListN.{length};
 ghost use lib.Dec.{ltb};
 ghost use Rattle.base.specs.Pick.{pick};
 ghost use Rattle.codes.specs.Little.{leAt};
 ghost use Rattle.frame.specs.Kind.{logSize, mostEdges};
 ghost use Rattle.lookup.specs.Lookup.{logsFrom};
-ghost use Rattle.summary.specs.Logs.{spanOn, spanOf, Within};
+ghost use Rattle.summary.specs.Logs.{spanOn, spanOf, InSpan, Within};
 use codes::little::le64;
 use frame::kind::Logs;
 use std::num::wrapping_sub_u64;
@@ -21,6 +21,9 @@ pub struct Span {
 impl Span {
     // So many log numbers are held to a span at once.
     pub const BLOCK: usize = 64;
+
+    // The top bit of a number.
+    pub const TOP: u64 = 0x8000_0000_0000_0000;
 }
 
 // The smaller of two numbers.
@@ -60,20 +63,59 @@ fn with_each(logs: &[u8], e: usize, n: usize, s: Span) -> Span
     Span { smallest, largest }
 }
 
-// Do the log numbers of a block from edge e on lie within a span for sure? Two at a time: no difference to either end has its
-// top bit set. A span of 2^63 or more is never sure.
-fn surely_within(logs: &[u8], e: usize, s: Span) -> bool
+// Without a top bit x lies within a span: neither difference to its ends went below 0. Of a span below 2^63 that is exact.
+fn narrow_sign(x: u64, s: Span) -> u64
+    requires { ⌜ s .smallest ≤ s .largest ⌝ }
+    ensures { λ r. ⌜ (r < 2 ^ 63 → InSpan x s) ⌝ }
+{
+    wrapping_sub_u64(x, s.smallest) | wrapping_sub_u64(s.largest, x)
+}
+
+// The same of a span of 2^63 or more, where one difference may be large, and both are where x lies outside.
+fn wide_sign(x: u64, s: Span) -> u64
+    requires { ⌜ s .smallest + 2 ^ 63 ≤ s .largest ⌝ }
+    ensures { λ r. ⌜ (r < 2 ^ 63 → InSpan x s) ⌝ }
+{
+    wrapping_sub_u64(x, s.smallest) & wrapping_sub_u64(s.largest, x)
+}
+
+// Do the log numbers of a block from edge e on lie within a span? The compiler takes two at a time.
+fn narrow_within(logs: &[u8], e: usize, s: Span) -> bool
     requires { ⌜ (s .smallest ≤ s .largest) × (e + 64 ≤ mostEdges) × (logSize * (e + 64) ≤ length (now logs)) ⌝ }
     ensures { λ r. ⌜ (r ≡ true → Within (now (logs .entry)) e 64 s) ⌝ }
 {
     let mut signs: u64 = 0;
     let mut i: usize = 0;
     while i < Span::BLOCK {
-        let log = le64(logs, (Logs::ROW as usize) * (e + i));
-        signs = signs | wrapping_sub_u64(log, s.smallest) | wrapping_sub_u64(s.largest, log);
+        signs = signs | narrow_sign(le64(logs, (Logs::ROW as usize) * (e + i)), s);
         i = i + 1;
     }
-    signs < 0x8000_0000_0000_0000
+    signs < Span::TOP
+}
+
+// The same of a span of 2^63 or more.
+fn wide_within(logs: &[u8], e: usize, s: Span) -> bool
+    requires { ⌜ (s .smallest + 2 ^ 63 ≤ s .largest) × (e + 64 ≤ mostEdges) × (logSize * (e + 64) ≤ length (now logs)) ⌝ }
+    ensures { λ r. ⌜ (r ≡ true → Within (now (logs .entry)) e 64 s) ⌝ }
+{
+    let mut signs: u64 = 0;
+    let mut i: usize = 0;
+    while i < Span::BLOCK {
+        signs = signs | wide_sign(le64(logs, (Logs::ROW as usize) * (e + i)), s);
+        i = i + 1;
+    }
+    signs < Span::TOP
+}
+
+// The same of any span.
+fn within(logs: &[u8], e: usize, s: Span) -> bool
+    requires { ⌜ (s .smallest ≤ s .largest) × (e + 64 ≤ mostEdges) × (logSize * (e + 64) ≤ length (now logs)) ⌝ }
+    ensures { λ r. ⌜ (r ≡ true → Within (now (logs .entry)) e 64 s) ⌝ }
+{
+    if s.largest - s.smallest < Span::TOP {
+        return narrow_within(logs, e, s);
+    }
+    wide_within(logs, e, s)
 }
 
 // A span that takes in a block more.
@@ -81,7 +123,7 @@ fn with_block(logs: &[u8], e: usize, s: Span) -> Span
     requires { ⌜ (s .smallest ≤ s .largest) × (e + 64 ≤ mostEdges) × (logSize * (e + 64) ≤ length (now logs)) ⌝ }
     ensures { λ r. ⌜ r ≡ spanOn s (logsFrom 64 (now (logs .entry)) e) ⌝ }
 {
-    if surely_within(logs, e, s) {
+    if within(logs, e, s) {
         return s;
     }
     with_each(logs, e, Span::BLOCK, s)

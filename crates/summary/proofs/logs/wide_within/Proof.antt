@@ -1,11 +1,11 @@
--- `summary::logs::surely_within` meets its contract.
+-- `summary::logs::wide_within` meets its contract.
 use Prim.Native.Nat.{_-_, _^_}
 use native.Mathlib.Omega.{arith}
 use Rattle.summary.specs.Logs.{Signs, signs-start, signs-on, signs-end}
 use borrow.Author.Needs.{needs}
 use borrow.Author.Tests.{ltb-true}
-use Rattle.summary.proofs.logs.surely_within.Statement.{statement}
-use Rattle.summary.proofs.logs.surely_within.Tie as tie
+use Rattle.summary.proofs.logs.wide_within.Statement.{statement}
+use Rattle.summary.proofs.logs.wide_within.Tie as tie
 
 abbrev Inv-loop : tie.InvT-loop
 Inv-loop logs e s signs₀ i₀ signs i = Signs logs e s signs i
@@ -25,11 +25,8 @@ mul-le64 c = omega arith
 le64-requires : tie.Need-le64-requires Inv-loop μ-loop
 le64-requires c κs = omega arith
 
-wrapping-sub-u64-requires : tie.Need-wrapping-sub-u64-requires Inv-loop μ-loop
-wrapping-sub-u64-requires c κs = search needs
-
-wrapping-sub-u64-requires-2 : tie.Need-wrapping-sub-u64-requires-2 Inv-loop μ-loop
-wrapping-sub-u64-requires-2 c κs = search needs
+wide-sign-requires : tie.Need-wide-sign-requires Inv-loop μ-loop
+wide-sign-requires c κs = search needs
 
 add-i : tie.Need-add-i Inv-loop μ-loop
 add-i c = omega arith
@@ -38,18 +35,17 @@ loop-less : tie.Need-loop-less Inv-loop μ-loop
 loop-less c = omega arith
 
 loop-again : tie.Need-loop-again Inv-loop μ-loop
-loop-again c = let s = c .before .before .before .before .before .before in
-    let a = s .args in
-    let l = c .before .before .before .before .loop in
-    signs-on (a .logs .now) (a .e) (a .s) (l .signs) (l .i) (l .inv) (omega arith) (s .pre .0) (omega arith) (omega arith) _ _ _ (c .before .before .le64 .ensures) (omega arith) (c .before .wrapping-sub-u64 .ensures) (c .wrapping-sub-u642 .ensures)
+loop-again c = let a = c .before .before .before .before .before .args in
+    let l = c .before .before .before .loop in
+    signs-on (a .logs .now) (a .e) (a .s) (l .signs) (l .i) (l .inv) (omega arith) _ _ (c .before .le64 .ensures) (c .wide-sign .ensures)
 
 returns : tie.Need-returns Inv-loop μ-loop
 returns c = let a = c .before .before .before .args in
     let l = c .before .loop in
     λ small. signs-end (a .logs .now) (a .e) (a .s) (l .signs) (l .i) (l .inv) (omega arith) (ltb-true (l .signs) (2 ^ 63) small)
 
-pub surely-within-spec : {M : Type 1} → statement M
-surely-within-spec =
+pub wide-within-spec : {M : Type 1} → statement M
+wide-within-spec =
     tie.close
     (tie.spec
     Inv-loop
@@ -58,8 +54,7 @@ surely-within-spec =
     add-le64
     mul-le64
     le64-requires
-    wrapping-sub-u64-requires
-    wrapping-sub-u64-requires-2
+    wide-sign-requires
     add-i
     loop-less
     loop-again
