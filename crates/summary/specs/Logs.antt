@@ -1,5 +1,6 @@
 -- The pass over the log numbers.
-use mathlib.Core.Path.{_≡_, refl, sym, ap, ap₂, _∙_}
+use mathlib.Core.Path.{_≡_, refl, sym, ap, ap₂, subst, _∙_}
+use mathlib.Core.Logic.{_⊎_, inl, inr, ⊎-elim}
 use Prim.Native.Nat.{ℕ, zero, suc, _+_, _-_, _*_, _/_, _%_, _^_, _≤_, _<_}
 use native.Mathlib.Nat.{le-refl, add-zero, zero-add, sub-zero}
 use native.Mathlib.Omega.{arith}
@@ -8,12 +9,13 @@ use mathlib.Core.List.{List, [], _∷_}
 use mathlib.Core.Bool.{Bool, true, false}
 use lib.Dec.{ltb}
 use lib.Bits.{bitOr, bitAnd, or-add-and, and-le-l, and-le-r, and-shr}
-use borrow.Author.Tests.{le-ltb, ltb-true, ltb-false}
+use borrow.Author.Tests.{lt-ltb, le-ltb, ltb-false}
 use Rattle.base.specs.Pick.{pick}
 use Rattle.codes.specs.Little.{leAt}
 use Rattle.lookup.specs.Lookup.{logsFrom}
 use Rattle.summary.specs.declared.logs.Span.{Span}
 use Rattle.summary.specs.Summary.{smallest, largest}
+use Rattle.summary.specs.Summary.Laws.{Among, Smallest, Largest, smallest-is, largest-is, smallest-one, largest-one}
 
 -- a span that takes in numbers more
 unfoldable pub spanOn : Span → List ℕ → Span
@@ -23,42 +25,75 @@ spanOn s xs = record { smallest = smallest (s .smallest) xs; largest = largest (
 unfoldable pub spanOf : ℕ → List ℕ → Span
 spanOf x xs = record { smallest = smallest x xs; largest = largest x xs }
 
--- ---- the log numbers s, one by one: i of n from edge e on are passed
+-- ---- one number more
+
+-- a span's ends are in order, whatever it takes in
+ends-each : (xs : List ℕ) (low high : ℕ) → low ≤ high → smallest low xs ≤ largest high xs
+unfolding smallest largest
+ends-each [] low high h = h
+ends-each (x ∷ xs) low high h = ends-each xs (pick (ltb x low) x low) (pick (ltb high x) x high) (go (ltb x low) (ltb high x) refl refl)
+  where
+    go : (a b : Bool) → ltb x low ≡ a → ltb high x ≡ b → pick a x low ≤ pick b x high
+    go true true p q = le-refl x
+    go true false p q = ltb-false high x q
+    go false true p q = ltb-false x low p
+    go false false p q = h
+
+pub span-ends : (t : Span) (xs : List ℕ) → t .smallest ≤ t .largest → {u : Span} → u ≡ spanOn t xs → u .smallest ≤ u .largest
+unfolding spanOn
+span-ends t xs h q = rw q (ends-each xs (t .smallest) (t .largest) h)
+
+module _ (t : Span) (x : ℕ) (h : t .smallest ≤ t .largest) where
+  pub one-below : x < t .smallest → record { smallest = x; largest = t .largest } ≡ spanOn t (x ∷ [])
+  unfolding spanOn smallest largest
+  one-below l = rw (lt-ltb x (t .smallest) l, le-ltb (t .largest) x (omega arith))
+
+  pub one-above : t .largest < x → record { smallest = t .smallest; largest = x } ≡ spanOn t (x ∷ [])
+  unfolding spanOn smallest largest
+  one-above l = rw (le-ltb x (t .smallest) (omega arith), lt-ltb (t .largest) x l)
+
+  pub one-within : t .smallest ≤ x → x ≤ t .largest → t ≡ spanOn t (x ∷ [])
+  unfolding spanOn smallest largest
+  one-within a b = rw (le-ltb x (t .smallest) a, le-ltb (t .largest) x b)
+
+-- two numbers, one after the other
+pub span-two : (t : Span) (a b x y : ℕ) {u v : Span} → x ≡ a → y ≡ b → u ≡ spanOn t (x ∷ []) → v ≡ spanOn u (y ∷ []) → v ≡ spanOn t (a ∷ b ∷ [])
+unfolding spanOn smallest largest
+span-two t a b x y p q m n = n ∙ (λ i. spanOn ((m ∙ ap (λ (z : ℕ). spanOn t (z ∷ [])) p) i) (q i ∷ []))
+
+-- ---- the log numbers s, one by one: i of n from edge e on are taken in
 
 module _ (s : List ℕ) (e n : ℕ) (t : Span) where
-  pub record Spanning (low high i : ℕ) : Type 0 where
+  pub record Spanning (u : Span) (i : ℕ) : Type 0 where
     pub most : i ≤ n
-    pub left-low : smallest low (logsFrom (n - i) s (e + i)) ≡ smallest (t .smallest) (logsFrom n s e)
-    pub left-high : largest high (logsFrom (n - i) s (e + i)) ≡ largest (t .largest) (logsFrom n s e)
+    pub ends : u .smallest ≤ u .largest
+    pub left : spanOn u (logsFrom (n - i) s (e + i)) ≡ spanOn t (logsFrom n s e)
 
-  pub spanning-start : Spanning (t .smallest) (t .largest) 0
-  spanning-start = record {
+  pub spanning-start : t .smallest ≤ t .largest → Spanning t 0
+  spanning-start h = record {
     most = omega arith;
-    left-low = ap₂ (λ (x y : ℕ). smallest (t .smallest) (logsFrom x s y)) (sub-zero n) (add-zero e);
-    left-high = ap₂ (λ (x y : ℕ). largest (t .largest) (logsFrom x s y)) (sub-zero n) (add-zero e);
+    ends = h;
+    left = ap₂ (λ (x y : ℕ). spanOn t (logsFrom x s y)) (sub-zero n) (add-zero e);
   }
 
-  module _ (low high i : ℕ) (h : Spanning low high i) where
-    pub spanning-on : i < n → {x low′ high′ : ℕ} → x ≡ leAt s (8 * (e + i)) 8 → low′ ≡ pick (ltb x low) x low → high′ ≡ pick (ltb high x) x high → Spanning low′ high′ (i + 1)
-    unfolding logsFrom smallest largest
-    spanning-on lt q a b =
+  module _ (u : Span) (i : ℕ) (h : Spanning u i) where
+    pub spanning-on : i < n → {x : ℕ} {v : Span} → x ≡ leAt s (8 * (e + i)) 8 → v ≡ spanOn u (x ∷ []) → Spanning v (i + 1)
+    unfolding spanOn logsFrom smallest largest
+    spanning-on lt {x} q r =
         let more : n - i ≡ suc (n - (i + 1)) = omega arith in
         let next : e + (i + 1) ≡ e + i + 1 = omega arith in
         record {
           most = omega arith;
-          left-low = ap₂ (λ (u v : ℕ). smallest u (logsFrom (n - (i + 1)) s v)) (a ∙ ap (λ (u : ℕ). pick (ltb u low) u low) q) next
-              ∙ ap (λ (u : ℕ). smallest low (logsFrom u s (e + i))) (sym more) ∙ h .left-low;
-          left-high = ap₂ (λ (u v : ℕ). largest u (logsFrom (n - (i + 1)) s v)) (b ∙ ap (λ (u : ℕ). pick (ltb high u) u high) q) next
-              ∙ ap (λ (u : ℕ). largest high (logsFrom u s (e + i))) (sym more) ∙ h .left-high;
+          ends = span-ends u (x ∷ []) (h .ends) r;
+          left = ap₂ (λ (y : Span) (z : ℕ). spanOn y (logsFrom (n - (i + 1)) s z)) (r ∙ ap (λ (y : ℕ). spanOn u (y ∷ [])) q) next
+              ∙ ap (λ (z : ℕ). spanOn u (logsFrom z s (e + i))) (sym more) ∙ h .left;
         }
 
-    pub spanning-end : n ≤ i → record { smallest = low; largest = high } ≡ spanOn t (logsFrom n s e)
+    pub spanning-end : n ≤ i → u ≡ spanOn t (logsFrom n s e)
     unfolding spanOn logsFrom smallest largest
     spanning-end le =
         let none : n - i ≡ 0 = omega arith in
-        let a : low ≡ smallest (t .smallest) (logsFrom n s e) = ap (λ (u : ℕ). smallest low (logsFrom u s (e + i))) (sym none) ∙ h .left-low in
-        let b : high ≡ largest (t .largest) (logsFrom n s e) = ap (λ (u : ℕ). largest high (logsFrom u s (e + i))) (sym none) ∙ h .left-high in
-        λ j. record { smallest = a j; largest = b j }
+        ap (λ (z : ℕ). spanOn u (logsFrom z s (e + i))) (sym none) ∙ h .left
 
 -- ---- a block that lies within a span
 
@@ -83,6 +118,56 @@ within-same (suc n) s e t h =
 
 pub block-same : (s : List ℕ) (e : ℕ) (t : Span) → Within s e 64 t → t ≡ spanOn t (logsFrom 64 s e)
 block-same s e t h = sym (within-same 64 s e t h)
+
+-- a log number of the block is among them
+log-among : (n : ℕ) (s : List ℕ) (e i : ℕ) → i < n → Among (leAt s (8 * (e + i)) 8) (logsFrom n s e)
+unfolding Among logsFrom
+log-among zero s e i h = absurd (omega arith)
+log-among (suc n) s e zero h = inl (ap (λ (x : ℕ). leAt s (8 * x) 8) (add-zero e))
+log-among (suc n) s e (suc i) h =
+    let k : e + suc i ≡ e + 1 + i = omega arith in
+    inr (subst (λ (x : ℕ). Among (leAt s (8 * x) 8) (logsFrom n s (e + 1))) (sym k) (log-among n s (e + 1) i (omega arith)))
+
+-- numbers that are all among others: those others, after them, change nothing more
+among-smallest : (low x y : ℕ) (xs : List ℕ) → Among x xs → Among y xs → ((z : ℕ) → Among z xs → smallest low (x ∷ y ∷ []) ≤ z) → smallest low xs ≡ smallest low (x ∷ y ∷ [])
+unfolding Among
+among-smallest low x y xs p q h =
+    let few = smallest-is low (x ∷ y ∷ []) in
+    smallest-one (low ∷ xs) (smallest-is low xs) (record {
+      among = ⊎-elim (λ e. inl e) (λ u. inr (⊎-elim (λ e. rw e p) (λ v. ⊎-elim (λ e. rw e q) (λ z. absurd z) v) u)) (few .among);
+      least = λ z t. ⊎-elim (λ e. few .least z (inl e)) (λ u. h z u) t;
+    })
+
+among-largest : (high x y : ℕ) (xs : List ℕ) → Among x xs → Among y xs → ((z : ℕ) → Among z xs → z ≤ largest high (x ∷ y ∷ [])) → largest high xs ≡ largest high (x ∷ y ∷ [])
+unfolding Among
+among-largest high x y xs p q h =
+    let few = largest-is high (x ∷ y ∷ []) in
+    largest-one (high ∷ xs) (largest-is high xs) (record {
+      among = ⊎-elim (λ e. inl e) (λ u. inr (⊎-elim (λ e. rw e p) (λ v. ⊎-elim (λ e. rw e q) (λ z. absurd z) v) u)) (few .among);
+      most = λ z t. ⊎-elim (λ e. few .most z (inl e)) (λ u. h z u) t;
+    })
+
+-- each log number of the block is one of them by its place
+among-at : (n : ℕ) (s : List ℕ) (e z : ℕ) → Among z (logsFrom n s e) → (i : ℕ) × (i < n) × (z ≡ leAt s (8 * (e + i)) 8)
+unfolding Among logsFrom
+among-at zero s e z h = absurd h
+among-at (suc n) s e z h =
+    ⊎-elim (λ q. (0, omega arith, q ∙ ap (λ (x : ℕ). leAt s (8 * x) 8) (sym (add-zero e))))
+    (λ u. let (i, l, q) = among-at n s (e + 1) z u in let k : e + 1 + i ≡ e + suc i = omega arith in (suc i, omega arith, q ∙ ap (λ (x : ℕ). leAt s (8 * x) 8) k)) h
+
+-- a block that lies within a span and its own ends
+pub block-ends : (s : List ℕ) (e : ℕ) (t : Span) {u : Span} → u ≡ spanOn t (leAt s (8 * e) 8 ∷ leAt s (8 * (e + 63)) 8 ∷ []) → Within s e 64 u → u ≡ spanOn t (logsFrom 64 s e)
+unfolding spanOn
+block-ends s e t {u} q h =
+    let x : ℕ = leAt s (8 * e) 8 in
+    let y : ℕ = leAt s (8 * (e + 63)) 8 in
+    let first : Among x (logsFrom 64 s e) = subst (λ (k : ℕ). Among (leAt s (8 * k) 8) (logsFrom 64 s e)) (add-zero e) (log-among 64 s e 0 (omega arith)) in
+    let last : Among y (logsFrom 64 s e) = log-among 64 s e 63 (omega arith) in
+    let low : u .smallest ≡ smallest (t .smallest) (x ∷ y ∷ []) = ap (λ (v : Span). v .smallest) q in
+    let high : u .largest ≡ largest (t .largest) (x ∷ y ∷ []) = ap (λ (v : Span). v .largest) q in
+    let a = among-smallest (t .smallest) x y (logsFrom 64 s e) first last (λ z m. let (i, l, r) = among-at 64 s e z m in let w = h i l in omega arith) in
+    let b = among-largest (t .largest) x y (logsFrom 64 s e) first last (λ z m. let (i, l, r) = among-at 64 s e z m in let w = h i l in omega arith) in
+    λ i. record { smallest = (low ∙ sym a) i; largest = (high ∙ sym b) i }
 
 -- ---- differences to the ends, modulo 2^64: a is x less the smaller end, b the larger end less x
 
@@ -151,18 +236,6 @@ span-more (suc a) b s e t =
     let next : Span = record { smallest = pick (ltb x (t .smallest)) x (t .smallest); largest = pick (ltb (t .largest) x) x (t .largest) } in
     ap (λ (y : ℕ). spanOn (spanOn next (logsFrom a s (e + 1))) (logsFrom b s y)) m ∙ span-more a b s (e + 1) next ∙ ap (λ (y : ℕ). spanOn t (logsFrom y s e)) (sym n)
 
--- a span's ends are in order, whatever it takes in
-ends-each : (xs : List ℕ) (low high : ℕ) → low ≤ high → smallest low xs ≤ largest high xs
-unfolding smallest largest
-ends-each [] low high h = h
-ends-each (x ∷ xs) low high h = ends-each xs (pick (ltb x low) x low) (pick (ltb high x) x high) (go (ltb x low) (ltb high x) refl refl)
-  where
-    go : (a b : Bool) → ltb x low ≡ a → ltb high x ≡ b → pick a x low ≤ pick b x high
-    go true true p q = le-refl x
-    go true false p q = ltb-false high x q
-    go false true p q = ltb-false x low p
-    go false false p q = h
-
 module _ (s : List ℕ) (n : ℕ) where
   abbrev whole : Span
   whole = spanOf (leAt s 0 8) (logsFrom (n - 1) s 1)
@@ -191,7 +264,7 @@ module _ (s : List ℕ) (n : ℕ) where
         record {
           some = omega arith;
           most = omega arith;
-          ends = rw q (ends-each (logsFrom 64 s e) (t .smallest) (t .largest) (h .ends));
+          ends = span-ends t (logsFrom 64 s e) (h .ends) q;
           left = ap (λ (x : Span). spanOn x (logsFrom (n - (e + 64)) s (e + 64))) q ∙ span-more 64 (n - (e + 64)) s e t
               ∙ ap (λ (x : ℕ). spanOn t (logsFrom x s e)) (sym rest) ∙ h .left;
         }

@@ -1,10 +1,9 @@
 // The smallest and largest log number, in one pass.
 ghost use mathlib.Core.Path.{_≡_};
+ghost use mathlib.Core.List.{[], _∷_};
 ghost use mathlib.Core.Bool.{true};
 ghost use Prim.Native.Nat.{_+_, _-_, _*_, _^_, _≤_, _<_};
 ghost use lib.ListN.{length};
-ghost use lib.Dec.{ltb};
-ghost use Rattle.base.specs.Pick.{pick};
 ghost use Rattle.codes.specs.Little.{leAt};
 ghost use Rattle.frame.specs.Kind.{logSize, mostEdges};
 ghost use Rattle.lookup.specs.Lookup.{logsFrom};
@@ -26,41 +25,38 @@ impl Span {
     pub const TOP: u64 = 0x8000_0000_0000_0000;
 }
 
-// The smaller of two numbers.
-fn smaller(x: u64, y: u64) -> u64
-    ensures { λ r. ⌜ r ≡ pick (ltb y x) y x ⌝ }
+// A span that takes in x.
+fn with_one(s: Span, x: u64) -> Span
+    requires { ⌜ s .smallest ≤ s .largest ⌝ }
+    ensures { λ r. ⌜ r ≡ spanOn s (x ∷ []) ⌝ }
 {
-    if y < x {
-        return y;
+    if x < s.smallest {
+        return Span {
+            smallest: x,
+            largest: s.largest,
+        };
     }
-    x
+    if s.largest < x {
+        return Span {
+            smallest: s.smallest,
+            largest: x,
+        };
+    }
+    s
 }
 
-// The larger of two numbers.
-pub fn larger(x: u64, y: u64) -> u64
-    ensures { λ r. ⌜ r ≡ pick (ltb x y) y x ⌝ }
-{
-    if x < y {
-        return y;
-    }
-    x
-}
-
-// A span that takes in n log numbers more, from edge e on: one by one.
+// A span that takes in n log numbers, from edge e on, one by one.
 fn with_each(logs: &[u8], e: usize, n: usize, s: Span) -> Span
-    requires { ⌜ (e + n ≤ mostEdges) × (logSize * (e + n) ≤ length (now logs)) ⌝ }
+    requires { ⌜ (s .smallest ≤ s .largest) × (e + n ≤ mostEdges) × (logSize * (e + n) ≤ length (now logs)) ⌝ }
     ensures { λ r. ⌜ r ≡ spanOn s (logsFrom n (now (logs .entry)) e) ⌝ }
 {
-    let mut smallest = s.smallest;
-    let mut largest = s.largest;
+    let mut t = s;
     let mut i: usize = 0;
     while i < n {
-        let log = le64(logs, (Logs::ROW as usize) * (e + i));
-        smallest = smaller(smallest, log);
-        largest = larger(largest, log);
+        t = with_one(t, le64(logs, (Logs::ROW as usize) * (e + i)));
         i = i + 1;
     }
-    Span { smallest, largest }
+    t
 }
 
 // Without a top bit x lies within a span: neither difference to its ends went below 0. Of a span below 2^63 that is exact.
@@ -118,13 +114,27 @@ fn within(logs: &[u8], e: usize, s: Span) -> bool
     wide_within(logs, e, s)
 }
 
-// A span that takes in a block more.
+// A span that takes in the first and the last log number of a block: all of it where log numbers rise or fall.
+fn with_ends(logs: &[u8], e: usize, s: Span) -> Span
+    requires { ⌜ (s .smallest ≤ s .largest) × (e + 64 ≤ mostEdges) × (logSize * (e + 64) ≤ length (now logs)) ⌝ }
+    ensures { λ r. ⌜ r ≡ spanOn s (leAt (now (logs .entry)) (8 * e) 8 ∷ leAt (now (logs .entry)) (8 * (e + 63)) 8 ∷ []) ⌝ }
+{
+    let first = le64(logs, (Logs::ROW as usize) * e);
+    let last = le64(logs, (Logs::ROW as usize) * (e + Span::BLOCK - 1));
+    with_one(with_one(s, first), last)
+}
+
+// A span that takes in a block. Few blocks hold a new smallest or largest where log numbers come in no order.
 fn with_block(logs: &[u8], e: usize, s: Span) -> Span
     requires { ⌜ (s .smallest ≤ s .largest) × (e + 64 ≤ mostEdges) × (logSize * (e + 64) ≤ length (now logs)) ⌝ }
     ensures { λ r. ⌜ r ≡ spanOn s (logsFrom 64 (now (logs .entry)) e) ⌝ }
 {
     if within(logs, e, s) {
         return s;
+    }
+    let t = with_ends(logs, e, s);
+    if within(logs, e, t) {
+        return t;
     }
     with_each(logs, e, Span::BLOCK, s)
 }

@@ -3,12 +3,13 @@ ghost use mathlib.Core.Path.{_≡_};
 ghost use mathlib.Core.Bool.{true};
 ghost use Prim.Native.Nat.{_+_, _*_, _≤_, _<_};
 ghost use lib.ListN.{length};
+ghost use lib.Dec.{ltb};
+ghost use Rattle.base.specs.Pick.{pick};
 ghost use Rattle.frame.specs.Kind.{mostKeys};
 ghost use Rattle.index.specs.Order.{OffsetsRise};
 ghost use Rattle.group.specs.Group.{degreeOf};
 ghost use Rattle.summary.specs.Summary.{inBucket};
 ghost use Rattle.summary.specs.Tally.{degreeTold, degreesAt, AllTold, tallyOf};
-use super::logs::larger;
 use codes::varint::Varint;
 use codes::varint::varint_at;
 use index::offsets::offset_at;
@@ -35,6 +36,16 @@ fn degree_of(g: &[u8]) -> u64
         Varint::Value { value, next: _ } => value,
         Varint::Bad { why: _ } => 0,
     }
+}
+
+// The larger of two numbers.
+fn larger(x: u64, y: u64) -> u64
+    ensures { λ r. ⌜ r ≡ pick (ltb x y) y x ⌝ }
+{
+    if x < y {
+        return y;
+    }
+    x
 }
 
 // The tally of n groups, whose offsets rise from 0 to the partners' length and which all have a degree.

@@ -64,6 +64,13 @@ largest-is x (y ∷ ys) = elim (decLt x y) [
   }
 ]
 
+-- there is one of each
+pub smallest-one : (xs : List ℕ) {a b : ℕ} → Smallest a xs → Smallest b xs → a ≡ b
+smallest-one xs {a} {b} p q = let x = p .least b (q .among) in let y = q .least a (p .among) in omega arith
+
+pub largest-one : (xs : List ℕ) {a b : ℕ} → Largest a xs → Largest b xs → a ≡ b
+largest-one xs {a} {b} p q = let x = p .most b (q .among) in let y = q .most a (p .among) in omega arith
+
 -- ---- a bucket holds what its bounds say, and a degree is in one alone
 
 pub in-bucket : (i d : ℕ) → 2 ^ i ≤ d → d < 2 ^ (i + 1) → inBucket i d ≡ true

@@ -39,7 +39,7 @@ sub-with-each : tie.Need-sub-with-each Inv-loop μ-loop
 sub-with-each c = c .before .loop .inv .most
 
 with-each-requires : tie.Need-with-each-requires Inv-loop μ-loop
-with-each-requires c κs = let most = c .before .loop .inv .most in (omega arith, omega arith)
+with-each-requires c κs = let most = c .before .loop .inv .most in (c .before .loop .inv .ends, omega arith, omega arith)
 
 returns : tie.Need-returns Inv-loop μ-loop
 returns c = let a = c .before .before .before .before .before .args in

@@ -13,7 +13,7 @@ use Rattle.summary.proofs.tally.tally_of.Lts as lts
 use Rattle.index.proofs.offsets.offset_at.Reads as offset-at-reads
 use Rattle.summary.proofs.tally.bucket_of.Reads as bucket-of-reads
 use Rattle.summary.proofs.tally.degree_of.Reads as degree-of-reads
-use Rattle.summary.proofs.logs.larger.Reads as larger-reads
+use Rattle.summary.proofs.tally.larger.Reads as larger-reads
 
 abbrev Inv-loop : tie.InvT-loop
 Inv-loop partners offs w n largest₀ buckets₀ a₀ i₀ largest buckets a i = Tallying partners offs w n largest buckets a i

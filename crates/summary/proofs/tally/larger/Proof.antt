@@ -1,8 +1,8 @@
--- `summary::logs::larger` meets its contract.
+-- `summary::tally::larger` meets its contract.
 use borrow.Author.Tests.{lt-ltb, le-ltb}
 use native.Mathlib.Omega.{arith}
-use Rattle.summary.proofs.logs.larger.Statement.{statement}
-use Rattle.summary.proofs.logs.larger.Tie as tie
+use Rattle.summary.proofs.tally.larger.Statement.{statement}
+use Rattle.summary.proofs.tally.larger.Tie as tie
 
 returns : tie.Need-returns
 returns c = let a = c .before .args in rw (lt-ltb (a .x) (a .y) (omega arith))
