@@ -327,7 +327,8 @@ module _ (f : List ℕ) (bytes : Bytes f) (pass : fullCheck f ≡ Check.Fine) wh
   bytes-in : (r : Range) → Bytes (bytesAt f r)
   bytes-in r = bytes-part f bytes (r .start) (r .start + r .len)
 
-  fits : EdgesFit (edgesOfFile f)
+  -- their numbers fit in 64 bits
+  pub fits : EdgesFit (edgesOfFile f)
   unfolding edgesIn knownOf
   fits =
       read-fits (bytesAt f (o .keys)) (bytesAt f (o .partners)) (bytesAt f (o .offsets)) (o .bits / 8) (bytesAt f (o .logs)) (pick (o .marked) (bytesAt f (o .dead)) [])

@@ -5,3 +5,5 @@ pub mod Logs
 pub mod Marked
 pub mod Read
 pub mod Checked
+pub mod Promise
+pub mod Cases

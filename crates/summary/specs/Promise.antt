@@ -1,0 +1,171 @@
+-- What the query planner may rely on.
+use mathlib.Core.Path.{_≡_, refl, sym, ap, _∙_}
+use mathlib.Core.Logic.{_↔_}
+use Prim.Native.Nat.{ℕ, zero, suc, _+_, _-_, _^_, _≤_, _<_}
+use native.Mathlib.Nat.{zero-add}
+use native.Mathlib.Omega.{arith}
+use mathlib.Core.List.{List, [], _∷_}
+use mathlib.Core.Bool.{Bool, true, false}
+use lib.ListN.{length, getD}
+use lib.Dec.{ltb}
+use borrow.Author.Tests.{lt-ltb, le-ltb}
+use native.Mathlib.Decide.{decLt}
+use Rattle.base.specs.Bytes.{Bytes}
+use Rattle.base.specs.Pick.{pick}
+use Rattle.codes.specs.declared.ids.Id.{Id}
+use Rattle.codes.specs.Ids.{idNumber}
+use Rattle.refusal.specs.declared.Refusal.{Refusal}
+use Rattle.refusal.specs.declared.Check.{Check}
+use Rattle.frame.specs.Frame.{recordOf}
+use Rattle.batch.specs.declared.Edge.{Edge}
+use Rattle.batch.specs.Batch.{edgesOf, logsIn}
+use Rattle.batch_groups.specs.Groups.{IdFits, groupsOf}
+use Rattle.full_check.specs.Full.{fullCheck}
+use Rattle.full_check.specs.Checked.{fine-checked}
+use Rattle.readout.specs.ReadOut.{batchIn}
+use Rattle.readout.specs.ReadOut.Laws.{length-edgesIn, checked-few}
+use Rattle.agreement.specs.SameEdges.{edgesOfFile}
+use Rattle.agreement.specs.OutBytes.{EdgesFit, out-edges}
+use Rattle.summary.specs.declared.figures.Extremes.{Extremes}
+use Rattle.summary.specs.declared.figures.Summary.{Summary}
+use Rattle.summary.specs.declared.Summarised.{Summarised}
+use Rattle.summary.specs.Summary.{smallest, largest, smallestKey, largestKey, extremesOf, degreesOf, bucket, bucketsOf, deadIn, nothing, summaryOf, summarised, summarisedOf}
+use Rattle.summary.specs.Summary.Laws.{Among, Smallest, Largest, smallest-is, largest-is, total, bucket-at, length-buckets, buckets-total, bucket-none, length-degrees, degrees-total, degrees-some}
+
+-- ---- the keys' own smallest and largest
+
+-- the numbers of the edges' keys
+unfoldable pub keyNumbers : List Edge → List ℕ
+keyNumbers [] = []
+keyNumbers (e ∷ es) = idNumber (e .key) ∷ keyNumbers es
+
+smallest-number : (k : Id) (es : List Edge) → idNumber (smallestKey k es) ≡ smallest (idNumber k) (keyNumbers es)
+unfolding smallestKey keyNumbers smallest
+smallest-number k [] = refl
+smallest-number k (e ∷ es) = smallest-number (pick (ltb (idNumber (e .key)) (idNumber k)) (e .key) k) es ∙ ap (λ (t : ℕ). smallest t (keyNumbers es)) (picked (ltb (idNumber (e .key)) (idNumber k)))
+  where
+    picked : (b : Bool) → idNumber (pick b (e .key) k) ≡ pick b (idNumber (e .key)) (idNumber k)
+    picked true = refl
+    picked false = refl
+
+largest-number : (k : Id) (es : List Edge) → idNumber (largestKey k es) ≡ largest (idNumber k) (keyNumbers es)
+unfolding largestKey keyNumbers largest
+largest-number k [] = refl
+largest-number k (e ∷ es) = largest-number (pick (ltb (idNumber k) (idNumber (e .key))) (e .key) k) es ∙ ap (λ (t : ℕ). largest t (keyNumbers es)) (picked (ltb (idNumber k) (idNumber (e .key))))
+  where
+    picked : (b : Bool) → idNumber (pick b (e .key) k) ≡ pick b (idNumber (e .key)) (idNumber k)
+    picked true = refl
+    picked false = refl
+
+-- "no smallest and largest" exactly without edges; otherwise each is one of the edges' own, and none lies beyond
+unfoldable pub Ends : List Edge → Extremes → Type 0
+Ends es Extremes.None = es ≡ []
+Ends es (Extremes.Some a b s l) = Smallest (idNumber a) (keyNumbers es) × Largest (idNumber b) (keyNumbers es) × Smallest s (logsIn es) × Largest l (logsIn es)
+
+pub extremes-are : (es : List Edge) → Ends es (extremesOf es)
+unfolding Ends extremesOf keyNumbers logsIn
+extremes-are [] = refl
+extremes-are (e ∷ es) = (
+  rw (smallest-number (e .key) es) (smallest-is (idNumber (e .key)) (keyNumbers es)),
+  rw (largest-number (e .key) es) (largest-is (idNumber (e .key)) (keyNumbers es)),
+  smallest-is (e .log) (logsIn es),
+  largest-is (e .log) (logsIn es),
+)
+
+-- keys of 64-bit halves stay so
+pub smallest-fits : (k : Id) (es : List Edge) → IdFits k → EdgesFit es → IdFits (smallestKey k es)
+unfolding smallestKey EdgesFit
+smallest-fits k [] h f = h
+smallest-fits k (e ∷ es) h f = smallest-fits (pick (ltb (idNumber (e .key)) (idNumber k)) (e .key) k) es (go (ltb (idNumber (e .key)) (idNumber k))) (f .1)
+  where
+    go : (b : Bool) → IdFits (pick b (e .key) k)
+    go true = (f .0 .key-hi, f .0 .key-lo)
+    go false = h
+
+pub largest-fits : (k : Id) (es : List Edge) → IdFits k → EdgesFit es → IdFits (largestKey k es)
+unfolding largestKey EdgesFit
+largest-fits k [] h f = h
+largest-fits k (e ∷ es) h f = largest-fits (pick (ltb (idNumber k) (idNumber (e .key))) (e .key) k) es (go (ltb (idNumber k) (idNumber (e .key)))) (f .1)
+  where
+    go : (b : Bool) → IdFits (pick b (e .key) k)
+    go true = (f .0 .key-hi, f .0 .key-lo)
+    go false = h
+
+-- ---- what a summary says of edges
+
+pub record Says (es : List Edge) (s : Summary) : Type 0 where
+  -- the edges, and the dead ones
+  pub edges : s .edgecount ≡ length es
+  pub dead : s .tombstones ≡ deadIn es
+  -- a key for each group
+  pub keys : s .keycount ≡ length (groupsOf es)
+  -- "degrees sum to the edge count", "Buckets sum to the key count"
+  pub degrees-sum : total (degreesOf (groupsOf es)) ≡ s .edgecount
+  pub buckets-sum : total (s .buckets) ≡ s .keycount
+  -- 64 buckets, each by its definition; from 27 on they are 0
+  pub all : length (s .buckets) ≡ 64
+  pub each : (i : ℕ) → i < 64 → getD (s .buckets) i 0 ≡ bucket i (degreesOf (groupsOf es))
+  pub high : (i : ℕ) → 27 ≤ i → i < 64 → getD (s .buckets) i 0 ≡ 0
+  -- the largest of 0 and the degrees: 0 where there are none
+  pub degree : Largest (s .largestdegree) (0 ∷ degreesOf (groupsOf es))
+  pub ends : Ends es (s .extremes)
+
+pub says : (es : List Edge) → length es ≤ 2 ^ 26 → Says es (summaryOf es)
+unfolding summaryOf
+says es few =
+    let ds : List ℕ = degreesOf (groupsOf es) in
+    let at : (i : ℕ) → i < 64 → getD (bucketsOf ds) i 0 ≡ bucket i ds = λ i l. bucket-at 64 0 ds i l ∙ ap (λ (t : ℕ). bucket t ds) (zero-add i) in
+    record {
+      edges = refl;
+      dead = refl;
+      keys = refl;
+      degrees-sum = degrees-total es;
+      buckets-sum = buckets-total ds (degrees-some (2 ^ 64) es (omega arith)) ∙ length-degrees (groupsOf es);
+      all = length-buckets 64 0 ds;
+      each = at;
+      high = λ i h l. at i l ∙ bucket-none 27 ds (degrees-some (2 ^ 27) es (omega arith)) i h;
+      degree = largest-is 0 ds;
+      ends = extremes-are es;
+    }
+
+-- ---- of a file
+
+module _ (f : List ℕ) where
+  -- where the full check passes, the summary of its edges
+  pub summary-passes : fullCheck f ≡ Check.Fine → summarisedOf f ≡ record { told = Check.Fine; summary = summaryOf (edgesOfFile f) }
+  unfolding summarisedOf summarised
+  summary-passes pass = ap (λ (c : Check). summarised c (summaryOf (edgesOfFile f))) pass
+
+  -- otherwise the full check's refusal, and nothing is summed up
+  pub summary-refuses : (r : Refusal) → (summarisedOf f ≡ record { told = Check.Bad r; summary = nothing }) ↔ (fullCheck f ≡ Check.Bad r)
+  unfolding summarisedOf summarised
+  summary-refuses r = (λ e. go (fullCheck f) (ap (λ (s : Summarised). s .told) e), λ e. ap (λ (c : Check). summarised c (summaryOf (edgesOfFile f))) e)
+    where
+      go : (c : Check) → summarised c (summaryOf (edgesOfFile f)) .told ≡ Check.Bad r → c ≡ Check.Bad r
+      go Check.Fine h = h
+      go (Check.Bad q) h = h
+
+  -- what is told is the full check's answer
+  pub summary-told : summarisedOf f .told ≡ fullCheck f
+  unfolding summarisedOf summarised
+  summary-told = go (fullCheck f)
+    where
+      go : (c : Check) → summarised c (summaryOf (edgesOfFile f)) .told ≡ c
+      go Check.Fine = refl
+      go (Check.Bad r) = refl
+
+  -- a file that passes has at most 2^26 edges, so that all of `Says` holds of it
+  pub summary-says : fullCheck f ≡ Check.Fine → Says (edgesOfFile f) (summarisedOf f .summary)
+  summary-says pass =
+      let checked = fine-checked f pass in
+      let few = checked-few f (recordOf f) checked in
+      rw (summary-passes pass) (says (edgesOfFile f) (omega (arith, length-edgesIn f (recordOf f) checked)))
+
+  -- it is the summary of the batch that the read-out leaves
+  pub summary-of-batch : Bytes f → fullCheck f ≡ Check.Fine → summarisedOf f ≡ record { told = Check.Fine; summary = summaryOf (edgesOf (batchIn f)) }
+  summary-of-batch bytes pass = summary-passes pass ∙ ap (λ (es : List Edge). record { told = Check.Fine; summary = summaryOf es }) (sym (out-edges f bytes pass))
+
+-- "files with equal read-outs have equal summaries"
+pub same-summary : (f g : List ℕ) → Bytes f → Bytes g → fullCheck f ≡ Check.Fine → fullCheck g ≡ Check.Fine → batchIn f ≡ batchIn g → summarisedOf f ≡ summarisedOf g
+same-summary f g bf bg pf pg same =
+    summary-of-batch f bf pf ∙ ap (λ (s : List ℕ). record { told = Check.Fine; summary = summaryOf (edgesOf s) }) same ∙ sym (summary-of-batch g bg pg)
