@@ -115,8 +115,8 @@ module _ (s : List ℕ) (lawful : Lawful s) where
   full = passes (headingOf s) (edgesOf s) written
 
   -- the file's edges are the batch's
-  edges : edgesOfFile f ≡ edgesOf s
-  edges = edges-again (headingOf s) (edgesOf s) written
+  pub edges-written : edgesOfFile (fileFor s) ≡ edgesOf s
+  edges-written = edges-again (headingOf s) (edgesOf s) written
 
   -- it opens, and its keys are those of the groups
   opens : openOf f ≡ Opening.Good (recordOf f)
@@ -143,10 +143,10 @@ module _ (s : List ℕ) (lawful : Lawful s) where
   by-record all rooms key = with-record all rooms key f (recordOf f) opens
 
   looked : (key : ℕ) (rooms : Rooms) → Enough rooms (length (ofKey key (edgesOf s))) → Says true (lookOf true rooms key f) (ofKey key (edgesOf s))
-  looked key rooms room = rw edges at (same-edges f full key rooms (rw edges room))
+  looked key rooms room = rw edges-written at (same-edges f full key rooms (rw edges-written room))
 
   finding : (key n : ℕ) → 16 * length (ofKey key (edgesOf s)) ≤ n → Says false (lookOf false (alone n) key f) (ofKey key (edgesOf s))
-  finding key n room = rw edges at (same-partners f full key n (rw edges room))
+  finding key n room = rw edges-written at (same-partners f full key n (rw edges-written room))
 
   looked-is : (key : ℕ) (rooms : Rooms) → Enough rooms (length (ofKey key (edgesOf s))) → lookOf true rooms key f ≡ outcomeFor true key (edgesOf s)
   looked-is key rooms room = outcome-is true key (groupsOf (edgesOf s)) (ofKey key (edgesOf s)) (lookOf true rooms key f) (looked key rooms room) (placed true rooms key)

@@ -4,7 +4,7 @@ use mathlib.Core.Path.{_≡_, refl, sym, ap, _∙_}
 use mathlib.Core.Bool.{true, false}
 use Prim.Native.Nat.{ℕ, _+_, _/_, _≤_, _<_}
 use mathlib.Core.List.{List, []}
-use lib.ListN.{length}
+use lib.ListN.{length, replicate}
 use denote.Ref.{now}
 use Rattle.base.specs.Bytes.{Bytes}
 use Rattle.base.specs.Over.{part}
@@ -30,11 +30,13 @@ use Rattle.xxh3_running.specs.Running.{mostFed, stateOf, feedOf, Leaves}
 use Rattle.xxh3_running.specs.Running.Laws.{feed-taken, feed-refused}
 use Rattle.xxh3_running.specs.Running.Sums.{Holds, new-holds, sum-is}
 use Rattle.xxh3_running.specs.Chunks.{taking, taking-holds}
-use Rattle.edge_sst_c.specs.Desk.{check-told-fine, check-told-bad}
+use Rattle.summary.specs.Summary.{nothing, summarisedOf}
+use Rattle.edge_sst_c.specs.Summary.{figuresTold}
+use Rattle.edge_sst_c.specs.Desk.{checkTold, check-told-fine, check-told-bad}
 use Rattle.refusal.specs.declared.Refusal.{Refusal}
 use Rattle.edge_sst_c.specs.Look.{recordLent}
-use Rattle.edge_sst_c.specs.Back.{openingFrom, headerFrom, lookedFrom, checkFrom, readOutFrom, writtenFrom, listedFrom, opening-back, header-back, header-bytes, looked-back, check-back, read-out-back, written-back, listed-back}
-use Rattle.edge_sst_c.specs.Refused.{Tells, Unfound, opened-tells, header-tells, looked-tells, check-tells, read-tells, written-tells, listed-tells, partners-stay, edges-stay, read-stays, write-stays, sections-stay, running-stays}
+use Rattle.edge_sst_c.specs.Back.{openingFrom, headerFrom, lookedFrom, checkFrom, readOutFrom, summarisedFrom, writtenFrom, listedFrom, opening-back, header-back, header-bytes, looked-back, check-back, read-out-back, summary-back, summary-zeros, written-back, listed-back}
+use Rattle.edge_sst_c.specs.Refused.{Tells, Unfound, opened-tells, header-tells, looked-tells, check-tells, summary-tells, read-tells, written-tells, listed-tells, partners-stay, edges-stay, read-stays, write-stays, sections-stay, running-stays}
 use Rattle.base.proofs.Every.{Every}
 use Rattle.edge_sst_c.proofs.edge_sst_open as c-open
 use Rattle.edge_sst_c.proofs.edge_sst_open.Reads as c-open-reads
@@ -58,6 +60,8 @@ use Rattle.edge_sst_c.proofs.running.edge_sst_running_feed as c-running
 use Rattle.edge_sst_c.proofs.running.edge_sst_running_feed.Reads as c-running-reads
 use Rattle.edge_sst_c.proofs.desk.edge_sst_read_out as c-read-out
 use Rattle.edge_sst_c.proofs.desk.edge_sst_read_out.Reads as c-read-out-reads
+use Rattle.edge_sst_c.proofs.figures.edge_sst_summary as c-summary
+use Rattle.edge_sst_c.proofs.figures.edge_sst_summary.Reads as c-summary-reads
 use Rattle.edge_sst_c.proofs.write.edge_sst_needed as c-needed
 use Rattle.edge_sst_c.proofs.write.edge_sst_needed.Reads as c-needed-reads
 use Rattle.edge_sst_c.proofs.write.edge_sst_write as c-write
@@ -101,6 +105,10 @@ check-says κs a r e p = ap checkFrom p ∙ check-back _
 pub read-out-says : Every c-read-out.ended c-read-out-reads.Post (λ κs a r e. readOutFrom r ≡ readOutOf (now (a .0)) (length (now (a .1 .0))))
 read-out-says κs a r e p = ap readOutFrom (p .0) ∙ read-out-back _
 
+-- the lent bytes are bytes: the keys are told as theirs
+pub summary-says : Every c-summary.ended c-summary-reads.Post (λ κs a r e. Bytes (now (a .0)) → summarisedFrom r ≡ summarisedOf (now (a .0)))
+summary-says κs a r e p by = ap summarisedFrom p ∙ summary-back (now (a .0)) by
+
 pub needed-says : Every c-needed.ended c-needed-reads.Post (λ κs a r e. writtenFrom r ≡ neededOf (now (a .0)))
 needed-says κs a r e p = ap writtenFrom p ∙ written-back _
 
@@ -142,6 +150,15 @@ check-number κs a r e p = rw p (check-tells (fullCheck (now (a .0))))
 
 pub read-out-number : Every c-read-out.ended c-read-out-reads.Post (λ κs a r e. Tells ReadOut.Refused (readOutOf (now (a .0)) (length (now (a .1 .0)))) (r .number))
 read-out-number κs a r e p = rw (p .0) (read-tells (readOutOf (now (a .0)) (length (now (a .1 .0)))))
+
+-- that of the full check
+pub summary-number : Every c-summary.ended c-summary-reads.Post (λ κs a r e. Tells Check.Bad (fullCheck (now (a .0))) (r .number))
+summary-number κs a r e p = rw p (summary-tells (now (a .0)))
+
+-- beside a refusal all is 0
+pub summary-refused : Every c-summary.ended c-summary-reads.Post (λ κs a r e. (q : Refusal) → fullCheck (now (a .0)) ≡ Check.Bad q
+    → r ≡ figuresTold (checkTold (Check.Bad q)) nothing (record { there = 0; smallestkey = replicate 16 0; largestkey = replicate 16 0; smallestlog = 0; largestlog = 0 }))
+summary-refused κs a r e p q h = p ∙ summary-zeros (now (a .0)) q h
 
 pub needed-number : Every c-needed.ended c-needed-reads.Post (λ κs a r e. Tells Written.Refused (neededOf (now (a .0))) (r .number))
 needed-number κs a r e p = rw p (written-tells (neededOf (now (a .0))))

@@ -23,6 +23,10 @@ use Rattle.edge_sst_c.proofs.desk.edge_sst_check as check
 use Rattle.edge_sst_c.proofs.desk.edge_sst_check.Reads as check-reads
 use Rattle.edge_sst_c.proofs.desk.edge_sst_read_out as read-out
 use Rattle.edge_sst_c.proofs.desk.edge_sst_read_out.Reads as read-out-reads
+use Rattle.edge_sst_c.proofs.figures.edge_sst_summary as edge-sst-summary
+use Rattle.edge_sst_c.proofs.figures.edge_sst_summary.Reads as edge-sst-summary-reads
+use Rattle.edge_sst_c.proofs.header.id_told as id-told
+use Rattle.edge_sst_c.proofs.header.id_told.Reads as id-told-reads
 use Rattle.edge_sst_c.proofs.edge_sst_open as edge-sst-open
 use Rattle.edge_sst_c.proofs.edge_sst_open.Reads as edge-sst-open-reads
 use Rattle.edge_sst_c.proofs.look.edge_sst_partners_with as partners-with
@@ -51,6 +55,12 @@ edge-sst-check-determined κs a pre r₁ r₂ w₁ w₂ p q = (p ∙ sym q, refl
 
 pub edge-sst-read-out-determined : Determined read-out.ended read-out-reads.Pre read-out-reads.Post
 edge-sst-read-out-determined κs a pre r₁ r₂ w₁ w₂ p q = (p .0 ∙ sym (q .0), ap (λ (l : List ℕ). (tt {0}, (l, tt {0}))) (p .1 ∙ sym (q .1)))
+
+pub edge-sst-summary-determined : Determined edge-sst-summary.ended edge-sst-summary-reads.Pre edge-sst-summary-reads.Post
+edge-sst-summary-determined κs a pre r₁ r₂ w₁ w₂ p q = (p ∙ sym q, refl)
+
+pub id-told-determined : Determined id-told.ended id-told-reads.Pre id-told-reads.Post
+id-told-determined κs a pre r₁ r₂ w₁ w₂ p q = (p ∙ sym q, refl)
 
 pub edge-sst-partners-determined : Determined c-partners.ended c-partners-reads.Pre c-partners-reads.Post
 edge-sst-partners-determined κs a pre r₁ r₂ w₁ w₂ p q = (p .answer ∙ sym (q .answer), ap (λ (l : List ℕ). (tt {0}, (tt {0}, (l, tt {0})))) (p .partners ∙ sym (q .partners)))

@@ -31,6 +31,11 @@ use Rattle.reader.specs.declared.header.HeaderRead.{HeaderRead}
 use Rattle.reader.specs.Header.{headerOf, header-long, header-ids}
 use Rattle.reader.specs.Look.{with-bad, with-record, opened-holds}
 use Rattle.readout.specs.declared.ReadOut.{ReadOut}
+use Rattle.full_check.specs.Full.{fullCheck}
+use Rattle.summary.specs.declared.figures.Extremes.{Extremes}
+use Rattle.summary.specs.declared.Summarised.{Summarised}
+use Rattle.summary.specs.Summary.{nothing, summarisedOf}
+use Rattle.summary.specs.Promise.{ExtremesFit, summary-refuses, summary-fits}
 use Rattle.write_file.specs.declared.Written.{Written}
 use Rattle.listing.specs.declared.Listed.{Listed}
 use Rattle.edge_sst_c.specs.declared.EdgeSstOpened.{EdgeSstOpened}
@@ -39,6 +44,9 @@ use Rattle.edge_sst_c.specs.declared.look.EdgeSstLooked.{EdgeSstLooked}
 use Rattle.edge_sst_c.specs.declared.desk.EdgeSstTold.{EdgeSstTold}
 use Rattle.edge_sst_c.specs.declared.desk.EdgeSstDone.{EdgeSstDone}
 use Rattle.edge_sst_c.specs.declared.section_list.EdgeSstListed.{EdgeSstListed}
+use Rattle.edge_sst_c.specs.declared.figures.ExtremesTold.{ExtremesTold}
+use Rattle.edge_sst_c.specs.declared.figures.EdgeSstSummary.{EdgeSstSummary}
+use Rattle.edge_sst_c.specs.Summary.{extremesTold, figuresTold, summaryTold}
 use Rattle.edge_sst_c.specs.Told.{truth, recordWith, refusalWith, openedTold, told-good, told-refused}
 use Rattle.edge_sst_c.specs.Header.{headerTold}
 use Rattle.edge_sst_c.specs.Look.{lookedTold, recordLent, byte-small, PartnersTold, EdgesTold}
@@ -159,6 +167,55 @@ header-bytes f by (HeaderRead.Good h) e zero =
     bytes : (i : ℕ) (d : Id) → d ≡ halvesAt f i → i + 16 ≤ length f → idBytes d ≡ part f i (i + 16)
     bytes i d q l = let len : 16 ≡ i + 16 - i = omega arith in ap idBytes q ∙ id-same f by i l ∙ ap (λ (n : ℕ). take n (drop i f)) len
 header-bytes f by (HeaderRead.Refused r) e zero = absurd (omega (arith, number-some r))
+
+-- ---- the summary
+
+abbrev extremesFrom : ExtremesTold → Extremes
+extremesFrom x = pick (ltb 0 (x .there)) (Extremes.Some (halvesAt (x .smallestkey) 0) (halvesAt (x .largestkey) 0) (x .smallestlog) (x .largestlog)) Extremes.None
+
+abbrev pub summarisedFrom : EdgeSstSummary → Summarised
+summarisedFrom r = record {
+  told = checkFrom (record { number = r .number; place = r .place; beside = r .beside });
+  summary = record {
+    keycount = r .keycount;
+    edgecount = r .edgecount;
+    tombstones = r .tombstones;
+    largestdegree = r .largestdegree;
+    extremes = extremesFrom (record { there = r .extremes; smallestkey = r .smallestkey; largestkey = r .largestkey; smallestlog = r .smallestlog; largestlog = r .largestlog });
+    buckets = r .buckets;
+  };
+}
+
+extremes-back : (x : Extremes) → ExtremesFit x → extremesFrom (extremesTold x) ≡ x
+unfolding extremesTold ExtremesFit
+extremes-back Extremes.None h = refl
+extremes-back (Extremes.Some a b s l) ((p, q), (u, v)) = λ i. Extremes.Some (back a p q i) (back b u v i) s l
+  where
+    back : (d : Id) → d .hi < 2 ^ 64 → d .lo < 2 ^ 64 → halvesAt (idBytes d) 0 ≡ d
+    back d hi lo = ap (λ (t : List ℕ). halvesAt t 0) (sym (append-nil (idBytes d))) ∙ halves-back [] [] d hi lo
+
+-- of a file of bytes
+pub summary-back : (f : List ℕ) → Bytes f → summarisedFrom (summaryTold (summarisedOf f)) ≡ summarisedOf f
+unfolding summaryTold
+summary-back f by =
+    let s : Summarised = summarisedOf f in
+    λ i. record {
+      told = check-back (s .told) i;
+      summary = record {
+        keycount = s .summary .keycount;
+        edgecount = s .summary .edgecount;
+        tombstones = s .summary .tombstones;
+        largestdegree = s .summary .largestdegree;
+        extremes = extremes-back (s .summary .extremes) (summary-fits f by) i;
+        buckets = s .summary .buckets;
+      };
+    }
+
+-- beside a refusal all is 0
+pub summary-zeros : (f : List ℕ) (r : Refusal) → fullCheck f ≡ Check.Bad r
+    → summaryTold (summarisedOf f) ≡ figuresTold (checkTold (Check.Bad r)) nothing (record { there = 0; smallestkey = replicate 16 0; largestkey = replicate 16 0; smallestlog = 0; largestlog = 0 })
+unfolding summaryTold extremesTold
+summary-zeros f r e = ap summaryTold (summary-refuses f r .1 e)
 
 -- ---- the opened record
 

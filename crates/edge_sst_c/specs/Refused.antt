@@ -17,6 +17,9 @@ use Rattle.lookup.specs.declared.Looked.{Looked}
 use Rattle.lookup.specs.Lookup.{Outcome, lookedOf}
 use Rattle.lookup.specs.Lookup.Laws.{unfound-leaves}
 use Rattle.reader.specs.declared.header.HeaderRead.{HeaderRead}
+use Rattle.full_check.specs.Full.{fullCheck}
+use Rattle.summary.specs.Summary.{summarisedOf}
+use Rattle.summary.specs.Promise.{summary-told}
 use Rattle.readout.specs.declared.ReadOut.{ReadOut}
 use Rattle.readout.specs.ReadOut.{readOutOf, readOutLeaves}
 use Rattle.readout.specs.ReadOut.Laws as read-out
@@ -38,6 +41,7 @@ use Rattle.edge_sst_c.specs.Told.{openedTold}
 use Rattle.edge_sst_c.specs.Header.{headerTold}
 use Rattle.edge_sst_c.specs.Look.{lookedTold, PartnersTold, EdgesTold}
 use Rattle.edge_sst_c.specs.Desk.{checkTold, readTold}
+use Rattle.edge_sst_c.specs.Summary.{summaryTold}
 use Rattle.edge_sst_c.specs.Write.{writtenTold, WroteTold}
 use Rattle.edge_sst_c.specs.SectionList.{listedTold, numbered, numbered-none}
 
@@ -84,6 +88,11 @@ pub check-tells : (x : Check) → Tells Check.Bad x (checkTold x .number)
 unfolding checkTold
 check-tells Check.Fine = answered (λ q e. let z : _≡_ {A = ℕ} 0 1 = cc in omega arith)
 check-tells (Check.Bad r) = refusing r
+
+-- of a summary the full check's refusal is told
+pub summary-tells : (f : List ℕ) → Tells Check.Bad (fullCheck f) (summaryTold (summarisedOf f) .number)
+unfolding summaryTold
+summary-tells f = rw (summary-told f) (check-tells (fullCheck f))
 
 pub read-tells : (x : ReadOut) → Tells ReadOut.Refused x (readTold x .number)
 unfolding readTold

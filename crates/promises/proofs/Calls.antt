@@ -29,6 +29,8 @@ use Rattle.agreement.specs.SameEdges.{ofKey, Enough}
 use Rattle.agreement.specs.Heading.{headerFor}
 use Rattle.write_file.specs.declared.Written.{Written}
 use Rattle.demand2.specs.Demand2.{fileFor, flagsFor, Lawful, demand-2}
+use Rattle.summary.specs.Summary.{summaryOf, summarisedOf}
+use Rattle.promises.specs.Summary.{summed, degree-summary}
 use Rattle.promises.specs.Calls.{needs, writes, reads, PartnersGiven, EdgesGiven, partners-given, edges-given}
 use Rattle.write_file.proofs.needed as c-needed
 use Rattle.write_file.proofs.needed.Reads as c-needed-reads
@@ -40,6 +42,8 @@ use Rattle.full_check.proofs.check as c-check
 use Rattle.full_check.proofs.check.Reads as c-check-reads
 use Rattle.readout.proofs.read_out as c-read-out
 use Rattle.readout.proofs.read_out.Reads as c-read-out-reads
+use Rattle.summary.proofs.summary as c-summary
+use Rattle.summary.proofs.summary.Reads as c-summary-reads
 use Rattle.reader.proofs.look.partners as c-partners
 use Rattle.reader.proofs.look.partners.Reads as c-partners-reads
 use Rattle.reader.proofs.look.partners_with as c-partners-with
@@ -86,6 +90,12 @@ module _ (s : List ℕ) (lawful : Lawful s) where
     read-out-written file room call =
         let done = reads s lawful (now (a .1 .0)) room in
         (call .0 ∙ ap (λ (f : List ℕ). readOutOf f (length (now (a .1 .0)))) file ∙ done .0, call .1 ∙ ap (λ (f : List ℕ). readOutLeaves f (now (a .1 .0))) file ∙ done .1)
+
+  -- ---- `summary(file)`
+
+  module _ (κs : Lfts (c-summary.signature .lifetimes)) (a : Args c-summary.signature κs) (r : Res c-summary.signature κs) (w : Lasts c-summary.ended κs a) where
+    pub summary-written : now (a .0) ≡ fileFor s → c-summary-reads.Post κs a r (atExit c-summary.ended κs a w) → r ≡ summed (summaryOf (edgesOf s))
+    summary-written file call = call ∙ ap summarisedOf file ∙ degree-summary .written s lawful
 
   -- the record that opening gave for the file is the file's
   with-opened : (full : Bool) (rooms : Rooms) (key : ℕ) (f : List ℕ) (o : Opened) → f ≡ fileFor s → openOf f ≡ Opening.Good o

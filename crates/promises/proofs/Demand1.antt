@@ -51,6 +51,8 @@ use Rattle.full_check.proofs.checked as c-checked
 use Rattle.full_check.proofs.checked.Reads as c-checked-reads
 use Rattle.readout.proofs.read_out as c-read-out
 use Rattle.readout.proofs.read_out.Reads as c-read-out-reads
+use Rattle.summary.proofs.summary as c-summary
+use Rattle.summary.proofs.summary.Reads as c-summary-reads
 use Rattle.write_file.proofs.needed as c-needed
 use Rattle.write_file.proofs.needed.Reads as c-needed-reads
 use Rattle.write_file.proofs.write as c-write
@@ -81,6 +83,8 @@ use Rattle.edge_sst_c.proofs.desk.edge_sst_check as sst-check
 use Rattle.edge_sst_c.proofs.desk.edge_sst_check.Reads as sst-check-reads
 use Rattle.edge_sst_c.proofs.desk.edge_sst_read_out as sst-read-out
 use Rattle.edge_sst_c.proofs.desk.edge_sst_read_out.Reads as sst-read-out-reads
+use Rattle.edge_sst_c.proofs.figures.edge_sst_summary as sst-summary
+use Rattle.edge_sst_c.proofs.figures.edge_sst_summary.Reads as sst-summary-reads
 use Rattle.edge_sst_c.proofs.write.edge_sst_needed as sst-needed
 use Rattle.edge_sst_c.proofs.write.edge_sst_needed.Reads as sst-needed-reads
 use Rattle.edge_sst_c.proofs.write.edge_sst_write as sst-write
@@ -95,11 +99,12 @@ use Rattle.xxh3_whole.proofs.One.{xxh3-determined}
 use Rattle.reader.proofs.One.{open-determined, header-determined, section-at-determined, partners-determined, partners-with-determined, lookup-determined, lookup-with-determined}
 use Rattle.full_check.proofs.One.{check-determined, checked-determined}
 use Rattle.readout.proofs.One.{read-out-determined}
+use Rattle.summary.proofs.One.{summary-determined}
 use Rattle.write_file.proofs.One.{needed-determined, write-determined}
 use Rattle.batch_faults.proofs.One.{check-batch-determined}
 use Rattle.refusal.proofs.One.{told-of-determined}
 use Rattle.listing.proofs.One.{Listed-post, Table-post, list-sections-determined, plan-for-determined, row-of-determined, table-of-determined}
-use Rattle.edge_sst_c.proofs.One.{edge-sst-open-determined, edge-sst-header-determined, edge-sst-partners-determined, edge-sst-partners-with-determined, edge-sst-lookup-determined, edge-sst-lookup-with-determined, edge-sst-check-determined, edge-sst-read-out-determined, edge-sst-needed-determined, edge-sst-write-determined, edge-sst-sections-determined, edge-sst-sum-determined, edge-sst-running-new-determined, edge-sst-running-feed-determined, edge-sst-running-asked-determined}
+use Rattle.edge_sst_c.proofs.One.{edge-sst-open-determined, edge-sst-header-determined, edge-sst-partners-determined, edge-sst-partners-with-determined, edge-sst-lookup-determined, edge-sst-lookup-with-determined, edge-sst-check-determined, edge-sst-read-out-determined, edge-sst-summary-determined, edge-sst-needed-determined, edge-sst-write-determined, edge-sst-sections-determined, edge-sst-sum-determined, edge-sst-running-new-determined, edge-sst-running-feed-determined, edge-sst-running-asked-determined}
 
 pub record OneResult : Type 2 where
   -- `xxh3`: the sum of any bytes
@@ -136,6 +141,8 @@ pub record OneResult : Type 2 where
   pub checked : Determined c-checked.ended c-checked-reads.Pre c-checked-reads.Post
   -- `read_out`
   pub read-out : Determined c-read-out.ended c-read-out-reads.Pre c-read-out-reads.Post
+  -- `summary`
+  pub summary : Determined c-summary.ended c-summary-reads.Pre c-summary-reads.Post
   -- `needed`
   pub needed : Determined c-needed.ended c-needed-reads.Pre c-needed-reads.Post
   -- `write`
@@ -159,6 +166,7 @@ pub record OneResult : Type 2 where
   pub edge-sst-lookup-with : Determined sst-lookup-with.ended sst-lookup-with-reads.Pre sst-lookup-with-reads.Post
   pub edge-sst-check : Determined sst-check.ended sst-check-reads.Pre sst-check-reads.Post
   pub edge-sst-read-out : Determined sst-read-out.ended sst-read-out-reads.Pre sst-read-out-reads.Post
+  pub edge-sst-summary : Determined sst-summary.ended sst-summary-reads.Pre sst-summary-reads.Post
   pub edge-sst-needed : Determined sst-needed.ended sst-needed-reads.Pre sst-needed-reads.Post
   pub edge-sst-write : Determined sst-write.ended sst-write-reads.Pre sst-write-reads.Post
   pub edge-sst-sections : Determined sst-sections.ended sst-sections-reads.Pre sst-sections-reads.Post
@@ -190,6 +198,7 @@ one-result = record {
   check = check-determined;
   checked = checked-determined;
   read-out = read-out-determined;
+  summary = summary-determined;
   needed = needed-determined;
   write = write-determined;
   check-batch = check-batch-determined;
@@ -206,6 +215,7 @@ one-result = record {
   edge-sst-lookup-with = edge-sst-lookup-with-determined;
   edge-sst-check = edge-sst-check-determined;
   edge-sst-read-out = edge-sst-read-out-determined;
+  edge-sst-summary = edge-sst-summary-determined;
   edge-sst-needed = edge-sst-needed-determined;
   edge-sst-write = edge-sst-write-determined;
   edge-sst-sections = edge-sst-sections-determined;
@@ -242,6 +252,7 @@ pub record NothingAsked : Type 2 where
   pub check : Free c-check.ended c-check-reads.Pre
   pub checked : Free c-checked.ended c-checked-reads.Pre
   pub read-out : Free c-read-out.ended c-read-out-reads.Pre
+  pub summary : Free c-summary.ended c-summary-reads.Pre
   pub needed : Free c-needed.ended c-needed-reads.Pre
   pub write : Free c-write.ended c-write-reads.Pre
   pub check-batch : Free c-check-batch.ended c-check-batch-reads.Pre
@@ -256,6 +267,7 @@ pub record NothingAsked : Type 2 where
   pub edge-sst-lookup-with : Free sst-lookup-with.ended sst-lookup-with-reads.Pre
   pub edge-sst-check : Free sst-check.ended sst-check-reads.Pre
   pub edge-sst-read-out : Free sst-read-out.ended sst-read-out-reads.Pre
+  pub edge-sst-summary : Free sst-summary.ended sst-summary-reads.Pre
   pub edge-sst-needed : Free sst-needed.ended sst-needed-reads.Pre
   pub edge-sst-write : Free sst-write.ended sst-write-reads.Pre
   pub edge-sst-sections : Free sst-sections.ended sst-sections-reads.Pre
@@ -286,6 +298,7 @@ nothing-asked = record {
   check = λ κs a. tt;
   checked = λ κs a. tt;
   read-out = λ κs a. tt;
+  summary = λ κs a. tt;
   needed = λ κs a. tt;
   write = λ κs a. tt;
   check-batch = λ κs a. tt;
@@ -300,6 +313,7 @@ nothing-asked = record {
   edge-sst-lookup-with = λ κs a. tt;
   edge-sst-check = λ κs a. tt;
   edge-sst-read-out = λ κs a. tt;
+  edge-sst-summary = λ κs a. tt;
   edge-sst-needed = λ κs a. tt;
   edge-sst-write = λ κs a. tt;
   edge-sst-sections = λ κs a. tt;

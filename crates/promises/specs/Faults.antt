@@ -39,10 +39,12 @@ use Rattle.full_check.specs.Given.{FaultFirst, full-fault}
 use Rattle.readout.specs.declared.ReadOut.{ReadOut}
 use Rattle.readout.specs.ReadOut.{readOutOf}
 use Rattle.readout.specs.ReadOut.Laws.{read-full}
+use Rattle.summary.specs.Summary.{summarisedOf}
+use Rattle.summary.specs.Promise.{summary-refuses}
 use Rattle.listing.specs.declared.Listed.{Listed}
 use Rattle.listing.specs.List.{listedOf}
 use Rattle.listing.specs.List.Laws.{list-opening}
-use Rattle.promises.specs.Given.{Gives, gives-is, checked-is}
+use Rattle.promises.specs.Given.{Gives, gives-is, checked-is, notSummed}
 
 -- in the group asked for: the file opens, and the search ends at key i
 pub record WrongAsked (f : List ℕ) (key i : ℕ) (w : Flaw) (b : ℕ) : Type 0 where
@@ -70,6 +72,7 @@ pub record Faulty (f : List ℕ) (i : ℕ) (w : Flaw) (b n : ℕ) : Type 0 where
   pub check : Gives Check.Bad (fullCheck f) n b i ↔ WrongChecked f i w b
   pub checked : Gives Opening.Refused (checkedOf f) n b i ↔ WrongChecked f i w b
   pub read-out : (room : ℕ) → Gives ReadOut.Refused (readOutOf f room) n b i ↔ WrongChecked f i w b
+  pub summary : Gives notSummed (summarisedOf f) n b i ↔ WrongChecked f i w b
   -- opening, the header and the section list look at no group
   pub opening : Gives Opening.Refused (openOf f) n b i → ⊥
   pub header : Gives HeaderRead.Refused (headerOf f) n b i → ⊥
@@ -157,6 +160,7 @@ module _ (f : List ℕ) (i : ℕ) (w : Flaw) (b : ℕ) where
         check = Iff·trans (gives-fault Check.Bad (fullCheck f)) full;
         checked = Iff·trans (gives-fault Opening.Refused (checkedOf f)) (Iff·trans (checked-is f told) full);
         read-out = λ room. Iff·trans (gives-fault ReadOut.Refused (readOutOf f room)) (Iff·trans (read-full f room told not-room) full);
+        summary = Iff·trans (gives-fault notSummed (summarisedOf f)) (Iff·trans (summary-refuses f told) full);
         opening = λ g. unopened (opens-refused f told .0 (gives-fault Opening.Refused (openOf f) .0 g));
         header = λ g. unopened (header-opening f told .0 (gives-fault HeaderRead.Refused (headerOf f) .0 g));
         sections = λ room g. unopened (list-opening f room told not-room .0 (gives-fault Listed.Refused (listedOf f room) .0 g));

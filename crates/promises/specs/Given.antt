@@ -22,6 +22,9 @@ use Rattle.full_check.specs.Given.{full-opening}
 use Rattle.readout.specs.declared.ReadOut.{ReadOut}
 use Rattle.readout.specs.ReadOut.{readOutOf}
 use Rattle.readout.specs.ReadOut.Laws.{read-full}
+use Rattle.summary.specs.declared.Summarised.{Summarised}
+use Rattle.summary.specs.Summary.{nothing, summarisedOf}
+use Rattle.summary.specs.Promise.{summary-refuses}
 use Rattle.listing.specs.declared.Listed.{Listed}
 use Rattle.listing.specs.List.{listedOf}
 use Rattle.listing.specs.List.Laws.{list-opening}
@@ -45,8 +48,12 @@ gives-one c n m p q s t a b =
     let one : a .refusal ≡ b .refusal = cc in
     (sym (a .number) ∙ ap numberOf one ∙ b .number, sym (a .place) ∙ ap placeOf one ∙ b .place, sym (a .beside) ∙ ap besideOf one ∙ b .beside)
 
+-- a summary that is refused: nothing is summed up
+abbrev pub notSummed : Refusal → Summarised
+notSummed r = record { told = Check.Bad r; summary = nothing }
+
 -- every call on the file f gives n at p, with s beside it, exactly if A: opening; the header; lookups, partners alone or in full, of every key and in any
--- room; the full check, and what it answers with the record; the read-out and the section list, in any room
+-- room; the full check, and what it answers with the record; the read-out, in any room; the summary; the section list, in any room
 pub record Every (f : List ℕ) (n p s : ℕ) (A : Type 0) : Type 0 where
   pub opening : Gives Opening.Refused (openOf f) n p s ↔ A
   pub header : Gives HeaderRead.Refused (headerOf f) n p s ↔ A
@@ -54,6 +61,7 @@ pub record Every (f : List ℕ) (n p s : ℕ) (A : Type 0) : Type 0 where
   pub check : Gives Check.Bad (fullCheck f) n p s ↔ A
   pub checked : Gives Opening.Refused (checkedOf f) n p s ↔ A
   pub read-out : (room : ℕ) → Gives ReadOut.Refused (readOutOf f room) n p s ↔ A
+  pub summary : Gives notSummed (summarisedOf f) n p s ↔ A
   pub sections : (room : ℕ) → Gives Listed.Refused (listedOf f room) n p s ↔ A
 
 -- the full check's answers are one
@@ -70,5 +78,6 @@ every f r h is =
       check = Iff·trans (gives-is Check.Bad (fullCheck f) r) full;
       checked = Iff·trans (gives-is Opening.Refused (checkedOf f) r) (Iff·trans (checked-is f r) full);
       read-out = λ room. Iff·trans (gives-is ReadOut.Refused (readOutOf f room) r) (Iff·trans (read-full f room r (λ e. omega arith)) full);
+      summary = Iff·trans (gives-is notSummed (summarisedOf f) r) (Iff·trans (summary-refuses f r) full);
       sections = λ room. Iff·trans (gives-is Listed.Refused (listedOf f room) r) (Iff·trans (list-opening f room r (λ e. omega arith)) is);
     }

@@ -4,4 +4,5 @@ pub mod Later
 pub mod Calls
 pub mod Marked
 pub mod Running
+pub mod Summary
 pub mod Fakes

@@ -25,7 +25,7 @@ use Rattle.full_check.specs.Checked.{fine-checked}
 use Rattle.readout.specs.ReadOut.{batchIn}
 use Rattle.readout.specs.ReadOut.Laws.{length-edgesIn, checked-few}
 use Rattle.agreement.specs.SameEdges.{edgesOfFile}
-use Rattle.agreement.specs.OutBytes.{EdgesFit, out-edges}
+use Rattle.agreement.specs.OutBytes.{EdgesFit, fits, out-edges}
 use Rattle.summary.specs.declared.figures.Extremes.{Extremes}
 use Rattle.summary.specs.declared.figures.Summary.{Summary}
 use Rattle.summary.specs.declared.Summarised.{Summarised}
@@ -73,7 +73,7 @@ extremes-are (e ∷ es) = (
 )
 
 -- keys of 64-bit halves stay so
-pub smallest-fits : (k : Id) (es : List Edge) → IdFits k → EdgesFit es → IdFits (smallestKey k es)
+smallest-fits : (k : Id) (es : List Edge) → IdFits k → EdgesFit es → IdFits (smallestKey k es)
 unfolding smallestKey EdgesFit
 smallest-fits k [] h f = h
 smallest-fits k (e ∷ es) h f = smallest-fits (pick (ltb (idNumber (e .key)) (idNumber k)) (e .key) k) es (go (ltb (idNumber (e .key)) (idNumber k))) (f .1)
@@ -82,7 +82,7 @@ smallest-fits k (e ∷ es) h f = smallest-fits (pick (ltb (idNumber (e .key)) (i
     go true = (f .0 .key-hi, f .0 .key-lo)
     go false = h
 
-pub largest-fits : (k : Id) (es : List Edge) → IdFits k → EdgesFit es → IdFits (largestKey k es)
+largest-fits : (k : Id) (es : List Edge) → IdFits k → EdgesFit es → IdFits (largestKey k es)
 unfolding largestKey EdgesFit
 largest-fits k [] h f = h
 largest-fits k (e ∷ es) h f = largest-fits (pick (ltb (idNumber k) (idNumber (e .key))) (e .key) k) es (go (ltb (idNumber k) (idNumber (e .key)))) (f .1)
@@ -90,6 +90,16 @@ largest-fits k (e ∷ es) h f = largest-fits (pick (ltb (idNumber k) (idNumber (
     go : (b : Bool) → IdFits (pick b (e .key) k)
     go true = (f .0 .key-hi, f .0 .key-lo)
     go false = h
+
+unfoldable pub ExtremesFit : Extremes → Type 0
+ExtremesFit Extremes.None = Unit {0}
+ExtremesFit (Extremes.Some a b s l) = IdFits a × IdFits b
+
+extremes-fit : (es : List Edge) → EdgesFit es → ExtremesFit (extremesOf es)
+unfolding EdgesFit extremesOf ExtremesFit
+extremes-fit [] f = tt
+extremes-fit (e ∷ es) f =
+    let k : IdFits (e .key) = (f .0 .key-hi, f .0 .key-lo) in (smallest-fits (e .key) es k (f .1), largest-fits (e .key) es k (f .1))
 
 -- ---- what a summary says of edges
 
@@ -164,6 +174,15 @@ module _ (f : List ℕ) where
   -- it is the summary of the batch that the read-out leaves
   pub summary-of-batch : Bytes f → fullCheck f ≡ Check.Fine → summarisedOf f ≡ record { told = Check.Fine; summary = summaryOf (edgesOf (batchIn f)) }
   summary-of-batch bytes pass = summary-passes pass ∙ ap (λ (es : List Edge). record { told = Check.Fine; summary = summaryOf es }) (sym (out-edges f bytes pass))
+
+  -- its keys are of 64-bit halves
+  pub summary-fits : Bytes f → ExtremesFit (summarisedOf f .summary .extremes)
+  unfolding summarisedOf summarised summaryOf ExtremesFit
+  summary-fits bytes = go (fullCheck f) refl
+    where
+      go : (c : Check) → fullCheck f ≡ c → ExtremesFit (summarised c (summaryOf (edgesOfFile f)) .summary .extremes)
+      go Check.Fine e = extremes-fit (edgesOfFile f) (fits f bytes e)
+      go (Check.Bad r) e = tt
 
 -- "files with equal read-outs have equal summaries"
 pub same-summary : (f g : List ℕ) → Bytes f → Bytes g → fullCheck f ≡ Check.Fine → fullCheck g ≡ Check.Fine → batchIn f ≡ batchIn g → summarisedOf f ≡ summarisedOf g
