@@ -219,7 +219,7 @@ module _ (keys p o : List ℕ) (w : ℕ) (logs dead : List ℕ) where
       key-append k (keyEdges keys p o w logs dead i e) (readFrom keys p o w logs dead d (i + 1) (e + keyDegree keys p o w logs dead i))
       ∙ ap₂ (λ (x y : List Edge). x ++ y) mine ih
 
-  one-read : (k : ℕ) (d i e j : ℕ) → i ≤ j → j < i + d → keyAt keys j ≡ k → ((m : ℕ) → i ≤ m → m < i + d → keyAt keys m ≡ k → m ≡ j)
+  pub one-read : (k : ℕ) (d i e j : ℕ) → i ≤ j → j < i + d → keyAt keys j ≡ k → ((m : ℕ) → i ≤ m → m < i + d → keyAt keys m ≡ k → m ≡ j)
       → ofKey k (readFrom keys p o w logs dead d i e) ≡ keyEdges keys p o w logs dead j (e + degreesFrom p o w (j - i) i)
   unfolding readFrom degreesFrom
   one-read k zero i e j a b q u = absurd (omega arith)

@@ -35,7 +35,7 @@ use Rattle.edge_sst_c.specs.Summary.{figuresTold}
 use Rattle.edge_sst_c.specs.Desk.{checkTold, check-told-fine, check-told-bad}
 use Rattle.refusal.specs.declared.Refusal.{Refusal}
 use Rattle.edge_sst_c.specs.Look.{recordLent}
-use Rattle.edge_sst_c.specs.Back.{openingFrom, headerFrom, lookedFrom, checkFrom, readOutFrom, summarisedFrom, writtenFrom, listedFrom, opening-back, header-back, header-bytes, looked-back, check-back, read-out-back, summary-back, summary-zeros, written-back, listed-back}
+use Rattle.edge_sst_c.specs.Back.{openingFrom, headerFrom, lookedFrom, checkFrom, readOutFrom, summarisedFrom, writtenFrom, listedFrom, opening-back, header-back, header-bytes, looked-back, check-back, read-out-back, EndsTold, summary-back, summary-zeros, summary-ends, written-back, listed-back}
 use Rattle.edge_sst_c.specs.Refused.{Tells, Unfound, opened-tells, header-tells, looked-tells, check-tells, summary-tells, read-tells, written-tells, listed-tells, partners-stay, edges-stay, read-stays, write-stays, sections-stay, running-stays}
 use Rattle.base.proofs.Every.{Every}
 use Rattle.edge_sst_c.proofs.edge_sst_open as c-open
@@ -159,6 +159,9 @@ summary-number κs a r e p = rw p (summary-tells (now (a .0)))
 pub summary-refused : Every c-summary.ended c-summary-reads.Post (λ κs a r e. (q : Refusal) → fullCheck (now (a .0)) ≡ Check.Bad q
     → r ≡ figuresTold (checkTold (Check.Bad q)) nothing (record { there = 0; smallestkey = replicate 16 0; largestkey = replicate 16 0; smallestlog = 0; largestlog = 0 }))
 summary-refused κs a r e p q h = p ∙ summary-zeros (now (a .0)) q h
+
+pub summary-extremes : Every c-summary.ended c-summary-reads.Post (λ κs a r e. EndsTold r)
+summary-extremes κs a r e p = rw p (summary-ends (now (a .0)))
 
 pub needed-number : Every c-needed.ended c-needed-reads.Post (λ κs a r e. Tells Written.Refused (neededOf (now (a .0))) (r .number))
 needed-number κs a r e p = rw p (written-tells (neededOf (now (a .0))))

@@ -6,7 +6,7 @@ use native.Mathlib.Omega.{arith}
 use mathlib.Core.List.{List, [], _∷_, append-nil}
 use mathlib.Core.Bool.{Bool, true, false}
 use lib.ListN.{length, take, drop, replicate}
-use lib.Dec.{ltb}
+use lib.Dec.{ltb, eqb}
 use borrow.Author.Tests.{lt-ltb}
 use Rattle.base.specs.Bytes.{Bytes}
 use Rattle.base.specs.Pick.{pick}
@@ -34,8 +34,9 @@ use Rattle.readout.specs.declared.ReadOut.{ReadOut}
 use Rattle.full_check.specs.Full.{fullCheck}
 use Rattle.summary.specs.declared.figures.Extremes.{Extremes}
 use Rattle.summary.specs.declared.Summarised.{Summarised}
+use Rattle.summary.specs.declared.figures.Summary.{Summary}
 use Rattle.summary.specs.Summary.{nothing, summarisedOf}
-use Rattle.summary.specs.Promise.{ExtremesFit, summary-refuses, summary-fits}
+use Rattle.summary.specs.Promise.{EndsThere, ExtremesFit, summary-refuses, summary-there, summary-fits}
 use Rattle.write_file.specs.declared.Written.{Written}
 use Rattle.listing.specs.declared.Listed.{Listed}
 use Rattle.edge_sst_c.specs.declared.EdgeSstOpened.{EdgeSstOpened}
@@ -171,7 +172,7 @@ header-bytes f by (HeaderRead.Refused r) e zero = absurd (omega (arith, number-s
 -- ---- the summary
 
 abbrev extremesFrom : ExtremesTold → Extremes
-extremesFrom x = pick (ltb 0 (x .there)) (Extremes.Some (halvesAt (x .smallestkey) 0) (halvesAt (x .largestkey) 0) (x .smallestlog) (x .largestlog)) Extremes.None
+extremesFrom x = pick (eqb (x .there) 1) (Extremes.Some (halvesAt (x .smallestkey) 0) (halvesAt (x .largestkey) 0) (x .smallestlog) (x .largestlog)) Extremes.None
 
 abbrev pub summarisedFrom : EdgeSstSummary → Summarised
 summarisedFrom r = record {
@@ -216,6 +217,20 @@ pub summary-zeros : (f : List ℕ) (r : Refusal) → fullCheck f ≡ Check.Bad r
     → summaryTold (summarisedOf f) ≡ figuresTold (checkTold (Check.Bad r)) nothing (record { there = 0; smallestkey = replicate 16 0; largestkey = replicate 16 0; smallestlog = 0; largestlog = 0 })
 unfolding summaryTold extremesTold
 summary-zeros f r e = ap summaryTold (summary-refuses f r .1 e)
+
+-- `extremes` is 1 exactly where there are edges, and without edges all five fields are 0
+pub record EndsTold (t : EdgeSstSummary) : Type 0 where
+  pub some : 1 ≤ t .edgecount → t .extremes ≡ 1
+  pub none : t .edgecount ≡ 0 → (t .extremes ≡ 0) × (t .smallestkey ≡ replicate 16 0) × (t .largestkey ≡ replicate 16 0) × (t .smallestlog ≡ 0) × (t .largestlog ≡ 0)
+
+ends-told : (told : EdgeSstTold) (s : Summary) → EndsThere s → (x : Extremes) → s .extremes ≡ x → EndsTold (figuresTold told s (extremesTold x))
+unfolding extremesTold
+ends-told told s h Extremes.None e = record { some = λ l. absurd (h .some l e); none = λ z. (refl, refl, refl, refl, refl) }
+ends-told told s h (Extremes.Some a b p q) e = record { some = λ l. refl; none = λ z. let n : _≡_ {A = ℕ} 0 1 = cc (sym e ∙ h .none z) in absurd (omega arith) }
+
+pub summary-ends : (f : List ℕ) → EndsTold (summaryTold (summarisedOf f))
+unfolding summaryTold
+summary-ends f = let s = summarisedOf f in ends-told (checkTold (s .told)) (s .summary) (summary-there f) (s .summary .extremes) refl
 
 -- ---- the opened record
 

@@ -1,11 +1,10 @@
 -- What the summary's call for C tells of the library's answer.
-use mathlib.Core.Path.{_≡_, sym, ap, ap₂, _∙_}
+use mathlib.Core.Path.{_≡_, sym, ap, _∙_}
 use Prim.Native.Nat.{ℕ}
 use mathlib.Core.List.{List}
 use lib.ListN.{replicate}
 use Rattle.codes.specs.declared.ids.Id.{Id}
 use Rattle.codes.specs.Ids.{idBytes}
-use Rattle.refusal.specs.declared.Check.{Check}
 use Rattle.summary.specs.declared.figures.Extremes.{Extremes}
 use Rattle.summary.specs.declared.figures.Summary.{Summary}
 use Rattle.summary.specs.declared.Summarised.{Summarised}
@@ -41,15 +40,15 @@ summaryTold s = figuresTold (checkTold (s .told)) (s .summary) (extremesTold (s 
 
 -- ---- laws
 
-pub extremes-none : (x : Extremes) → x ≡ Extremes.None → record { there = 0; smallestkey = replicate 16 0; largestkey = replicate 16 0; smallestlog = 0; largestlog = 0 } ≡ extremesTold x
+pub told-none : (x : Extremes) → x ≡ Extremes.None → record { there = 0; smallestkey = replicate 16 0; largestkey = replicate 16 0; smallestlog = 0; largestlog = 0 } ≡ extremesTold x
 unfolding extremesTold
-extremes-none x e = sym (ap extremesTold e)
+told-none x e = sym (ap extremesTold e)
 
-pub extremes-some : (x : Extremes) (a b : Id) (s l : ℕ) {p q : List ℕ} → x ≡ Extremes.Some a b s l → p ≡ idBytes a → q ≡ idBytes b
+pub told-some : (x : Extremes) (a b : Id) (s l : ℕ) {p q : List ℕ} → x ≡ Extremes.Some a b s l → p ≡ idBytes a → q ≡ idBytes b
     → record { there = 1; smallestkey = p; largestkey = q; smallestlog = s; largestlog = l } ≡ extremesTold x
 unfolding extremesTold
-extremes-some x a b s l e p q = (λ i. record { there = 1; smallestkey = p i; largestkey = q i; smallestlog = s; largestlog = l }) ∙ sym (ap extremesTold e)
+told-some x a b s l e p q = (λ i. record { there = 1; smallestkey = p i; largestkey = q i; smallestlog = s; largestlog = l }) ∙ sym (ap extremesTold e)
 
-pub summary-told : {r : EdgeSstSummary} {t : EdgeSstTold} {s u : Summarised} → s ≡ u → t ≡ checkTold (s .told) → r ≡ figuresTold t (s .summary) (extremesTold (s .summary .extremes)) → r ≡ summaryTold u
+pub told-summary : {r : EdgeSstSummary} {t : EdgeSstTold} {s u : Summarised} → s ≡ u → t ≡ checkTold (s .told) → r ≡ figuresTold t (s .summary) (extremesTold (s .summary .extremes)) → r ≡ summaryTold u
 unfolding summaryTold
-summary-told {s = s} e p q = q ∙ ap (λ (x : EdgeSstTold). figuresTold x (s .summary) (extremesTold (s .summary .extremes))) p ∙ ap summaryTold e
+told-summary {s = s} e p q = q ∙ ap (λ (x : EdgeSstTold). figuresTold x (s .summary) (extremesTold (s .summary .extremes))) p ∙ ap summaryTold e

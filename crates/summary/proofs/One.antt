@@ -1,5 +1,6 @@
--- Each contract of the crate leaves one result.
-use mathlib.Core.Path.{_≡_, refl, sym, _∙_}
+-- Each public contract of the crate leaves one result. Whether a block of log numbers lies within a span is told in one direction only: it
+-- bears on speed alone.
+use mathlib.Core.Path.{refl, sym, _∙_}
 use Rattle.base.proofs.Determined.{Determined}
 use Rattle.summary.proofs.summary as summary
 use Rattle.summary.proofs.summary.Reads as summary-reads

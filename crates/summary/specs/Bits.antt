@@ -1,5 +1,5 @@
 -- What the machine counts: the leading zeros of a degree give its bucket, the ones of a tombstone byte its dead edges.
-use mathlib.Core.Path.{_≡_, refl, sym, ap, ap₂, _∙_}
+use mathlib.Core.Path.{_≡_, sym, ap, ap₂, _∙_}
 use Prim.Native.Nat.{ℕ, zero, suc, _+_, _-_, _*_, _/_, _%_, _^_, _≤_, _<_}
 use native.Mathlib.Nat.{add-zero, zero-add, pow-suc, div-div-eq-div-mul, div-one}
 use native.Mathlib.Omega.{arith}
@@ -42,7 +42,8 @@ marks-ones (suc t) s b j h l =
     let ih = marks-ones t s b (suc j) (omega arith) (rw half (omega arith)) in
     ap₂ (λ (x y : ℕ). x + y) mark (ap (countDead t s) next ∙ ih ∙ ap ones half) ∙ sym (ones-step (getD s b 0 / 2 ^ j))
 
--- "the tombstone count from the ones in each byte": the ones of byte b are the dead edges among its eight
+-- "the tombstone count from the ones in each byte": the ones of byte b are the dead edges among its eight; the unused
+-- bits of the last byte are 0 (`unused-none`)
 pub ones-dead : (s : List ℕ) (b : ℕ) → getD s b 0 < 2 ^ 8 → countDead 8 s (8 * b) ≡ ones (getD s b 0)
 ones-dead s b h =
     let one : getD s b 0 / 2 ^ 0 ≡ getD s b 0 = div-one (getD s b 0) in

@@ -1,12 +1,11 @@
 -- Summaries computed by the definitions: degrees at both sides of powers of two, the ends of log numbers, dead edges, none.
 use mathlib.Core.Path.{_≡_, refl}
-use Prim.Native.Nat.{ℕ, zero, suc, _+_, _-_, _^_}
+use Prim.Native.Nat.{ℕ, _+_, _-_, _^_}
 use mathlib.Core.List.{List, [], _∷_, _++_}
 use mathlib.Core.Bool.{Bool, true, false}
-use lib.ListN.{length, set, replicate}
-use Rattle.codes.specs.declared.ids.Id.{Id}
+use lib.ListN.{set, replicate}
 use Rattle.codes.specs.Little.{leAt}
-use Rattle.codes.specs.Ids.{beAt, idAt, halvesAt, idNumber}
+use Rattle.codes.specs.Ids.{beAt, idAt, halvesAt}
 use Rattle.codes.specs.Varint.{lastByte, varFrom, varintAt}
 use Rattle.refusal.specs.declared.Refusal.{Refusal}
 use Rattle.refusal.specs.declared.Check.{Check}
@@ -17,11 +16,9 @@ use Rattle.group.specs.Group.{onVarint, splitStep, denseStep, stepAt, onStep, c
 use Rattle.batch.specs.declared.Edge.{Edge}
 use Rattle.batch.specs.Batch.{logsIn}
 use Rattle.batch_groups.specs.Groups.{join, groupsOf}
-use Rattle.full_check.specs.Full.{fullCheck}
 use Rattle.readout.specs.Edges.{edgesFrom, readFrom, edgesIn}
 use Rattle.readout.specs.Cases.{cases-pass, damaged}
 use Rattle.summary.specs.declared.figures.Extremes.{Extremes}
-use Rattle.summary.specs.declared.figures.Summary.{Summary}
 use Rattle.summary.specs.Summary.{smallest, largest, smallestKey, largestKey, extremesOf, degreesOf, bucket, bucketsFrom, bucketsOf, deadIn, nothing, summaryOf, summarisedOf}
 use Rattle.summary.specs.Promise.{summary-passes, summary-refuses}
 
@@ -31,19 +28,20 @@ pub by-degrees : bucketsOf (1 ∷ 2 ∷ 3 ∷ 4 ∷ 7 ∷ 8 ∷ 1023 ∷ 1024 �
 unfolding bucket bucketsFrom
 by-degrees = refl
 
-abbrev edge : ℕ → ℕ → ℕ → Bool → Edge
-edge k p log dead = record { key = record { hi = k; lo = 9 }; partner = record { hi = 0; lo = p }; log = log; dead = dead }
+abbrev edge : ℕ → ℕ → ℕ → ℕ → Bool → Edge
+edge hi lo p log dead = record { key = record { hi = hi; lo = lo }; partner = record { hi = 0; lo = p }; log = log; dead = dead }
 
--- three keys of 2, 1 and 3 edges; the smallest log number is the last key's, the largest the first one's, and both are of dead edges
+-- three keys of 2, 1 and 3 edges, whose lower halves fall; four edges are dead, all of the first key among them; the smallest log
+-- number is of the last key, the largest of the first, and both are of dead edges
 abbrev six : List Edge
-six = edge 4 1 (2 ^ 64 - 1) true ∷ edge 4 2 7 false ∷ edge 5 1 8 false ∷ edge (2 ^ 64 - 1) 1 9 false ∷ edge (2 ^ 64 - 1) 2 0 true ∷ edge (2 ^ 64 - 1) 3 9 true ∷ []
+six = edge 4 8 1 (2 ^ 64 - 1) true ∷ edge 4 8 2 7 true ∷ edge 5 7 1 8 false ∷ edge (2 ^ 64 - 1) 6 1 9 false ∷ edge (2 ^ 64 - 1) 6 2 0 true ∷ edge (2 ^ 64 - 1) 6 3 9 true ∷ []
 
 pub of-six : summaryOf six ≡ record {
   keycount = 3;
   edgecount = 6;
-  tombstones = 3;
+  tombstones = 4;
   largestdegree = 3;
-  extremes = Extremes.Some (record { hi = 4; lo = 9 }) (record { hi = 2 ^ 64 - 1; lo = 9 }) 0 (2 ^ 64 - 1);
+  extremes = Extremes.Some (record { hi = 4; lo = 8 }) (record { hi = 2 ^ 64 - 1; lo = 6 }) 0 (2 ^ 64 - 1);
   buckets = 1 ∷ 2 ∷ replicate 62 0;
 }
 unfolding summaryOf smallest largest smallestKey largestKey extremesOf degreesOf bucket bucketsFrom deadIn logsIn join groupsOf

@@ -1,12 +1,11 @@
 -- The summary of a file that the full check passes, from what its passes give.
 use mathlib.Core.Path.{_≡_, refl, sym, ap, ap₂, _∙_}
-use Prim.Native.Nat.{ℕ, zero, suc, _+_, _-_, _*_, _/_, _≤_, _<_}
-use native.Mathlib.Nat.{zero-add}
+use Prim.Native.Nat.{ℕ, _+_, _-_, _*_, _/_, _≤_, _<_}
 use native.Mathlib.Omega.{arith}
 use native.Mathlib.Decide.{decLt}
 use mathlib.Core.List.{List, [], _∷_}
 use mathlib.Core.Bool.{Bool, true, false}
-use lib.ListN.{length}
+use lib.ListN.{length, getD}
 use Rattle.base.specs.Pick.{pick}
 use Rattle.codes.specs.declared.ids.Id.{Id}
 use Rattle.codes.specs.Little.{leAt}
@@ -16,7 +15,9 @@ use Rattle.refusal.specs.declared.Check.{Check}
 use Rattle.frame.specs.declared.Opened.{Opened}
 use Rattle.frame.specs.declared.Opening.{Opening}
 use Rattle.frame.specs.Frame.{recordOf}
-use Rattle.frame.specs.Open.{knownOf, bytesAt, openOf}
+use Rattle.frame.specs.Open.{knownOf, bytesAt, keyAt, openOf}
+use Rattle.degrees.specs.Degrees.{groupAt}
+use Rattle.group.specs.Group.{degreeOf}
 use Rattle.frame.specs.Open.Laws.{opens-record}
 use Rattle.index.specs.Order.{KeysRise, OffsetsRise}
 use Rattle.lookup.specs.Lookup.{logsFrom}
@@ -25,23 +26,22 @@ use Rattle.reader.specs.Opened.{opened-keys, opened-offsets}
 use Rattle.reader.specs.Look.{opened-holds}
 use Rattle.batch.specs.declared.Edge.{Edge}
 use Rattle.batch_groups.specs.Groups.{groupsOf}
-use Rattle.full_check.specs.Full.{groupsFrom, degreesFrom, marksOf, checkedOf, fullCheck}
+use Rattle.full_check.specs.Full.{groupsFrom, degreesFrom, checkedOf}
 use Rattle.full_check.specs.Checked.{checked-opened, checked-refused, checked-fine}
 use Rattle.readout.specs.Edges.{readFrom, edgesIn}
 use Rattle.readout.specs.ReadOut.Laws.{checked-edges, checked-unused, length-edgesIn}
-use Rattle.agreement.specs.SameEdges.{edgesOfFile}
+use Rattle.agreement.specs.SameEdges.{ofKey, edgesOfFile}
 use Rattle.summary.specs.declared.figures.Extremes.{Extremes}
 use Rattle.summary.specs.declared.figures.Summary.{Summary}
-use Rattle.summary.specs.declared.Summarised.{Summarised}
 use Rattle.summary.specs.declared.logs.Span.{Span}
 use Rattle.summary.specs.declared.tally.Tally.{Tally}
 use Rattle.summary.specs.Summary.{extremesOf, degreesOf, deadIn, nothing, summaryOf, summarised, summarisedOf}
 use Rattle.summary.specs.Summary.Laws.{length-degrees}
 use Rattle.summary.specs.Bits.{countDead}
 use Rattle.summary.specs.Marked.{unused-none, unmarked}
-use Rattle.summary.specs.Tally.{degreesAt, length-degreesAt, AllTold, tallyOf}
+use Rattle.summary.specs.Tally.{degreeTold, degreesAt, length-degreesAt, degreesAt-at, AllTold, tallyOf}
 use Rattle.summary.specs.Logs.{spanOf}
-use Rattle.summary.specs.Read.{all-told, read-dead, read-degrees, read-extremes}
+use Rattle.summary.specs.Read.{all-told, key-degree, read-dead, read-degrees, read-extremes}
 
 module _ (f : List ℕ) (o : Opened) (e : checkedOf f ≡ Opening.Good o) where
   abbrev es : List Edge
@@ -110,6 +110,14 @@ module _ (f : List ℕ) (o : Opened) (e : checkedOf f ≡ Opening.Good o) where
   -- as many keys as groups
   pub keys-are : o .keycount ≡ length (groupsOf (edgesIn (knownOf f o)))
   keys-are = sym (sym (length-degrees (groupsOf es)) ∙ ap length (sym degrees-are) ∙ length-degreesAt ps os w n 0)
+
+  -- the degrees, key by key
+  pub degrees-by-key : (i : ℕ) → i < o .keycount → getD (degreesOf (groupsOf (edgesIn (knownOf f o)))) i 0 ≡ length (ofKey (keyAt (bytesAt f (o .keys)) i) (edgesIn (knownOf f o)))
+  unfolding edgesIn knownOf
+  degrees-by-key i h =
+      let z : 0 + i ≡ i = omega arith in
+      ap (λ (t : List ℕ). getD t i 0) (sym degrees-are) ∙ degreesAt-at ps os w n 0 i h ∙ ap (λ (t : ℕ). degreeTold (degreeOf (groupAt ps os w t))) z
+      ∙ key-degree keys ps os w logs dead n rise good i h
 
   -- ---- tombstones
 

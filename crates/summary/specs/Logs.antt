@@ -4,7 +4,7 @@ use mathlib.Core.Logic.{_⊎_, inl, inr, ⊎-elim}
 use Prim.Native.Nat.{ℕ, zero, suc, _+_, _-_, _*_, _/_, _%_, _^_, _≤_, _<_}
 use native.Mathlib.Nat.{le-refl, add-zero, zero-add, sub-zero}
 use native.Mathlib.Omega.{arith}
-use native.Mathlib.Decide.{decLt, decLe}
+use native.Mathlib.Decide.{decLt}
 use mathlib.Core.List.{List, [], _∷_}
 use mathlib.Core.Bool.{Bool, true, false}
 use lib.Dec.{ltb}
@@ -15,7 +15,7 @@ use Rattle.codes.specs.Little.{leAt}
 use Rattle.lookup.specs.Lookup.{logsFrom}
 use Rattle.summary.specs.declared.logs.Span.{Span}
 use Rattle.summary.specs.Summary.{smallest, largest}
-use Rattle.summary.specs.Summary.Laws.{Among, Smallest, Largest, smallest-is, largest-is, smallest-one, largest-one}
+use Rattle.summary.specs.Summary.Laws.{Among, smallest-is, largest-is, smallest-one, largest-one}
 
 -- a span that takes in numbers more
 unfoldable pub spanOn : Span → List ℕ → Span

@@ -1,15 +1,13 @@
 -- What the query planner may rely on.
 use mathlib.Core.Path.{_≡_, refl, sym, ap, _∙_}
 use mathlib.Core.Logic.{_↔_}
-use Prim.Native.Nat.{ℕ, zero, suc, _+_, _-_, _^_, _≤_, _<_}
+use Prim.Native.Nat.{ℕ, _+_, _-_, _^_, _≤_, _<_}
 use native.Mathlib.Nat.{zero-add}
 use native.Mathlib.Omega.{arith}
 use mathlib.Core.List.{List, [], _∷_}
 use mathlib.Core.Bool.{Bool, true, false}
 use lib.ListN.{length, getD}
 use lib.Dec.{ltb}
-use borrow.Author.Tests.{lt-ltb, le-ltb}
-use native.Mathlib.Decide.{decLt}
 use Rattle.base.specs.Bytes.{Bytes}
 use Rattle.base.specs.Pick.{pick}
 use Rattle.codes.specs.declared.ids.Id.{Id}
@@ -17,6 +15,7 @@ use Rattle.codes.specs.Ids.{idNumber}
 use Rattle.refusal.specs.declared.Refusal.{Refusal}
 use Rattle.refusal.specs.declared.Check.{Check}
 use Rattle.frame.specs.Frame.{recordOf}
+use Rattle.frame.specs.Open.{bytesAt, keyAt}
 use Rattle.batch.specs.declared.Edge.{Edge}
 use Rattle.batch.specs.Batch.{edgesOf, logsIn}
 use Rattle.batch_groups.specs.Groups.{IdFits, groupsOf}
@@ -24,13 +23,14 @@ use Rattle.full_check.specs.Full.{fullCheck}
 use Rattle.full_check.specs.Checked.{fine-checked}
 use Rattle.readout.specs.ReadOut.{batchIn}
 use Rattle.readout.specs.ReadOut.Laws.{length-edgesIn, checked-few}
-use Rattle.agreement.specs.SameEdges.{edgesOfFile}
+use Rattle.agreement.specs.SameEdges.{ofKey, markBytesIn, edgesOfFile}
 use Rattle.agreement.specs.OutBytes.{EdgesFit, fits, out-edges}
 use Rattle.summary.specs.declared.figures.Extremes.{Extremes}
 use Rattle.summary.specs.declared.figures.Summary.{Summary}
 use Rattle.summary.specs.declared.Summarised.{Summarised}
 use Rattle.summary.specs.Summary.{smallest, largest, smallestKey, largestKey, extremesOf, degreesOf, bucket, bucketsOf, deadIn, nothing, summaryOf, summarised, summarisedOf}
-use Rattle.summary.specs.Summary.Laws.{Among, Smallest, Largest, smallest-is, largest-is, total, bucket-at, length-buckets, buckets-total, bucket-none, length-degrees, degrees-total, degrees-some}
+use Rattle.summary.specs.Checked.{keys-are, degrees-by-key}
+use Rattle.summary.specs.Summary.Laws.{Smallest, Largest, smallest-is, largest-is, total, bucket-at, length-buckets, buckets-total, bucket-none, length-degrees, degrees-total, degrees-some}
 
 -- ---- the keys' own smallest and largest
 
@@ -103,40 +103,54 @@ extremes-fit (e ∷ es) f =
 
 -- ---- what a summary says of edges
 
-pub record Says (es : List Edge) (s : Summary) : Type 0 where
-  -- the edges, and the dead ones
+dead-marks : (es : List Edge) → deadIn es ≡ total (markBytesIn es)
+unfolding deadIn markBytesIn total
+dead-marks [] = refl
+dead-marks (e ∷ es) = ap (λ (t : ℕ). pick (e .dead) 1 0 + t) (dead-marks es)
+
+pub record Summed (es : List Edge) (s : Summary) : Type 0 where
+  -- the edges, and the dead ones: the marks of all edges as lookups write them, 1 for a dead one
   pub edges : s .edgecount ≡ length es
-  pub dead : s .tombstones ≡ deadIn es
+  pub dead : s .tombstones ≡ total (markBytesIn es)
   -- a key for each group
   pub keys : s .keycount ≡ length (groupsOf es)
   -- "degrees sum to the edge count", "Buckets sum to the key count"
   pub degrees-sum : total (degreesOf (groupsOf es)) ≡ s .edgecount
   pub buckets-sum : total (s .buckets) ≡ s .keycount
   -- 64 buckets, each by its definition; from 27 on they are 0
-  pub all : length (s .buckets) ≡ 64
+  pub sixty-four : length (s .buckets) ≡ 64
   pub each : (i : ℕ) → i < 64 → getD (s .buckets) i 0 ≡ bucket i (degreesOf (groupsOf es))
   pub high : (i : ℕ) → 27 ≤ i → i < 64 → getD (s .buckets) i 0 ≡ 0
   -- the largest of 0 and the degrees: 0 where there are none
-  pub degree : Largest (s .largestdegree) (0 ∷ degreesOf (groupsOf es))
+  pub largest-degree : Largest (s .largestdegree) (0 ∷ degreesOf (groupsOf es))
   pub ends : Ends es (s .extremes)
 
-pub says : (es : List Edge) → length es ≤ 2 ^ 26 → Says es (summaryOf es)
+pub sums : (es : List Edge) → length es ≤ 2 ^ 26 → Summed es (summaryOf es)
 unfolding summaryOf
-says es few =
+sums es few =
     let ds : List ℕ = degreesOf (groupsOf es) in
     let at : (i : ℕ) → i < 64 → getD (bucketsOf ds) i 0 ≡ bucket i ds = λ i l. bucket-at 64 0 ds i l ∙ ap (λ (t : ℕ). bucket t ds) (zero-add i) in
     record {
       edges = refl;
-      dead = refl;
+      dead = dead-marks es;
       keys = refl;
       degrees-sum = degrees-total es;
       buckets-sum = buckets-total ds (degrees-some (2 ^ 64) es (omega arith)) ∙ length-degrees (groupsOf es);
-      all = length-buckets 64 0 ds;
+      sixty-four = length-buckets 64 0 ds;
       each = at;
       high = λ i h l. at i l ∙ bucket-none 27 ds (degrees-some (2 ^ 27) es (omega arith)) i h;
-      degree = largest-is 0 ds;
+      largest-degree = largest-is 0 ds;
       ends = extremes-are es;
     }
+
+pub record EndsThere (s : Summary) : Type 0 where
+  pub some : 1 ≤ s .edgecount → s .extremes ≡ Extremes.None → ⊥
+  pub none : s .edgecount ≡ 0 → s .extremes ≡ Extremes.None
+
+ends-there : (es : List Edge) → EndsThere (summaryOf es)
+unfolding summaryOf extremesOf
+ends-there [] = record { some = λ h. absurd (omega arith); none = λ e. refl }
+ends-there (e ∷ es) = record { some = λ h q. let z : _≡_ {A = ℕ} 0 1 = cc in omega arith; none = λ z. absurd (omega arith) }
 
 -- ---- of a file
 
@@ -164,16 +178,33 @@ module _ (f : List ℕ) where
       go Check.Fine = refl
       go (Check.Bad r) = refl
 
-  -- a file that passes has at most 2^26 edges, so that all of `Says` holds of it
-  pub summary-says : fullCheck f ≡ Check.Fine → Says (edgesOfFile f) (summarisedOf f .summary)
-  summary-says pass =
+  -- a file that passes has at most 2^26 edges, so that all of `Summed` holds of it
+  pub summary-sums : fullCheck f ≡ Check.Fine → Summed (edgesOfFile f) (summarisedOf f .summary)
+  summary-sums pass =
       let checked = fine-checked f pass in
       let few = checked-few f (recordOf f) checked in
-      rw (summary-passes pass) (says (edgesOfFile f) (omega (arith, length-edgesIn f (recordOf f) checked)))
+      rw (summary-passes pass) (sums (edgesOfFile f) (omega (arith, length-edgesIn f (recordOf f) checked)))
+
+  -- a degree is the number of its key's edges, which a lookup of the key gives: key i, of as many keys as the file has
+  pub summary-degrees : fullCheck f ≡ Check.Fine → (i : ℕ) → i < recordOf f .keycount
+      → getD (degreesOf (groupsOf (edgesOfFile f))) i 0 ≡ length (ofKey (keyAt (bytesAt f (recordOf f .keys)) i) (edgesOfFile f))
+  summary-degrees pass = degrees-by-key f (recordOf f) (fine-checked f pass)
+
+  pub summary-keys : fullCheck f ≡ Check.Fine → recordOf f .keycount ≡ length (groupsOf (edgesOfFile f))
+  summary-keys pass = keys-are f (recordOf f) (fine-checked f pass)
 
   -- it is the summary of the batch that the read-out leaves
   pub summary-of-batch : Bytes f → fullCheck f ≡ Check.Fine → summarisedOf f ≡ record { told = Check.Fine; summary = summaryOf (edgesOf (batchIn f)) }
   summary-of-batch bytes pass = summary-passes pass ∙ ap (λ (es : List Edge). record { told = Check.Fine; summary = summaryOf es }) (sym (out-edges f bytes pass))
+
+  -- there is a smallest and largest exactly where there are edges; also beside a refusal, where nothing is counted
+  pub summary-there : EndsThere (summarisedOf f .summary)
+  unfolding summarisedOf summarised summaryOf
+  summary-there = go (fullCheck f)
+    where
+      go : (c : Check) → EndsThere (summarised c (summaryOf (edgesOfFile f)) .summary)
+      go Check.Fine = ends-there (edgesOfFile f)
+      go (Check.Bad r) = record { some = λ h. absurd (omega arith); none = λ e. refl }
 
   -- its keys are of 64-bit halves
   pub summary-fits : Bytes f → ExtremesFit (summarisedOf f .summary .extremes)

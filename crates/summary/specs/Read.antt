@@ -1,12 +1,11 @@
 -- The summary of a file's edges, by its sections: what each pass gives is what the edges say.
-use mathlib.Core.Path.{_≡_, refl, sym, ap, ap₂, subst, _∙_}
-use Prim.Native.Nat.{ℕ, zero, suc, _+_, _-_, _*_, _/_, _%_, _≤_, _<_}
+use mathlib.Core.Path.{_≡_, refl, sym, ap, ap₂, _∙_}
+use Prim.Native.Nat.{ℕ, zero, suc, _+_, _-_, _*_, _≤_, _<_}
 use native.Mathlib.Nat.{zero-add, add-zero}
 use native.Mathlib.Omega.{arith}
 use mathlib.Core.List.{List, [], _∷_, _++_}
-use mathlib.Core.Bool.{Bool, true, false}
+use mathlib.Core.Bool.{Bool}
 use lib.ListN.{length}
-use lib.Dec.{eqb, ltb}
 use borrow.Author.Tests.{lt-ltb, le-ltb}
 use Rattle.base.specs.Pick.{pick}
 use Rattle.codes.specs.declared.ids.Id.{Id}
@@ -16,20 +15,20 @@ use Rattle.codes.specs.Ids.{idNumber, halvesAt}
 use Rattle.codes.specs.Ids.Laws.{number-halves}
 use Rattle.refusal.specs.declared.Check.{Check}
 use Rattle.frame.specs.Open.{keyAt}
-use Rattle.index.specs.Order.{KeysRise}
+use Rattle.index.specs.Order.{KeysRise, key-once}
 use Rattle.degrees.specs.Degrees.{groupAt}
 use Rattle.group.specs.Group.{degreeOf, partnersOf}
 use Rattle.group.specs.Group.Laws.{good-is}
 use Rattle.group.specs.Good as group
-use Rattle.lookup.specs.Lookup.{markAt, logsFrom}
+use Rattle.lookup.specs.Lookup.{logsFrom}
 use Rattle.batch.specs.declared.Edge.{Edge}
 use Rattle.batch.specs.Batch.{logsIn}
-use Rattle.batch_groups.specs.Groups.{Group, groupsOf}
+use Rattle.batch_groups.specs.Groups.{groupsOf}
 use Rattle.batch_groups.specs.Groups.Laws.{SameKey, OtherKey, groups-run}
 use Rattle.full_check.specs.Full.{groupIn, groupsFrom, degreesFrom}
-use Rattle.readout.specs.Edges.{edgeOf, edgesFrom, keyDegree, keyEdges, readFrom}
+use Rattle.readout.specs.Edges.{edgeOf, edgesFrom, readFrom}
 use Rattle.readout.specs.Edges.Laws.{length-edges}
-use Rattle.agreement.specs.SameEdges.{mark-is, each-good}
+use Rattle.agreement.specs.SameEdges.{ofKey, mark-is, each-good, one-read}
 use Rattle.summary.specs.declared.figures.Extremes.{Extremes}
 use Rattle.summary.specs.Summary.{smallest, largest, smallestKey, largestKey, extremesOf, degreesOf, deadIn}
 use Rattle.summary.specs.Bits.{countDead}
@@ -128,6 +127,13 @@ module _ (keys p o : List ℕ) (w : ℕ) (logs dead : List ℕ) where
 
     pub all-told : AllTold p o w n
     all-told i h = let s = some i h in let d = degree-read i h in omega arith
+
+    -- it is the number of the key's own edges among all
+    pub key-degree : (i : ℕ) → i < n → degreeTold (degreeOf (groupAt p o w i)) ≡ length (ofKey (keyAt keys i) (readFrom keys p o w logs dead n 0 0))
+    key-degree i h =
+        degree-read i h
+        ∙ sym (ap length (one-read keys p o w logs dead (keyAt keys i) n 0 0 i (omega arith) (omega arith) refl (λ m a b q. key-once keys n rise m i (omega arith) h q))
+        ∙ length-edges logs dead (key i) _ (partners i))
 
     key-rises : (i : ℕ) → i + 1 < n → idNumber (key i) < idNumber (key (i + 1))
     key-rises i h =

@@ -1,9 +1,9 @@
 -- The pass over the groups: degrees one by one, each into its bucket. p the partners, o the offsets of w bytes each.
-use mathlib.Core.Path.{_≡_, refl, sym, ap, ap₂, subst, _∙_}
-use Prim.Native.Nat.{ℕ, zero, suc, _+_, _-_, _*_, _^_, _≤_, _<_}
+use mathlib.Core.Path.{_≡_, refl, sym, ap, ap₂, _∙_}
+use Prim.Native.Nat.{ℕ, zero, suc, _+_, _-_, _≤_, _<_}
 use native.Mathlib.Nat.{zero-add, add-zero, sub-zero}
 use native.Mathlib.Omega.{arith}
-use native.Mathlib.Decide.{ℕ-discrete, decLt}
+use native.Mathlib.Decide.{ℕ-discrete}
 use mathlib.Core.List.{List, [], _∷_}
 use mathlib.Core.Bool.{Bool, true, false}
 use lib.ListN.{length, getD, set, replicate, length-set, getD-replicate}
@@ -19,7 +19,7 @@ use Rattle.index.specs.Order.{OffsetsRise}
 use Rattle.degrees.specs.Degrees.{groupAt}
 use Rattle.group.specs.Group.{degreeOf}
 use Rattle.summary.specs.declared.tally.Tally.{Tally}
-use Rattle.summary.specs.Summary.{largest, inBucket, bucket, bucketsFrom, bucketsOf}
+use Rattle.summary.specs.Summary.{largest, inBucket, bucket, bucketsOf}
 use Rattle.summary.specs.Summary.Laws.{bucket-once, bucket-at, length-buckets}
 
 -- a degree that was read, 0 where there is none
@@ -58,6 +58,14 @@ pub length-degreesAt : (p o : List ℕ) (w d i : ℕ) → length (degreesAt p o 
 unfolding degreesAt
 length-degreesAt p o w zero i = refl
 length-degreesAt p o w (suc d) i = ap suc (length-degreesAt p o w d (i + 1))
+
+pub degreesAt-at : (p o : List ℕ) (w d i j : ℕ) → j < d → getD (degreesAt p o w d i) j 0 ≡ degreeTold (degreeOf (groupAt p o w (i + j)))
+unfolding degreesAt
+degreesAt-at p o w zero i j h = absurd (omega arith)
+degreesAt-at p o w (suc d) i zero h = ap (λ (t : ℕ). degreeTold (degreeOf (groupAt p o w t))) (sym (add-zero i))
+degreesAt-at p o w (suc d) i (suc j) h =
+    let k : i + 1 + j ≡ i + suc j = omega arith in
+    degreesAt-at p o w d (i + 1) j (omega arith) ∙ ap (λ (t : ℕ). degreeTold (degreeOf (groupAt p o w t))) k
 
 -- ---- a degree more
 

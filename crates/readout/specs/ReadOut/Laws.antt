@@ -5,7 +5,7 @@ use Prim.Native.Nat.{ℕ, suc, _+_, _-_, _*_, _/_, _%_, _≤_, _<_}
 use native.Mathlib.Nat.{zero-add}
 use native.Mathlib.Omega.{arith}
 use mathlib.Core.List.{List, [], _++_}
-use mathlib.Core.Bool.{Bool, true, false, not, _&&_, Bool·beq}
+use mathlib.Core.Bool.{Bool, true, false, not, Bool·beq}
 use lib.ListN.{length, getD, set, drop, length-append, drop-of-length-le}
 use native.Mathlib.Numerals.{add-one}
 use lib.Seq.{sets, drop-cons}
@@ -20,7 +20,7 @@ use Rattle.refusal.specs.Check.{_⊳_, refuse}
 use Rattle.refusal.specs.Check.Laws.{fine-parts, good-parts, and-parts, bad-then, fine-then, by-first, refuse-own, refuse-fine}
 use Rattle.frame.specs.declared.Opened.{Opened}
 use Rattle.frame.specs.declared.Opening.{Opening}
-use Rattle.frame.specs.Frame.{rowsOf, flag, flagsOf, bodyOf, recordOf}
+use Rattle.frame.specs.Frame.{rowsOf, flag, bodyOf, recordOf}
 use Rattle.frame.specs.Open.{Known, knownOf, bytesAt, openOf, opening, fileCheck}
 use Rattle.frame.specs.Open.Laws.{opens-parts, size-parts, opens-record}
 use Rattle.lookup.specs.Record.{Holds}
@@ -29,7 +29,7 @@ use Rattle.reader.specs.Look.{opened-holds}
 use Rattle.batch.specs.declared.Edge.{Edge}
 use Rattle.batch.specs.Batch.{Heading, headingBytes, recordsOf, batchBytes}
 use Rattle.batch.specs.Batch.Laws.{length-records}
-use Rattle.full_check.specs.Full.{sumsFrom, groupsFrom, degreesFrom, denseFrom, marksOf, dataGood, edgesCheck, fullCheck, checkedOf}
+use Rattle.full_check.specs.Full.{sumsFrom, groupsFrom, degreesFrom, marksOf, dataGood, edgesCheck, fullCheck, checkedOf}
 use Rattle.full_check.specs.Checked.{checked-opened, checked-fine, fine-checked, full-opened}
 use Rattle.readout.specs.declared.ReadOut.{ReadOut}
 use Rattle.readout.specs.Edges.{readFrom, edgesIn}

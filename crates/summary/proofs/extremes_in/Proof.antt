@@ -1,9 +1,7 @@
 -- `summary::extremes_in` meets its contract.
-use mathlib.Core.Path.{_≡_}
 use Prim.Native.Nat.{_≤_}
 use native.Mathlib.Omega.{arith}
 use Rattle.summary.specs.Checked.{checked-holds, some-keys, keys-long, logs-long, extremes-none, extremes-some}
-use borrow.Author.Needs.{needs}
 use Rattle.summary.proofs.extremes_in.Statement.{statement}
 use Rattle.summary.proofs.extremes_in.Tie as tie
 

@@ -1,5 +1,5 @@
 -- `summary::summary` meets its contract.
-use mathlib.Core.Path.{_≡_, sym, _∙_}
+use mathlib.Core.Path.{sym, _∙_}
 use Rattle.summary.specs.Checked.{summarised-fine, summarised-bad}
 use borrow.Author.Needs.{needs}
 use Rattle.summary.proofs.summary.Statement.{statement}

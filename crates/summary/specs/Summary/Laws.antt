@@ -1,25 +1,24 @@
 -- What the words of a summary say: the smallest of numbers is one of them and above none; a degree is in one bucket; buckets sum to
 -- the keys, degrees to the edges.
-use mathlib.Core.Path.{_≡_, refl, sym, ap, ap₂, _∙_}
+use mathlib.Core.Path.{_≡_, refl, sym, ap, _∙_}
 use mathlib.Core.Logic.{_⊎_, inl, inr, ⊎-elim}
-use Prim.Native.Nat.{ℕ, zero, suc, _+_, _-_, _*_, _^_, _≤_, _<_}
+use Prim.Native.Nat.{ℕ, zero, suc, _+_, _-_, _^_, _≤_, _<_}
 use native.Mathlib.Nat.{zero-add}
 use native.Mathlib.Omega.{arith}
-use native.Mathlib.Decide.{decLt, decLe}
-use mathlib.Core.List.{List, [], _∷_, _++_}
+use native.Mathlib.Decide.{decLt}
+use mathlib.Core.List.{List, [], _∷_}
 use mathlib.Core.Bool.{Bool, true, false, _&&_}
 use lib.ListN.{length, getD, length-append}
-use lib.Dec.{ltb, leb}
+use lib.Dec.{ltb, leb, eqb}
 use lib.Pow.{pow-mono}
 use borrow.Author.Tests.{lt-ltb, le-ltb, le-leb, lt-leb, ltb-true, leb-true}
 use Rattle.base.specs.Pick.{pick}
 use Rattle.refusal.specs.Check.Laws.{and-parts}
-use Rattle.codes.specs.declared.ids.Id.{Id}
 use Rattle.codes.specs.Ids.{idNumber}
 use Rattle.batch.specs.declared.Edge.{Edge}
 use Rattle.batch_groups.specs.Groups.{Group, join, groupsOf, flat}
 use Rattle.batch_groups.specs.Groups.Laws.{flat-groups}
-use Rattle.summary.specs.Summary.{smallest, largest, smallestKey, largestKey, degreesOf, inBucket, bucket, bucketsFrom, bucketsOf}
+use Rattle.summary.specs.Summary.{smallest, largest, degreesOf, inBucket, bucket, bucketsFrom, bucketsOf}
 
 -- ---- the smallest and largest of numbers
 
@@ -194,7 +193,7 @@ Filled (g ∷ gs) = (1 ≤ length (g .edges)) × Filled gs
 join-filled : (e : Edge) (gs : List Group) → Filled gs → Filled (join e gs)
 unfolding join Filled
 join-filled e [] h = (omega arith, tt)
-join-filled e (g ∷ gs) h = go (lib.Dec.eqb (idNumber (e .key)) (idNumber (g .key)))
+join-filled e (g ∷ gs) h = go (eqb (idNumber (e .key)) (idNumber (g .key)))
   where
     go : (b : Bool) → Filled (pick b (record { key = e .key; edges = e ∷ (g .edges) } ∷ gs) (record { key = e .key; edges = e ∷ [] } ∷ g ∷ gs))
     go true = (omega arith, h .1)

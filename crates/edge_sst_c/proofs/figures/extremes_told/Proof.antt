@@ -1,5 +1,5 @@
 -- `edge_sst_c::figures::extremes_told` meets its contract.
-use Rattle.edge_sst_c.specs.Summary.{extremes-none, extremes-some}
+use Rattle.edge_sst_c.specs.Summary.{told-none, told-some}
 use borrow.Author.Needs.{needs}
 use Rattle.edge_sst_c.proofs.figures.extremes_told.Statement.{statement}
 use Rattle.edge_sst_c.proofs.figures.extremes_told.Tie as tie
@@ -17,10 +17,10 @@ id-told-requires-2 : tie.Need-id-told-requires-2
 id-told-requires-2 c κs = search needs
 
 returns : tie.Need-returns
-returns c = extremes-none _ (c .enum-told .given .1)
+returns c = told-none _ (c .enum-told .given .1)
 
 returns-2 : tie.Need-returns-2
-returns-2 c = extremes-some _ _ _ _ _ (c .before .before .before .x .given .1) (c .before .id-told .ensures) (c .id-told2 .ensures)
+returns-2 c = told-some _ _ _ _ _ (c .before .before .before .x .given .1) (c .before .id-told .ensures) (c .id-told2 .ensures)
 
 pub extremes-told-spec : {M : Type 1} → statement M
 extremes-told-spec =

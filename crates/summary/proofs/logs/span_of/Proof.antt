@@ -2,7 +2,6 @@
 use Prim.Native.Nat.{_-_}
 use native.Mathlib.Omega.{arith}
 use Rattle.summary.specs.Logs.{Blocks, blocks-start, blocks-on, blocks-end}
-use borrow.Author.Needs.{needs}
 use Rattle.summary.proofs.logs.span_of.Statement.{statement}
 use Rattle.summary.proofs.logs.span_of.Tie as tie
 

@@ -2,7 +2,6 @@
 use Prim.Native.Nat.{_-_}
 use native.Mathlib.Omega.{arith}
 use Rattle.summary.specs.Logs.{Spanning, spanning-start, spanning-on, spanning-end}
-use borrow.Author.Needs.{needs}
 use Rattle.summary.proofs.logs.with_each.Statement.{statement}
 use Rattle.summary.proofs.logs.with_each.Tie as tie
 

@@ -1,5 +1,4 @@
 -- `summary::tally::tally_of` meets its contract.
-use mathlib.Core.Path.{sym, _∙_}
 use Prim.Native.Nat.{_+_, _-_, _*_, _≤_}
 use native.Mathlib.Nat.{mul-le-mul-right}
 use lib.ListN.{length}
