@@ -81,11 +81,11 @@ extern "C" {
  * and rows lie back to back, an archive goes with the header of its own version and no
  * other. */
 #define EDGE_SST_VERSION_MAJOR 0
-#define EDGE_SST_VERSION_MINOR 2
+#define EDGE_SST_VERSION_MINOR 3
 #define EDGE_SST_VERSION_PATCH 0
 #define EDGE_SST_VERSION \
     (10000 * EDGE_SST_VERSION_MAJOR + 100 * EDGE_SST_VERSION_MINOR + EDGE_SST_VERSION_PATCH)
-#define EDGE_SST_VERSION_TEXT "0.2.0"
+#define EDGE_SST_VERSION_TEXT "0.3.0"
 
 /* Bytes of a key and of a partner. They compare as 16 bytes from the first. */
 #define EDGE_SST_KEY_BYTES 16
