@@ -2,8 +2,8 @@
 
 use crate::{ffi, Id};
 
-/// Counts of a file's edges. Dead edges count as others do: among the edges, in degrees and in
-/// log numbers.
+/// Counts of a file's edges, and their smallest and largest. Dead edges count as others do:
+/// among the edges, in degrees and in log numbers.
 #[derive(Clone, Copy, Debug, PartialEq, Eq)]
 pub struct Summary {
     pub key_count: u64,
@@ -12,7 +12,7 @@ pub struct Summary {
     pub tombstones: u64,
     /// The most edges of a key, 0 where there are none.
     pub largest_degree: u64,
-    /// `None` where there are no edges: then nothing is smallest and largest.
+    /// `None` where there are no edges: then there is no smallest and largest.
     pub extremes: Option<Extremes>,
     /// Bucket i counts the keys of degree 2^i up to, but not including, 2^(i+1). As a file has at
     /// most 2^26 edges, buckets 27 to 63 are 0.

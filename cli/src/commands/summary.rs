@@ -16,8 +16,8 @@ pub const COMMAND: Command = Command {
     summary: "Counts and degrees of a file that passes the full check",
     help: "\
 Keys, edges and tombstones, the smallest and largest key and log number, the largest
-degree, and for each power of two how many keys have a degree from it up to the next,
-where there are any:
+degree, and how many keys have a degree from a power of two up to, but not including,
+the next; powers without keys are left out:
 
   keys                 1
   edges                1

@@ -56,11 +56,6 @@ module _ (t : Span) (x : ℕ) (h : t .smallest ≤ t .largest) where
   unfolding spanOn smallest largest
   one-within a b = rw (le-ltb x (t .smallest) a, le-ltb (t .largest) x b)
 
--- two numbers, one after the other
-pub span-two : (t : Span) (a b x y : ℕ) {u v : Span} → x ≡ a → y ≡ b → u ≡ spanOn t (x ∷ []) → v ≡ spanOn u (y ∷ []) → v ≡ spanOn t (a ∷ b ∷ [])
-unfolding spanOn smallest largest
-span-two t a b x y p q m n = n ∙ (λ i. spanOn ((m ∙ ap (λ (z : ℕ). spanOn t (z ∷ [])) p) i) (q i ∷ []))
-
 -- ---- the log numbers s, one by one: i of n from edge e on are taken in
 
 module _ (s : List ℕ) (e n : ℕ) (t : Span) where
@@ -104,22 +99,7 @@ InSpan x t = (t .smallest ≤ x) × (x ≤ t .largest)
 abbrev pub Within : List ℕ → ℕ → ℕ → Span → Type 0
 Within s e n t = (i : ℕ) → i < n → InSpan (leAt s (8 * (e + i)) 8) t
 
--- they leave the span as it is
-within-same : (n : ℕ) (s : List ℕ) (e : ℕ) (t : Span) → Within s e n t → spanOn t (logsFrom n s e) ≡ t
-unfolding spanOn logsFrom smallest largest
-within-same zero s e t h = refl
-within-same (suc n) s e t h =
-    let z : e + 0 ≡ e = omega arith in
-    let first = h 0 (omega arith) in
-    let a : pick (ltb (leAt s (8 * e) 8) (t .smallest)) (leAt s (8 * e) 8) (t .smallest) ≡ t .smallest = ap (λ (b : Bool). pick b (leAt s (8 * e) 8) (t .smallest)) (le-ltb (leAt s (8 * e) 8) (t .smallest) (omega (arith, ap (λ (x : ℕ). leAt s (8 * x) 8) z))) in
-    let b : pick (ltb (t .largest) (leAt s (8 * e) 8)) (leAt s (8 * e) 8) (t .largest) ≡ t .largest = ap (λ (b : Bool). pick b (leAt s (8 * e) 8) (t .largest)) (le-ltb (t .largest) (leAt s (8 * e) 8) (omega (arith, ap (λ (x : ℕ). leAt s (8 * x) 8) z))) in
-    let rest = within-same n s (e + 1) t (λ i l. let k : e + suc i ≡ e + 1 + i = omega arith in rw (← k) (h (suc i) (omega arith))) in
-    (λ i. record { smallest = smallest (a i) (logsFrom n s (e + 1)); largest = largest (b i) (logsFrom n s (e + 1)) }) ∙ rest
-
-pub block-same : (s : List ℕ) (e : ℕ) (t : Span) → Within s e 64 t → t ≡ spanOn t (logsFrom 64 s e)
-block-same s e t h = sym (within-same 64 s e t h)
-
--- a log number of the block is among them
+-- a log number of a block is among its numbers
 log-among : (n : ℕ) (s : List ℕ) (e i : ℕ) → i < n → Among (leAt s (8 * (e + i)) 8) (logsFrom n s e)
 unfolding Among logsFrom
 log-among zero s e i h = absurd (omega arith)
@@ -128,26 +108,7 @@ log-among (suc n) s e (suc i) h =
     let k : e + suc i ≡ e + 1 + i = omega arith in
     inr (subst (λ (x : ℕ). Among (leAt s (8 * x) 8) (logsFrom n s (e + 1))) (sym k) (log-among n s (e + 1) i (omega arith)))
 
--- numbers that are all among others: those others, after them, change nothing more
-among-smallest : (low x y : ℕ) (xs : List ℕ) → Among x xs → Among y xs → ((z : ℕ) → Among z xs → smallest low (x ∷ y ∷ []) ≤ z) → smallest low xs ≡ smallest low (x ∷ y ∷ [])
-unfolding Among
-among-smallest low x y xs p q h =
-    let few = smallest-is low (x ∷ y ∷ []) in
-    smallest-one (low ∷ xs) (smallest-is low xs) (record {
-      among = ⊎-elim (λ e. inl e) (λ u. inr (⊎-elim (λ e. rw e p) (λ v. ⊎-elim (λ e. rw e q) (λ z. absurd z) v) u)) (few .among);
-      least = λ z t. ⊎-elim (λ e. few .least z (inl e)) (λ u. h z u) t;
-    })
-
-among-largest : (high x y : ℕ) (xs : List ℕ) → Among x xs → Among y xs → ((z : ℕ) → Among z xs → z ≤ largest high (x ∷ y ∷ [])) → largest high xs ≡ largest high (x ∷ y ∷ [])
-unfolding Among
-among-largest high x y xs p q h =
-    let few = largest-is high (x ∷ y ∷ []) in
-    largest-one (high ∷ xs) (largest-is high xs) (record {
-      among = ⊎-elim (λ e. inl e) (λ u. inr (⊎-elim (λ e. rw e p) (λ v. ⊎-elim (λ e. rw e q) (λ z. absurd z) v) u)) (few .among);
-      most = λ z t. ⊎-elim (λ e. few .most z (inl e)) (λ u. h z u) t;
-    })
-
--- each log number of the block is one of them by its place
+-- each of its numbers stands at a place
 among-at : (n : ℕ) (s : List ℕ) (e z : ℕ) → Among z (logsFrom n s e) → (i : ℕ) × (i < n) × (z ≡ leAt s (8 * (e + i)) 8)
 unfolding Among logsFrom
 among-at zero s e z h = absurd h
@@ -155,19 +116,35 @@ among-at (suc n) s e z h =
     ⊎-elim (λ q. (0, omega arith, q ∙ ap (λ (x : ℕ). leAt s (8 * x) 8) (sym (add-zero e))))
     (λ u. let (i, l, q) = among-at n s (e + 1) z u in let k : e + 1 + i ≡ e + suc i = omega arith in (suc i, omega arith, q ∙ ap (λ (x : ℕ). leAt s (8 * x) 8) k)) h
 
--- a block that lies within a span and its own ends
-pub block-ends : (s : List ℕ) (e : ℕ) (t : Span) {u : Span} → u ≡ spanOn t (leAt s (8 * e) 8 ∷ leAt s (8 * (e + 63)) 8 ∷ []) → Within s e 64 u → u ≡ spanOn t (logsFrom 64 s e)
+-- of numbers xs that lie within the span of x, which is one of them: x is all that they bring
+one-smallest : (low x : ℕ) (xs : List ℕ) → Among x xs → ((z : ℕ) → Among z xs → smallest low (x ∷ []) ≤ z) → smallest low xs ≡ smallest low (x ∷ [])
+unfolding Among
+one-smallest low x xs p h =
+    let few = smallest-is low (x ∷ []) in
+    smallest-one (low ∷ xs) (smallest-is low xs) (record {
+      among = ⊎-elim (λ e. inl e) (λ u. inr (⊎-elim (λ e. rw e p) (λ z. absurd z) u)) (few .among);
+      least = λ z t. ⊎-elim (λ e. few .least z (inl e)) (λ u. h z u) t;
+    })
+
+one-largest : (high x : ℕ) (xs : List ℕ) → Among x xs → ((z : ℕ) → Among z xs → z ≤ largest high (x ∷ [])) → largest high xs ≡ largest high (x ∷ [])
+unfolding Among
+one-largest high x xs p h =
+    let few = largest-is high (x ∷ []) in
+    largest-one (high ∷ xs) (largest-is high xs) (record {
+      among = ⊎-elim (λ e. inl e) (λ u. inr (⊎-elim (λ e. rw e p) (λ z. absurd z) u)) (few .among);
+      most = λ z t. ⊎-elim (λ e. few .most z (inl e)) (λ u. h z u) t;
+    })
+
+-- a block that lies within a span with the block's own number i
+pub block-one : (s : List ℕ) (e n i : ℕ) → i < n → (t : Span) {x : ℕ} {u : Span} → x ≡ leAt s (8 * (e + i)) 8 → u ≡ spanOn t (x ∷ []) → Within s e n u → u ≡ spanOn t (logsFrom n s e)
 unfolding spanOn
-block-ends s e t {u} q h =
-    let x : ℕ = leAt s (8 * e) 8 in
-    let y : ℕ = leAt s (8 * (e + 63)) 8 in
-    let first : Among x (logsFrom 64 s e) = subst (λ (k : ℕ). Among (leAt s (8 * k) 8) (logsFrom 64 s e)) (add-zero e) (log-among 64 s e 0 (omega arith)) in
-    let last : Among y (logsFrom 64 s e) = log-among 64 s e 63 (omega arith) in
-    let low : u .smallest ≡ smallest (t .smallest) (x ∷ y ∷ []) = ap (λ (v : Span). v .smallest) q in
-    let high : u .largest ≡ largest (t .largest) (x ∷ y ∷ []) = ap (λ (v : Span). v .largest) q in
-    let a = among-smallest (t .smallest) x y (logsFrom 64 s e) first last (λ z m. let (i, l, r) = among-at 64 s e z m in let w = h i l in omega arith) in
-    let b = among-largest (t .largest) x y (logsFrom 64 s e) first last (λ z m. let (i, l, r) = among-at 64 s e z m in let w = h i l in omega arith) in
-    λ i. record { smallest = (low ∙ sym a) i; largest = (high ∙ sym b) i }
+block-one s e n i l t {x} {u} p q h =
+    let mine : Among x (logsFrom n s e) = rw p (log-among n s e i l) in
+    let low : u .smallest ≡ smallest (t .smallest) (x ∷ []) = ap (λ (v : Span). v .smallest) q in
+    let high : u .largest ≡ largest (t .largest) (x ∷ []) = ap (λ (v : Span). v .largest) q in
+    let a = one-smallest (t .smallest) x (logsFrom n s e) mine (λ z m. let (j, k, r) = among-at n s e z m in let w = h j k in omega arith) in
+    let b = one-largest (t .largest) x (logsFrom n s e) mine (λ z m. let (j, k, r) = among-at n s e z m in let w = h j k in omega arith) in
+    λ j. record { smallest = (low ∙ sym a) j; largest = (high ∙ sym b) j }
 
 -- ---- differences to the ends, modulo 2^64: a is x less the smaller end, b the larger end less x
 
@@ -199,14 +176,14 @@ module _ (t : Span) (x a b : ℕ) (fl : t .smallest < 2 ^ 64) (fh : t .largest <
 
 -- i of the block's log numbers are passed: where no top bit was met they lie within
 pub record Signs (s : List ℕ) (e : ℕ) (t : Span) (signs i : ℕ) : Type 0 where
-  pub most : i ≤ 64
+  pub most : i ≤ 80
   pub sure : signs < 2 ^ 63 → Within s e i t
 
 pub signs-start : (s : List ℕ) (e : ℕ) (t : Span) → Signs s e t 0 0
 signs-start s e t = record { most = omega arith; sure = λ h i l. absurd (omega arith) }
 
 module _ (s : List ℕ) (e : ℕ) (t : Span) (signs i : ℕ) (h : Signs s e t signs i) where
-  pub signs-on : i < 64 → (x v : ℕ) → x ≡ leAt s (8 * (e + i)) 8 → (v < 2 ^ 63 → InSpan x t) → Signs s e t (bitOr signs v) (i + 1)
+  pub signs-on : i < 80 → (x v : ℕ) → x ≡ leAt s (8 * (e + i)) 8 → (v < 2 ^ 63 → InSpan x t) → Signs s e t (bitOr signs v) (i + 1)
   signs-on lt x v q here = record {
     most = omega arith;
     sure = λ small j l.
@@ -221,8 +198,8 @@ module _ (s : List ℕ) (e : ℕ) (t : Span) (signs i : ℕ) (h : Signs s e t si
         ];
   }
 
-  pub signs-end : 64 ≤ i → signs < 2 ^ 63 → Within s e 64 t
-  signs-end le small = let most = h .most in let all : i ≡ 64 = omega arith in rw all at (h .sure small)
+  pub signs-end : 80 ≤ i → signs < 2 ^ 63 → Within s e 80 t
+  signs-end le small = let most = h .most in let all : i ≡ 80 = omega arith in rw all at (h .sure small)
 
 -- ---- block by block: the log numbers before edge e are taken in
 
@@ -256,16 +233,16 @@ module _ (s : List ℕ) (n : ℕ) where
   }
 
   module _ (t : Span) (e : ℕ) (h : Blocks t e) where
-    pub blocks-on : 64 ≤ n - e → {u : Span} → u ≡ spanOn t (logsFrom 64 s e) → Blocks u (e + 64)
+    pub blocks-on : 80 ≤ n - e → {u : Span} → u ≡ spanOn t (logsFrom 80 s e) → Blocks u (e + 80)
     unfolding spanOn
     blocks-on more q =
         let some = h .some in
-        let rest : n - e ≡ 64 + (n - (e + 64)) = omega arith in
+        let rest : n - e ≡ 80 + (n - (e + 80)) = omega arith in
         record {
           some = omega arith;
           most = omega arith;
-          ends = span-ends t (logsFrom 64 s e) (h .ends) q;
-          left = ap (λ (x : Span). spanOn x (logsFrom (n - (e + 64)) s (e + 64))) q ∙ span-more 64 (n - (e + 64)) s e t
+          ends = span-ends t (logsFrom 80 s e) (h .ends) q;
+          left = ap (λ (x : Span). spanOn x (logsFrom (n - (e + 80)) s (e + 80))) q ∙ span-more 80 (n - (e + 80)) s e t
               ∙ ap (λ (x : ℕ). spanOn t (logsFrom x s e)) (sym rest) ∙ h .left;
         }
 

@@ -18,8 +18,9 @@ pub struct Span {
 }
 
 impl Span {
-    // So many log numbers are held to a span at once; the contracts say 64.
-    pub const BLOCK: usize = 64;
+    // So many log numbers are held to a span at once, the most that the compiler writes out one after the other; the contracts
+    // say 80.
+    pub const BLOCK: usize = 80;
 
     // The top bit of a number.
     pub const TOP: u64 = 0x8000_0000_0000_0000;
@@ -78,8 +79,8 @@ fn wide_sign(x: u64, s: Span) -> u64
 
 // Do the log numbers of a block from edge e on lie within a span? The compiler takes two at a time.
 fn narrow_within(logs: &[u8], e: usize, s: Span) -> bool
-    requires { ⌜ (s .smallest ≤ s .largest) × (e + 64 ≤ mostEdges) × (logSize * (e + 64) ≤ length (now logs)) ⌝ }
-    ensures { λ r. ⌜ (r ≡ true → Within (now (logs .entry)) e 64 s) ⌝ }
+    requires { ⌜ (s .smallest ≤ s .largest) × (e + 80 ≤ mostEdges) × (logSize * (e + 80) ≤ length (now logs)) ⌝ }
+    ensures { λ r. ⌜ (r ≡ true → Within (now (logs .entry)) e 80 s) ⌝ }
 {
     let mut signs: u64 = 0;
     let mut i: usize = 0;
@@ -92,8 +93,8 @@ fn narrow_within(logs: &[u8], e: usize, s: Span) -> bool
 
 // The same of a span of 2^63 or more.
 fn wide_within(logs: &[u8], e: usize, s: Span) -> bool
-    requires { ⌜ (s .smallest + 2 ^ 63 ≤ s .largest) × (e + 64 ≤ mostEdges) × (logSize * (e + 64) ≤ length (now logs)) ⌝ }
-    ensures { λ r. ⌜ (r ≡ true → Within (now (logs .entry)) e 64 s) ⌝ }
+    requires { ⌜ (s .smallest + 2 ^ 63 ≤ s .largest) × (e + 80 ≤ mostEdges) × (logSize * (e + 80) ≤ length (now logs)) ⌝ }
+    ensures { λ r. ⌜ (r ≡ true → Within (now (logs .entry)) e 80 s) ⌝ }
 {
     let mut signs: u64 = 0;
     let mut i: usize = 0;
@@ -106,8 +107,8 @@ fn wide_within(logs: &[u8], e: usize, s: Span) -> bool
 
 // The same of any span.
 fn within(logs: &[u8], e: usize, s: Span) -> bool
-    requires { ⌜ (s .smallest ≤ s .largest) × (e + 64 ≤ mostEdges) × (logSize * (e + 64) ≤ length (now logs)) ⌝ }
-    ensures { λ r. ⌜ (r ≡ true → Within (now (logs .entry)) e 64 s) ⌝ }
+    requires { ⌜ (s .smallest ≤ s .largest) × (e + 80 ≤ mostEdges) × (logSize * (e + 80) ≤ length (now logs)) ⌝ }
+    ensures { λ r. ⌜ (r ≡ true → Within (now (logs .entry)) e 80 s) ⌝ }
 {
     if s.largest - s.smallest < Span::TOP {
         return narrow_within(logs, e, s);
@@ -115,25 +116,14 @@ fn within(logs: &[u8], e: usize, s: Span) -> bool
     wide_within(logs, e, s)
 }
 
-// A span that takes in the first and the last log number of a block: all of it where log numbers rise or fall.
-fn with_ends(logs: &[u8], e: usize, s: Span) -> Span
-    requires { ⌜ (s .smallest ≤ s .largest) × (e + 64 ≤ mostEdges) × (logSize * (e + 64) ≤ length (now logs)) ⌝ }
-    ensures { λ r. ⌜ r ≡ spanOn s (leAt (now (logs .entry)) (8 * e) 8 ∷ leAt (now (logs .entry)) (8 * (e + 63)) 8 ∷ []) ⌝ }
-{
-    let first = le64(logs, (Logs::ROW as usize) * e);
-    let last = le64(logs, (Logs::ROW as usize) * (e + Span::BLOCK - 1));
-    with_one(with_one(s, first), last)
-}
-
-// A span that takes in a block. Few blocks hold a new smallest or largest where log numbers come in no order.
+// A span that takes in a block, first of all its last log number: where log numbers rise or fall the others then lie within, and where
+// they come in no order few blocks hold a new smallest or largest.
 fn with_block(logs: &[u8], e: usize, s: Span) -> Span
-    requires { ⌜ (s .smallest ≤ s .largest) × (e + 64 ≤ mostEdges) × (logSize * (e + 64) ≤ length (now logs)) ⌝ }
-    ensures { λ r. ⌜ r ≡ spanOn s (logsFrom 64 (now (logs .entry)) e) ⌝ }
+    requires { ⌜ (s .smallest ≤ s .largest) × (e + 80 ≤ mostEdges) × (logSize * (e + 80) ≤ length (now logs)) ⌝ }
+    ensures { λ r. ⌜ r ≡ spanOn s (logsFrom 80 (now (logs .entry)) e) ⌝ }
 {
-    if within(logs, e, s) {
-        return s;
-    }
-    let t = with_ends(logs, e, s);
+    let last = le64(logs, (Logs::ROW as usize) * (e + Span::BLOCK - 1));
+    let t = with_one(s, last);
     if within(logs, e, t) {
         return t;
     }
