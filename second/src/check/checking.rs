@@ -44,7 +44,7 @@ pub fn check(tally: &mut Tally) {
 fn check_sizes(tally: &mut Tally, files: &[CheckFile]) {
     let input = check_files::stdin(files).len();
     let output = check_files::stdout(files).len();
-    tally.same("check input at most 2100000", input <= 2_100_000, true);
+    tally.same("check input at most 2300000", input <= 2_300_000, true);
     for file in files {
         let within = file.bytes.len() <= LONGEST;
         tally.same(&format!("size of {}", file.name), within, true);

@@ -86,8 +86,7 @@ pub fn line_of(batch: &[u8]) -> String {
     let mut kinds = [0; 4];
     for record in batch[HEADING..].chunks_exact(EDGE) {
         *degrees.entry(&record[1..17]).or_default() += 1;
-        let log: [u8; 8] = record[33..].try_into().expect("8 bytes");
-        logs.insert(u64::from_le_bytes(log));
+        logs.insert(log_of(record));
         kinds[usize::from(record[0])] += 1;
     }
     let [_, live, dead, _] = kinds;
@@ -100,6 +99,11 @@ pub fn line_of(batch: &[u8]) -> String {
     ];
     words.extend(bucket_words(degrees.into_values()));
     words.join(" ")
+}
+
+/// The log number of a record of a batch.
+fn log_of(record: &[u8]) -> u64 {
+    u64::from_le_bytes(record[33..].try_into().expect("8 bytes"))
 }
 
 fn extreme_words(degrees: &BTreeMap<&[u8], u64>, logs: &BTreeSet<u64>) -> Option<String> {

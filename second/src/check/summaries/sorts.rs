@@ -1,5 +1,7 @@
 //! The sorts of files that the corpus has to hold for the summary.
 
+mod blocks;
+
 use crate::check::Tally;
 use crate::corpus::check_files::CheckFile;
 use crate::full_check::full_check;
@@ -30,6 +32,7 @@ pub fn check(tally: &mut Tally, files: &[CheckFile]) {
         contents.len(),
         sorts.len()
     ));
+    blocks::check(tally, files);
 }
 
 fn degree(group: &Group) -> usize {

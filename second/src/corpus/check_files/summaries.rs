@@ -1,6 +1,8 @@
 //! Files about the summary. Beside each stands the line that its author has
 //! written down.
 
+mod blocks;
+
 use super::Files;
 use crate::corpus::open_files::samples::{dead, dense, heading_only, live, split};
 use crate::format::kind;
@@ -17,6 +19,7 @@ pub fn add(files: &mut Files) {
     keys(files);
     log_numbers(files);
     extreme_groups(files);
+    blocks::add(files);
     dead_edges(files);
     tombstone_bytes(files);
 }
