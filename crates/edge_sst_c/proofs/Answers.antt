@@ -4,7 +4,7 @@ use mathlib.Core.Path.{_≡_, refl, sym, ap, _∙_}
 use mathlib.Core.Bool.{true, false}
 use Prim.Native.Nat.{ℕ, _+_, _/_, _≤_, _<_}
 use mathlib.Core.List.{List, []}
-use lib.ListN.{length, replicate}
+use lib.ListN.{length}
 use denote.Ref.{now}
 use Rattle.base.specs.Bytes.{Bytes}
 use Rattle.base.specs.Over.{part}
@@ -31,7 +31,7 @@ use Rattle.xxh3_running.specs.Running.Laws.{feed-taken, feed-refused}
 use Rattle.xxh3_running.specs.Running.Sums.{Holds, new-holds, sum-is}
 use Rattle.xxh3_running.specs.Chunks.{taking, taking-holds}
 use Rattle.summary.specs.Summary.{nothing, summarisedOf}
-use Rattle.edge_sst_c.specs.Summary.{figuresTold}
+use Rattle.edge_sst_c.specs.Summary.{noneTold, figuresTold}
 use Rattle.edge_sst_c.specs.Desk.{checkTold, check-told-fine, check-told-bad}
 use Rattle.refusal.specs.declared.Refusal.{Refusal}
 use Rattle.edge_sst_c.specs.Look.{recordLent}
@@ -157,7 +157,7 @@ summary-number κs a r e p = rw p (summary-tells (now (a .0)))
 
 -- beside a refusal all is 0
 pub summary-refused : Every c-summary.ended c-summary-reads.Post (λ κs a r e. (q : Refusal) → fullCheck (now (a .0)) ≡ Check.Bad q
-    → r ≡ figuresTold (checkTold (Check.Bad q)) nothing (record { there = 0; smallestkey = replicate 16 0; largestkey = replicate 16 0; smallestlog = 0; largestlog = 0 }))
+    → r ≡ figuresTold (checkTold (Check.Bad q)) nothing noneTold)
 summary-refused κs a r e p q h = p ∙ summary-zeros (now (a .0)) q h
 
 pub summary-extremes : Every c-summary.ended c-summary-reads.Post (λ κs a r e. EndsTold r)

@@ -47,7 +47,7 @@ use Rattle.edge_sst_c.specs.declared.desk.EdgeSstDone.{EdgeSstDone}
 use Rattle.edge_sst_c.specs.declared.section_list.EdgeSstListed.{EdgeSstListed}
 use Rattle.edge_sst_c.specs.declared.figures.ExtremesTold.{ExtremesTold}
 use Rattle.edge_sst_c.specs.declared.figures.EdgeSstSummary.{EdgeSstSummary}
-use Rattle.edge_sst_c.specs.Summary.{extremesTold, figuresTold, summaryTold}
+use Rattle.edge_sst_c.specs.Summary.{noneTold, extremesTold, figuresTold, summaryTold}
 use Rattle.edge_sst_c.specs.Told.{truth, recordWith, refusalWith, openedTold, told-good, told-refused}
 use Rattle.edge_sst_c.specs.Header.{headerTold}
 use Rattle.edge_sst_c.specs.Look.{lookedTold, recordLent, byte-small, PartnersTold, EdgesTold}
@@ -214,7 +214,7 @@ summary-back f by =
 
 -- beside a refusal all is 0
 pub summary-zeros : (f : List ℕ) (r : Refusal) → fullCheck f ≡ Check.Bad r
-    → summaryTold (summarisedOf f) ≡ figuresTold (checkTold (Check.Bad r)) nothing (record { there = 0; smallestkey = replicate 16 0; largestkey = replicate 16 0; smallestlog = 0; largestlog = 0 })
+    → summaryTold (summarisedOf f) ≡ figuresTold (checkTold (Check.Bad r)) nothing noneTold
 unfolding summaryTold extremesTold
 summary-zeros f r e = ap summaryTold (summary-refuses f r .1 e)
 

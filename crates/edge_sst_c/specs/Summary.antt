@@ -13,9 +13,13 @@ use Rattle.edge_sst_c.specs.declared.figures.ExtremesTold.{ExtremesTold}
 use Rattle.edge_sst_c.specs.declared.figures.EdgeSstSummary.{EdgeSstSummary}
 use Rattle.edge_sst_c.specs.Desk.{checkTold}
 
+-- that there are none
+abbrev pub noneTold : ExtremesTold
+noneTold = record { there = 0; smallestkey = replicate 16 0; largestkey = replicate 16 0; smallestlog = 0; largestlog = 0 }
+
 -- 1 and the four, each key as its 16 bytes; or zeros
 unfoldable pub extremesTold : Extremes → ExtremesTold
-extremesTold Extremes.None = record { there = 0; smallestkey = replicate 16 0; largestkey = replicate 16 0; smallestlog = 0; largestlog = 0 }
+extremesTold Extremes.None = noneTold
 extremesTold (Extremes.Some a b s l) = record { there = 1; smallestkey = idBytes a; largestkey = idBytes b; smallestlog = s; largestlog = l }
 
 abbrev pub figuresTold : EdgeSstTold → Summary → ExtremesTold → EdgeSstSummary
@@ -40,7 +44,7 @@ summaryTold s = figuresTold (checkTold (s .told)) (s .summary) (extremesTold (s 
 
 -- ---- laws
 
-pub told-none : (x : Extremes) → x ≡ Extremes.None → record { there = 0; smallestkey = replicate 16 0; largestkey = replicate 16 0; smallestlog = 0; largestlog = 0 } ≡ extremesTold x
+pub told-none : (x : Extremes) → x ≡ Extremes.None → noneTold ≡ extremesTold x
 unfolding extremesTold
 told-none x e = sym (ap extremesTold e)
 

@@ -64,7 +64,8 @@ degree-summary = record {
 
 -- ---- a file of bytes, byte for byte, with a dead edge: two keys of two edges and one
 
-three : summaryOf (edgesOf mixed) ≡ record {
+abbrev three : Summary
+three = record {
   keycount = 2;
   edgecount = 3;
   tombstones = 1;
@@ -72,15 +73,10 @@ three : summaryOf (edgesOf mixed) ≡ record {
   extremes = Extremes.Some (record { hi = 1; lo = 2 }) (record { hi = 1; lo = 3 }) 7 (2 ^ 64 - 1);
   buckets = 1 ∷ 1 ∷ replicate 62 0;
 }
-unfolding summaryOf smallest largest smallestKey largestKey extremesOf degreesOf bucket bucketsFrom deadIn logsIn join groupsOf mixed edgeAt edgesAt edgesOf halvesAt beAt leAt
-three = refl
 
-pub mixed-summary : summarisedOf mixedFile ≡ summed (record {
-  keycount = 2;
-  edgecount = 3;
-  tombstones = 1;
-  largestdegree = 2;
-  extremes = Extremes.Some (record { hi = 1; lo = 2 }) (record { hi = 1; lo = 3 }) 7 (2 ^ 64 - 1);
-  buckets = 1 ∷ 1 ∷ replicate 62 0;
-})
-mixed-summary = ap summarisedOf (sym mixed-written) ∙ degree-summary .written mixed mixed-lawful ∙ ap summed three
+of-three : summaryOf (edgesOf mixed) ≡ three
+unfolding summaryOf smallest largest smallestKey largestKey extremesOf degreesOf bucket bucketsFrom deadIn logsIn join groupsOf mixed edgeAt edgesAt edgesOf halvesAt beAt leAt
+of-three = refl
+
+pub mixed-summary : summarisedOf mixedFile ≡ summed three
+mixed-summary = ap summarisedOf (sym mixed-written) ∙ degree-summary .written mixed mixed-lawful ∙ ap summed of-three
