@@ -20,12 +20,14 @@ use Rattle.write_image.specs.Cases.{mixed, mixedFile, mixed-written}
 use Rattle.demand2.specs.Cases.{mixed-lawful}
 use Rattle.demand2.specs.Demand2.{fileFor, Lawful, demand-2, edges-written}
 use Rattle.codes.specs.Little.{leAt}
-use Rattle.codes.specs.Ids.{beAt, halvesAt}
+use Rattle.codes.specs.Ids.{beAt, beBytes, halvesAt, idBytes}
 use Rattle.summary.specs.declared.figures.Extremes.{Extremes}
 use Rattle.summary.specs.declared.figures.Summary.{Summary}
 use Rattle.summary.specs.declared.Summarised.{Summarised}
 use Rattle.summary.specs.Summary.{smallest, largest, smallestKey, largestKey, extremesOf, degreesOf, bucket, bucketsFrom, deadIn, summaryOf, summarisedOf}
 use Rattle.summary.specs.Promise.{Summed, summary-passes, summary-refuses, summary-sums, summary-degrees, summary-keys, summary-of-batch, same-summary}
+use Rattle.edge_sst_c.specs.Desk.{checkTold}
+use Rattle.edge_sst_c.specs.Summary.{extremesTold, summaryTold}
 use Rattle.promises.specs.Given.{notSummed}
 
 -- an answer: the full check passed, and this is the summary
@@ -80,3 +82,22 @@ of-three = refl
 
 pub mixed-summary : summarisedOf mixedFile ≡ summed three
 mixed-summary = ap summarisedOf (sym mixed-written) ∙ degree-summary .written mixed mixed-lawful ∙ ap summed of-three
+
+-- and as C is told of it
+pub mixed-told : summaryTold (summarisedOf mixedFile) ≡ record {
+  number = 0;
+  place = 0;
+  beside = 0;
+  keycount = 2;
+  edgecount = 3;
+  tombstones = 1;
+  largestdegree = 2;
+  extremes = 1;
+  smallestkey = 0 ∷ 0 ∷ 0 ∷ 0 ∷ 0 ∷ 0 ∷ 0 ∷ 1 ∷ 0 ∷ 0 ∷ 0 ∷ 0 ∷ 0 ∷ 0 ∷ 0 ∷ 2 ∷ [];
+  largestkey = 0 ∷ 0 ∷ 0 ∷ 0 ∷ 0 ∷ 0 ∷ 0 ∷ 1 ∷ 0 ∷ 0 ∷ 0 ∷ 0 ∷ 0 ∷ 0 ∷ 0 ∷ 3 ∷ [];
+  smallestlog = 7;
+  largestlog = 2 ^ 64 - 1;
+  buckets = 1 ∷ 1 ∷ replicate 62 0;
+}
+unfolding summaryTold extremesTold checkTold idBytes beBytes
+mixed-told = ap summaryTold mixed-summary

@@ -1,6 +1,6 @@
 -- Summaries computed by the definitions: degrees at both sides of powers of two, the ends of log numbers, dead edges, none.
 use mathlib.Core.Path.{_≡_, refl}
-use Prim.Native.Nat.{ℕ, _+_, _-_, _^_}
+use Prim.Native.Nat.{ℕ, zero, suc, _+_, _-_, _^_}
 use mathlib.Core.List.{List, [], _∷_, _++_}
 use mathlib.Core.Bool.{Bool, true, false}
 use lib.ListN.{set, replicate}
@@ -27,6 +27,16 @@ pub by-degrees : bucketsOf (1 ∷ 2 ∷ 3 ∷ 4 ∷ 7 ∷ 8 ∷ 1023 ∷ 1024 �
     ≡ (1 ∷ 2 ∷ 2 ∷ 1 ∷ 0 ∷ 0 ∷ 0 ∷ 0 ∷ 0 ∷ 1 ∷ 1 ∷ 0 ∷ 1 ∷ 0 ∷ 0 ∷ 0 ∷ 0 ∷ 0 ∷ 0 ∷ 0 ∷ 0 ∷ 0 ∷ 0 ∷ 0 ∷ 0 ∷ 1 ∷ 1 ∷ []) ++ replicate 37 0
 unfolding bucket bucketsFrom
 by-degrees = refl
+
+-- 2^i and 2^(i+1) - 1, of n buckets from bucket i on
+unfoldable pub sides : ℕ → ℕ → List ℕ
+sides zero i = []
+sides (suc n) i = 2 ^ i ∷ (2 ^ (i + 1) - 1) ∷ sides n (i + 1)
+
+-- both are in bucket i, of each bucket that a file can fill
+pub by-sides : bucketsOf (sides 27 0) ≡ replicate 27 2 ++ replicate 37 0
+unfolding bucket bucketsFrom sides
+by-sides = refl
 
 abbrev edge : ℕ → ℕ → ℕ → ℕ → Bool → Edge
 edge hi lo p log dead = record { key = record { hi = hi; lo = lo }; partner = record { hi = 0; lo = p }; log = log; dead = dead }

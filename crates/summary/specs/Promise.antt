@@ -1,11 +1,11 @@
 -- What the query planner may rely on.
 use mathlib.Core.Path.{_≡_, refl, sym, ap, _∙_}
-use mathlib.Core.Logic.{_↔_}
-use Prim.Native.Nat.{ℕ, _+_, _-_, _^_, _≤_, _<_}
+use mathlib.Core.Logic.{_↔_, _⊎_, inl, inr}
+use Prim.Native.Nat.{ℕ, suc, _+_, _-_, _^_, _≤_, _<_}
 use native.Mathlib.Nat.{zero-add}
 use native.Mathlib.Omega.{arith}
 use mathlib.Core.List.{List, [], _∷_}
-use mathlib.Core.Bool.{Bool, true, false}
+use mathlib.Core.Bool.{Bool, true, false, false≢true}
 use lib.ListN.{length, getD}
 use lib.Dec.{ltb}
 use Rattle.base.specs.Bytes.{Bytes}
@@ -28,9 +28,9 @@ use Rattle.agreement.specs.OutBytes.{EdgesFit, fits, out-edges}
 use Rattle.summary.specs.declared.figures.Extremes.{Extremes}
 use Rattle.summary.specs.declared.figures.Summary.{Summary}
 use Rattle.summary.specs.declared.Summarised.{Summarised}
-use Rattle.summary.specs.Summary.{smallest, largest, smallestKey, largestKey, extremesOf, degreesOf, bucket, bucketsOf, deadIn, nothing, summaryOf, summarised, summarisedOf}
+use Rattle.summary.specs.Summary.{smallest, largest, smallestKey, largestKey, extremesOf, degreesOf, inBucket, bucket, bucketsOf, deadIn, nothing, summaryOf, summarised, summarisedOf}
 use Rattle.summary.specs.Checked.{keys-are, degrees-by-key}
-use Rattle.summary.specs.Summary.Laws.{Smallest, Largest, smallest-is, largest-is, total, bucket-at, length-buckets, buckets-total, bucket-none, length-degrees, degrees-total, degrees-some}
+use Rattle.summary.specs.Summary.Laws.{Smallest, Largest, smallest-is, largest-is, in-bucket, bucket-bounds, total, bucket-at, length-buckets, buckets-total, bucket-none, length-degrees, degrees-total, degrees-some}
 
 -- ---- the keys' own smallest and largest
 
@@ -108,6 +108,21 @@ unfolding deadIn markBytesIn total
 dead-marks [] = refl
 dead-marks (e ∷ es) = ap (λ (t : ℕ). pick (e .dead) 1 0 + t) (dead-marks es)
 
+-- n of the degrees are "from 2^i up to but not including 2^(i+1)"; said by the bounds themselves, not by `bucket`
+unfoldable pub Counts : ℕ → List ℕ → ℕ → Type 0
+Counts i [] n = n ≡ 0
+Counts i (d ∷ ds) n =
+    ((2 ^ i ≤ d) × (d < 2 ^ (i + 1)) × ((m : ℕ) × (n ≡ suc m) × Counts i ds m)) ⊎ ((2 ^ i ≤ d → d < 2 ^ (i + 1) → ⊥) × Counts i ds n)
+
+bucket-counts : (i : ℕ) (ds : List ℕ) → Counts i ds (bucket i ds)
+unfolding Counts bucket
+bucket-counts i [] = refl
+bucket-counts i (d ∷ ds) = go (inBucket i d) refl (bucket-counts i ds)
+  where
+    go : (b : Bool) → inBucket i d ≡ b → Counts i ds (bucket i ds) → Counts i (d ∷ ds) (pick b 1 0 + bucket i ds)
+    go true e h = let w = bucket-bounds i d e in inl (w .0, w .1, (bucket i ds, omega arith, h))
+    go false e h = inr (λ a b. false≢true (sym e ∙ in-bucket i d a b), rw zero-add h)
+
 pub record Summed (es : List Edge) (s : Summary) : Type 0 where
   -- the edges, and the dead ones: the marks of all edges as lookups write them, 1 for a dead one
   pub edges : s .edgecount ≡ length es
@@ -117,9 +132,9 @@ pub record Summed (es : List Edge) (s : Summary) : Type 0 where
   -- "degrees sum to the edge count", "Buckets sum to the key count"
   pub degrees-sum : total (degreesOf (groupsOf es)) ≡ s .edgecount
   pub buckets-sum : total (s .buckets) ≡ s .keycount
-  -- 64 buckets, each by its definition; from 27 on they are 0
+  -- 64 buckets, each the count that its bounds give; from 27 on they are 0
   pub sixty-four : length (s .buckets) ≡ 64
-  pub each : (i : ℕ) → i < 64 → getD (s .buckets) i 0 ≡ bucket i (degreesOf (groupsOf es))
+  pub each : (i : ℕ) → i < 64 → Counts i (degreesOf (groupsOf es)) (getD (s .buckets) i 0)
   pub high : (i : ℕ) → 27 ≤ i → i < 64 → getD (s .buckets) i 0 ≡ 0
   -- the largest of 0 and the degrees: 0 where there are none
   pub largest-degree : Largest (s .largestdegree) (0 ∷ degreesOf (groupsOf es))
@@ -137,7 +152,7 @@ sums es few =
       degrees-sum = degrees-total es;
       buckets-sum = buckets-total ds (degrees-some (2 ^ 64) es (omega arith)) ∙ length-degrees (groupsOf es);
       sixty-four = length-buckets 64 0 ds;
-      each = at;
+      each = λ i l. rw (at i l) (bucket-counts i ds);
       high = λ i h l. at i l ∙ bucket-none 27 ds (degrees-some (2 ^ 27) es (omega arith)) i h;
       largest-degree = largest-is 0 ds;
       ends = extremes-are es;
