@@ -25,14 +25,14 @@
  *
  * The refusals of each call, in the order in which they are asked:
  *
- *   edge_sst_open             1 to 15
- *   edge_sst_header           1 to 15
- *   edge_sst_sections, list   1 to 15, 20
- *   edge_sst_partners         1 to 15, the group's, 20
- *   edge_sst_lookup           1 to 15, the group's, 19, 20
+ *   edge_sst_open             1 to 9, 36, 10 to 15
+ *   edge_sst_header           those of edge_sst_open
+ *   edge_sst_sections, list   those of edge_sst_open, 20
+ *   edge_sst_partners         those of edge_sst_open, the group's, 20
+ *   edge_sst_lookup           those of edge_sst_open, the group's, 19, 20
  *   edge_sst_partners_with    21, 14, the group's, 20
  *   edge_sst_lookup_with      21, 14, the group's, 19, 20
- *   edge_sst_check            1 to 15, 22, each group's, 23
+ *   edge_sst_check            those of edge_sst_open, 22, each group's, 23
  *   edge_sst_read_out         those of edge_sst_check, 20
  *   edge_sst_summary          those of edge_sst_check
  *   edge_sst_needed           24 and 25 record by record, 26
@@ -46,7 +46,7 @@
  *
  * The place of each, counted from 0:
  *
- *   10, 11, 22                the entry of the section table, skipped kinds counted
+ *   10, 11, 22, 36            the entry of the section table, skipped kinds counted
  *   13                        the key that is not above the one before
  *   14                        the offset, of key count plus one; from the lookups by a
  *                             record the group, whose offsets fall or leave the partners
@@ -81,11 +81,11 @@ extern "C" {
  * and rows lie back to back, an archive goes with the header of its own version and no
  * other. */
 #define EDGE_SST_VERSION_MAJOR 0
-#define EDGE_SST_VERSION_MINOR 3
+#define EDGE_SST_VERSION_MINOR 4
 #define EDGE_SST_VERSION_PATCH 0
 #define EDGE_SST_VERSION \
     (10000 * EDGE_SST_VERSION_MAJOR + 100 * EDGE_SST_VERSION_MINOR + EDGE_SST_VERSION_PATCH)
-#define EDGE_SST_VERSION_TEXT "0.3.0"
+#define EDGE_SST_VERSION_TEXT "0.4.0"
 
 /* Bytes of a key and of a partner. They compare as 16 bytes from the first. */
 #define EDGE_SST_KEY_BYTES 16
@@ -120,7 +120,8 @@ extern "C" {
 #define EDGE_SST_FLAG_DENSE 4
 #define EDGE_SST_FLAG_INVERSE 8
 
-/* Kinds of sections. Every other kind is skipped. */
+/* Kinds of sections. A file with a kind of the reserved range is refused; every other
+ * kind is skipped. */
 #define EDGE_SST_KIND_KEYS 1
 #define EDGE_SST_KIND_OFFSETS 2
 #define EDGE_SST_KIND_PARTNERS 3
@@ -128,6 +129,8 @@ extern "C" {
 #define EDGE_SST_KIND_TOMBSTONES 5
 #define EDGE_SST_KIND_FENCES 6
 #define EDGE_SST_KIND_PROPERTIES 0x0100
+#define EDGE_SST_KIND_RESERVED_FIRST 0x0007
+#define EDGE_SST_KIND_RESERVED_LAST 0x00FF
 
 /* The refusals, as the calls tell them in number; 0 is none. Their texts:
  * edge_sst_text. */
@@ -168,6 +171,7 @@ enum {
     EDGE_SST_VARINT_CUT,
     EDGE_SST_VARINT_LONG,
     EDGE_SST_VARINT_LARGE,
+    EDGE_SST_RESERVED,
     /* numbers: to here */
 };
 
@@ -211,6 +215,7 @@ static inline const char *edge_sst_text(uint64_t number) {
         "varint cut",
         "varint not shortest",
         "varint too large",
+        "a section of a reserved kind",
         /* texts: to here */
     };
     return number < sizeof texts / sizeof texts[0] ? texts[number] : "unknown refusal";

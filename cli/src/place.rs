@@ -35,7 +35,7 @@ impl Counts {
     fn of(number: u64) -> Counts {
         match number {
             1..=9 | 12 | 15 | 21 | 23 | 26 | 27 => Counts::Nothing,
-            10 | 11 | 22 => Counts::Entries,
+            10 | 11 | 22 | 36 => Counts::Entries,
             13 => Counts::Keys,
             14 => Counts::Offsets,
             16 | 28..=35 => Counts::GroupBytes,

@@ -20,6 +20,8 @@ pub const FENCE: usize = 24;
 pub const OFFSET_BITS: [u8; 4] = [24, 32, 40, 48];
 
 pub mod kind {
+    use std::ops::RangeInclusive;
+
     pub const KEYS: u16 = 1;
     pub const OFFSETS: u16 = 2;
     pub const PARTNERS: u16 = 3;
@@ -29,7 +31,9 @@ pub mod kind {
     pub const PROPERTIES: u16 = 0x0100;
 
     /// The kinds that are read: always raw and without a name.
-    pub const READ: std::ops::RangeInclusive<u16> = KEYS..=FENCES;
+    pub const READ: RangeInclusive<u16> = KEYS..=FENCES;
+    /// Kept for sections that change what the others mean: no file has one.
+    pub const RESERVED: RangeInclusive<u16> = 0x0007..=0x00FF;
 }
 
 pub mod flag {

@@ -1,5 +1,5 @@
-//! Opening: the checks 1 to 15, one after the other. The first that fails
-//! gives the refusal; a file that passes all of them is open.
+//! Opening: the checks 1 to 9, 36 and 10 to 15, one after the other. The first
+//! that fails gives the refusal; a file that passes all of them is open.
 
 use crate::format::{
     bound, flag, kind, COUNTS, ENTRY, FENCE, FENCE_HEAD, HEADER, MAGIC, MAJOR, OFFSET_BITS, TRAILER,
@@ -69,6 +69,7 @@ pub fn open(file: &[u8]) -> Result<Opened, Refusal> {
     refuse_if(9, footer.is_none())?;
     let footer = footer.expect("refused otherwise");
 
+    refuse_at(36, footer.rows.iter().position(is_reserved))?;
     refuse_at(10, footer.rows.iter().position(is_not_raw))?;
     refuse_at(11, first_bad_range(&footer.rows, footer_place))?;
     refuse_if(12, counts_are_wrong(&footer, flags))?;
@@ -191,6 +192,11 @@ fn kinds_are_right(footer: &Footer) -> bool {
     let at_most_once = [kind::TOMBSTONES, kind::FENCES];
     once.iter().all(|&kind| footer.count(kind) == 1)
         && at_most_once.iter().all(|&kind| footer.count(kind) <= 1)
+}
+
+/// Check 36. Nothing but the kind matters, and each entry is asked.
+fn is_reserved(row: &SectionRow) -> bool {
+    kind::RESERVED.contains(&row.kind)
 }
 
 /// Check 10.

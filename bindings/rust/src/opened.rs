@@ -60,7 +60,7 @@ pub struct Edges {
 const GUESS: usize = 16;
 
 impl EdgeSst {
-    /// Opens the bytes of a file: refusals 1 to 15. Takes time linear in the keys.
+    /// Opens the bytes of a file: refusals 1 to 15 and 36. Takes time linear in the keys.
     pub fn open(file: &[u8]) -> Result<Opened<'_>, Refusal> {
         // SAFETY: the pointer and length are of one slice, and not null.
         let record = unsafe { ffi::edge_sst_open(file.as_ptr(), file.len()) };

@@ -14,7 +14,7 @@ pub struct Refusal {
 
 /// The text of each number, as in the C header.
 // texts: from refusals.txt
-const TEXTS: [&str; 36] = [
+const TEXTS: [&str; 37] = [
     "no refusal",
     "file under 84 or over 2^30 bytes",
     "magic",
@@ -51,6 +51,7 @@ const TEXTS: [&str; 36] = [
     "varint cut",
     "varint not shortest",
     "varint too large",
+    "a section of a reserved kind",
 ];
 // texts: to here
 

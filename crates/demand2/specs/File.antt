@@ -41,7 +41,7 @@ use Rattle.demand2.specs.Rows.{width-fits, bit-is}
 use Rattle.demand2.specs.Contents.{keys-fine, tombs, Read, read-back}
 use Rattle.demand2.specs.Rules.{offsets-fine, dead-back, unused-back}
 use Rattle.demand2.specs.Fences.{fences-fine}
-use Rattle.demand2.specs.Sections.{AllRaw, raw-is, contentOf, hasKind, twiceKind, onceIn, has-is, kinds-is, names-fine, codecs-fine, raw-numbers, content-laid, len-is, sums-fine, length-content}
+use Rattle.demand2.specs.Sections.{AllRaw, raw-is, contentOf, hasKind, twiceKind, onceIn, has-is, kinds-is, names-fine, reserved-fine, codecs-fine, raw-numbers, content-laid, len-is, sums-fine, length-content}
 
 -- ---- the sections, whichever are there
 
@@ -52,12 +52,12 @@ module _ (keys w : ℕ) (es : List Edge) (gs : List Group) where
   sections-raw : (dead fence : Bool) → AllRaw (raw1 ∷ rawSection kind.offsets (offsetBytes w keys 0 gs) ∷ rawSection kind.partners (partnerBytes keys gs) ∷ rawSection kind.logs (logBytes es) ∷ lastSections dead fence es gs)
   unfolding AllRaw lastSections
   sections-raw dead fence =
-      (raw-is kind.keys (keyBytes gs) (omega arith), (raw-is kind.offsets (offsetBytes w keys 0 gs) (omega arith), (raw-is kind.partners (partnerBytes keys gs) (omega arith), (raw-is kind.logs (logBytes es) (omega arith), last dead fence))))
+      (raw-is kind.keys (keyBytes gs) refl, (raw-is kind.offsets (offsetBytes w keys 0 gs) refl, (raw-is kind.partners (partnerBytes keys gs) refl, (raw-is kind.logs (logBytes es) refl, last dead fence))))
     where
       last : (dead fence : Bool) → AllRaw (pick dead (rawSection kind.tombstones (tombBytes es) ∷ []) [] ++ pick fence (rawSection kind.fences (fencesOf (keysIn gs)) ∷ []) [])
-      last true true = (raw-is kind.tombstones (tombBytes es) (omega arith), (raw-is kind.fences (fencesOf (keysIn gs)) (omega arith), tt))
-      last true false = (raw-is kind.tombstones (tombBytes es) (omega arith), tt)
-      last false true = (raw-is kind.fences (fencesOf (keysIn gs)) (omega arith), tt)
+      last true true = (raw-is kind.tombstones (tombBytes es) refl, (raw-is kind.fences (fencesOf (keysIn gs)) refl, tt))
+      last true false = (raw-is kind.tombstones (tombBytes es) refl, tt)
+      last false true = (raw-is kind.fences (fencesOf (keysIn gs)) refl, tt)
       last false false = tt
 
   -- what the table says of them
@@ -334,7 +334,8 @@ module _ (h : Heading) (es : List Edge) (q : WrittenFile h es) where
     tail = tail-fine x h64 small (q .size);
     sum = sum-fine x h64 small (q .size);
     table = table;
-    raw = rw rows (codecs-fine ss 64 2 0 raw);
+    unreserved = rw rows (reserved-fine ss 64 2 raw);
+    raw = rw rows (codecs-fine ss 64 2 raw);
     apart = ranges-fine x h64 small (q .size);
     counts = counts;
   }

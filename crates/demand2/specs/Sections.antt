@@ -14,7 +14,8 @@ use Rattle.refusal.specs.declared.Check.{Check}
 use Rattle.refusal.specs.Check.Laws.{fine-pick, and-both}
 use Rattle.frame.specs.declared.Row.{Row}
 use Rattle.frame.specs.Kind as kind
-use Rattle.frame.specs.Frame.{rangeOf, has, repeated, sectionOf, all, nameGood, onceGood, codecGood, codecs}
+use Rattle.frame.specs.Frame.{rangeOf, has, repeated, sectionOf, all, nameGood, onceGood, eachRow, kindGood, codecGood, reservedCheck, codecCheck}
+use Rattle.frame.specs.Frame.Laws.{fixed-kinds, fixed-unreserved}
 use Rattle.frame.specs.Open.{bytesAt}
 use Rattle.frame.specs.Layout.{Section, rawSection, payload}
 use Rattle.laid_out.specs.Sum.{xxh3-lt}
@@ -24,7 +25,7 @@ use Rattle.full_check.specs.Full.{sumsFrom}
 
 -- kinds 1 to 6, and their contents
 pub record Raw (s : Section) : Type 0 where
-  pub known : s .kind < 2 ^ 16
+  pub known : kind.fixed (s .kind) ≡ true
   pub codec : s .codec ≡ 0
   pub name : s .name ≡ []
   pub sum : s .sum ≡ xxh3 (s .bytes)
@@ -33,7 +34,7 @@ unfoldable pub AllRaw : List Section → Type 0
 AllRaw [] = Unit {0}
 AllRaw (s ∷ ss) = Raw s × AllRaw ss
 
-pub raw-is : (k : ℕ) (bytes : List ℕ) → k < 2 ^ 16 → Raw (rawSection k bytes)
+pub raw-is : (k : ℕ) (bytes : List ℕ) → kind.fixed k ≡ true → Raw (rawSection k bytes)
 raw-is k bytes h = record { known = h; codec = refl; name = refl; sum = refl }
 
 -- the bytes of the first section of kind k; none: none
@@ -85,19 +86,23 @@ names-fine (s ∷ ss) at i r =
         go true = refl
         go false = refl
 
-pub codecs-fine : (ss : List Section) (at i k : ℕ) → AllRaw ss → codecs (rowsIn at i ss) k ≡ Check.Fine
-unfolding codecs rowsIn AllRaw
-codecs-fine [] at i k r = refl
-codecs-fine (s ∷ ss) at i k r = fine-pick (Check.Bad (Refusal.Codec k)) (raw (kind.fixed (s .kind)) (s .codec) (r .0 .codec)) (codecs-fine ss _ _ (k + 1) (r .1))
-  where
-    raw : (b : Bool) (c : ℕ) → c ≡ 0 → (not b || eqb c 0) ≡ true
-    raw true c z = eq-eqb c 0 z
-    raw false c z = refl
+-- what is asked of each entry, where the sections written are good
+each-fine : (good : Row → Bool) (told : ℕ → Refusal) → ((r : Row) → kind.fixed (r .kind) ≡ true → r .codec ≡ 0 → good r ≡ true)
+    → (ss : List Section) (at i k : ℕ) → AllRaw ss → eachRow good told (rowsIn at i ss) k ≡ Check.Fine
+unfolding eachRow rowsIn AllRaw
+each-fine good told is [] at i k r = refl
+each-fine good told is (s ∷ ss) at i k r = fine-pick (Check.Bad (told k)) (is _ (r .0 .known) (r .0 .codec)) (each-fine good told is ss _ _ (k + 1) (r .1))
+
+pub reserved-fine : (ss : List Section) (at i : ℕ) → AllRaw ss → reservedCheck (rowsIn at i ss) ≡ Check.Fine
+reserved-fine ss at i = each-fine kindGood Refusal.Reserved (λ r f c. ap not (fixed-unreserved (r .kind) f)) ss at i 0
+
+pub codecs-fine : (ss : List Section) (at i : ℕ) → AllRaw ss → codecCheck (rowsIn at i ss) ≡ Check.Fine
+codecs-fine ss at i = each-fine codecGood Refusal.Codec (λ r f c. rw f (eq-eqb (r .codec) 0 c)) ss at i 0
 
 pub raw-numbers : (ss : List Section) → AllRaw ss → AllNumbers ss
 unfolding AllNumbers AllRaw
 raw-numbers [] r = tt
-raw-numbers (s ∷ ss) r = let sum : s .sum < 2 ^ 64 = rw (r .0 .sum) (xxh3-lt (s .bytes)) in (r .0 .known, sum, raw-numbers ss (r .1))
+raw-numbers (s ∷ ss) r = let sum : s .sum < 2 ^ 64 = rw (r .0 .sum) (xxh3-lt (s .bytes)) in let low = fixed-kinds (s .kind) .0 (r .0 .known) in (omega arith, sum, raw-numbers ss (r .1))
 
 -- ---- of the file f in which they lie after p
 

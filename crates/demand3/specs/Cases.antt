@@ -7,26 +7,31 @@ use mathlib.Core.Bool.{false}
 use Rattle.codes.specs.Little.{leAt, leBytes}
 use Rattle.codes.specs.Ids.{beAt, idAt, halvesAt}
 use Rattle.xxh3_spec.specs.Xxh3.{mul, fold, xorshift, rotl, swap, rrmxmx, secret, of1to3, of4to8, of9to16, small, pair, mixStep, inward, of17to128, onward, of129to240, lane, accumulate, stir, scramble, turn, runOn, startLanes, twice, merge, finish, large, xxh3}
+use Rattle.refusal.specs.declared.Refusal.{Refusal}
 use Rattle.frame.specs.declared.Opened.{Opened}
 use Rattle.frame.specs.declared.Opening.{Opening}
 use Rattle.frame.specs.Kind as kind
-use Rattle.frame.specs.Frame.{rowAt, rowsFrom, endFrom, rowsOf, endOf, has, repeated, sectionOf, all, kindsGood, tableGood, codecs, ranges, sizesGood, presenceGood, countsGood, bodyOf, headerIn, atMinor, sizeCheck, headCheck, tailCheck, sumCheck, frameCheck, recordFrom, recordOf, framedFrom, framedOf, shapeCheck, endsCheck, footerCheck, rowsCheck}
+use Rattle.frame.specs.Frame.{rowAt, rowsFrom, endFrom, rowsOf, endOf, has, repeated, sectionOf, all, kindsGood, tableGood, eachRow, ranges, sizesGood, presenceGood, countsGood, bodyOf, headerIn, atMinor, sizeCheck, headCheck, tailCheck, sumCheck, frameCheck, recordFrom, recordOf, framedFrom, framedOf, shapeCheck, endsCheck, footerCheck, rowsCheck}
 use Rattle.frame.specs.Open.{knownOf, keysFrom, offsetGood, offsetsFrom, fenceGood, fencesFrom, fencesGood, contentCheck, fileCheck, opening, openOf}
 use Rattle.frame.specs.Layout.{Layout, rawSection, headBytes, payload, entry, entries, bodyBytes, trailer, layOut}
 use Rattle.frame.specs.Cases.{ids, headingOnly}
 use Rattle.demand3.specs.Strip.{sectionAt, keptOf, stripped, strip}
 
-unfoldable pub laterFile : List ℕ
-laterFile = layOut (record {
-  head = headBytes 200 0 ids;
+-- such a file by its minor version and the kind of that section
+unfoldable pub laterWith : ℕ → ℕ → List ℕ
+laterWith minor k = layOut (record {
+  head = headBytes minor 0 ids;
   sections = rawSection kind.keys []
       ∷ rawSection kind.offsets (0 ∷ 0 ∷ 0 ∷ [])
-      ∷ record { kind = 0x7001; codec = 9; sum = 5; name = 104 ∷ 105 ∷ []; bytes = 1 ∷ 2 ∷ 3 ∷ 4 ∷ [] }
+      ∷ record { kind = k; codec = 9; sum = 5; name = 104 ∷ 105 ∷ []; bytes = 1 ∷ 2 ∷ 3 ∷ 4 ∷ [] }
       ∷ rawSection kind.partners [] ∷ rawSection kind.logs [] ∷ [];
   keycount = 0;
   edgecount = 0;
   bits = 24;
 })
+
+abbrev pub laterFile : List ℕ
+laterFile = laterWith 200 0x7001
 
 pub opens-later :
     (openOf laterFile ≡ Opening.Good (record {
@@ -41,10 +46,21 @@ pub opens-later :
       bits = 24;
     }))
     × (strip laterFile ≡ headingOnly)
-unfolding laterFile headingOnly leAt leBytes beAt idAt mul fold xorshift rotl swap rrmxmx secret of1to3 of4to8 of9to16 small pair mixStep inward of17to128 onward of129to240 lane accumulate stir scramble turn runOn startLanes twice merge finish large xxh3 rowAt rowsFrom endFrom rowsOf endOf has repeated sectionOf all kindsGood tableGood codecs ranges sizesGood presenceGood countsGood bodyOf sizeCheck headCheck tailCheck sumCheck frameCheck recordFrom recordOf framedFrom framedOf knownOf keysFrom offsetGood offsetsFrom fenceGood fencesFrom fencesGood contentCheck fileCheck opening openOf headBytes payload entry entries bodyBytes trailer layOut sectionAt keptOf stripped strip shapeCheck endsCheck footerCheck rowsCheck
+unfolding laterWith headingOnly leAt leBytes beAt idAt mul fold xorshift rotl swap rrmxmx secret of1to3 of4to8 of9to16 small pair mixStep inward of17to128 onward of129to240 lane accumulate stir scramble turn runOn startLanes twice merge finish large xxh3 rowAt rowsFrom endFrom rowsOf endOf has repeated sectionOf all kindsGood tableGood eachRow ranges sizesGood presenceGood countsGood bodyOf sizeCheck headCheck tailCheck sumCheck frameCheck recordFrom recordOf framedFrom framedOf knownOf keysFrom offsetGood offsetsFrom fenceGood fencesFrom fencesGood contentCheck fileCheck opening openOf headBytes payload entry entries bodyBytes trailer layOut sectionAt keptOf stripped strip shapeCheck endsCheck footerCheck rowsCheck
 opens-later = (refl, refl)
+
+-- with a kind of the reserved range it does not open, whatever its minor version, and no copy leaves that section out; with the kinds
+-- beside the range it does
+pub opens-never :
+    (openOf (laterWith 200 0x00FF) ≡ Opening.Refused (Refusal.Reserved 2))
+    × (openOf (laterWith 0 0x0007) ≡ Opening.Refused (Refusal.Reserved 2))
+    × (openOf (strip (laterWith 200 0x00FF)) ≡ Opening.Refused (Refusal.Reserved 2))
+    × (strip (laterWith 200 0x0101) ≡ headingOnly)
+    × (strip (laterWith 0 0x0000) ≡ headingOnly)
+unfolding laterWith headingOnly leAt leBytes beAt idAt mul fold xorshift rotl swap rrmxmx secret of1to3 of4to8 of9to16 small pair mixStep inward of17to128 onward of129to240 lane accumulate stir scramble turn runOn startLanes twice merge finish large xxh3 rowAt rowsFrom endFrom rowsOf endOf has repeated sectionOf all kindsGood tableGood eachRow ranges sizesGood presenceGood countsGood bodyOf sizeCheck headCheck tailCheck sumCheck frameCheck recordFrom recordOf framedFrom framedOf knownOf keysFrom offsetGood offsetsFrom fenceGood fencesFrom fencesGood contentCheck fileCheck opening openOf headBytes payload entry entries bodyBytes trailer layOut sectionAt keptOf stripped strip shapeCheck endsCheck footerCheck rowsCheck
+opens-never = (refl, refl, refl, refl, refl)
 
 -- its header is the copy's, at minor version 200
 pub header-later : headerIn laterFile ≡ atMinor 200 (headerIn headingOnly)
-unfolding laterFile headingOnly leAt leBytes beAt halvesAt headBytes layOut headerIn
+unfolding laterWith headingOnly leAt leBytes beAt halvesAt headBytes layOut headerIn
 header-later = refl

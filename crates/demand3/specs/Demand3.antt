@@ -1,6 +1,7 @@
 -- Demand 3, in one statement: "For every file that opens, take those sections away and set the minor version to 0, mending
 -- offsets, lengths and checksums: the copy opens too, and with equal room every key gets the same answer from both, refusals
--- and places included." And the other way: a later writer's file, with such sections and any minor version, opens where that
+-- and places included." "Demand 3 now speaks of added sections outside the range only": those of unknown kinds (`kind.unknown`),
+-- which the reserved range is no part of. And the other way: a later writer's file, with such sections and any minor version, opens where that
 -- copy does.
 use mathlib.Core.Path.{_≡_, refl, sym, ap, _∙_}
 use mathlib.Core.Logic.{_↔_}

@@ -21,8 +21,8 @@ use Rattle.frame.specs.declared.Range.{Range}
 use Rattle.frame.specs.declared.Opened.{Opened}
 use Rattle.frame.specs.declared.Opening.{Opening}
 use Rattle.frame.specs.Kind as kind
-use Rattle.frame.specs.Frame.{recordFrom, recordOf, framedFrom, framedOf, has, repeated, rangeOf, sectionOf, all, nameGood, kindsGood, codecGood, codecs, ranges, entryCount, rowsOf, endOf, countsGood, keyCount, edgeCount, bitsOf, bodyOf, footLen, flagsOf, sizeCheck, tailCheck, sumCheck, frameCheck}
-use Rattle.frame.specs.Frame.Laws.{length-rows, Table, Apart, Short, names-short, ranges-parts, ranges-made, SameKnown, skipped, section-skipped, kinds-known, kinds-some, counts-known, codec-skipped, name-skipped, ButMinor, flags-minor, head-minor}
+use Rattle.frame.specs.Frame.{recordFrom, recordOf, framedFrom, framedOf, has, repeated, rangeOf, sectionOf, all, nameGood, kindsGood, eachRow, kindGood, codecGood, ranges, entryCount, rowsOf, endOf, countsGood, keyCount, edgeCount, bitsOf, bodyOf, footLen, flagsOf, sizeCheck, tailCheck, sumCheck, reservedCheck, codecCheck, frameCheck}
+use Rattle.frame.specs.Frame.Laws.{length-rows, Table, Apart, Short, names-short, ranges-parts, ranges-made, SameKnown, skipped, section-skipped, kinds-known, kinds-some, counts-known, each-good, kind-skipped, codec-skipped, name-skipped, ButMinor, flags-minor, head-minor}
 use Rattle.frame.specs.Open.{Known, knownOf, bytesAt, contentCheck, fileCheck, openOf}
 use Rattle.frame.specs.Open.Laws.{frames-made, opens-parts, opens-record, opens-fine, size-parts, size-made, tail-parts, tail-magic, tail-made, sum-parts, sum-made}
 use Rattle.lookup.specs.Lookup.{Rooms, lookOf}
@@ -139,18 +139,27 @@ module _ (f b g c : List ℕ) where
       let q : nameGood r ≡ true = rw (w .kind, w .namelen) at (p .0) in
       and-both q (names-added d (s .1) (p .1))
 
-  codecs-copied : {rs ts : List Row} → Copied f b g c rs ts → (i j : ℕ) → (codecs rs i ≡ Check.Fine) ↔ (codecs ts j ≡ Check.Fine)
-  unfolding codecs
-  codecs-copied none i j = (λ e. refl, λ e. refl)
-  codecs-copied (dropped {r} {rs} u d) i j =
-      let ih = codecs-copied d (i + 1) j in
-      (λ e. ih .0 (sym (codec-skipped r rs u i) ∙ e), λ e. codec-skipped r rs u i ∙ ih .1 e)
-  codecs-copied (kept {r} {t} {rs} {ts} u w d) i j =
-      let ih = codecs-copied d (i + 1) (j + 1) in
-      let same : codecGood t ≡ codecGood r = rw (w .kind, w .codec) in (
-        λ e. let p = pick-fine (codecGood r) (codecs rs (i + 1)) (Refusal.Codec i) e in fine-pick (Check.Bad (Refusal.Codec j)) (same ∙ p .0) (ih .0 (p .1)),
-        λ e. let p = pick-fine (codecGood t) (codecs ts (j + 1)) (Refusal.Codec j) e in fine-pick (Check.Bad (Refusal.Codec i)) (sym same ∙ p .0) (ih .1 (p .1)),
-      )
+  -- what is asked of each entry, where it lets unknown kinds be and sees no more than kind and codec
+  module _ (good : Row → Bool) (told : ℕ → Refusal) (passes : (r : Row) → kind.unknown (r .kind) ≡ true → good r ≡ true) (same : (r t : Row) → t .kind ≡ r .kind → t .codec ≡ r .codec → good t ≡ good r) where
+    each-copied : {rs ts : List Row} → Copied f b g c rs ts → (i j : ℕ) → (eachRow good told rs i ≡ Check.Fine) ↔ (eachRow good told ts j ≡ Check.Fine)
+    unfolding eachRow
+    each-copied none i j = (λ e. refl, λ e. refl)
+    each-copied (dropped {r} {rs} u d) i j =
+        let ih = each-copied d (i + 1) j in
+        let on = each-good good told r rs i (passes r u) in
+        (λ e. ih .0 (sym on ∙ e), λ e. on ∙ ih .1 e)
+    each-copied (kept {r} {t} {rs} {ts} u w d) i j =
+        let ih = each-copied d (i + 1) (j + 1) in
+        let is : good t ≡ good r = same r t (w .kind) (w .codec) in (
+          λ e. let p = pick-fine (good r) (eachRow good told rs (i + 1)) (told i) e in fine-pick (Check.Bad (told j)) (is ∙ p .0) (ih .0 (p .1)),
+          λ e. let p = pick-fine (good t) (eachRow good told ts (j + 1)) (told j) e in fine-pick (Check.Bad (told i)) (sym is ∙ p .0) (ih .1 (p .1)),
+        )
+
+  reserved-copied : {rs ts : List Row} → Copied f b g c rs ts → (reservedCheck rs ≡ Check.Fine) ↔ (reservedCheck ts ≡ Check.Fine)
+  reserved-copied d = each-copied kindGood Refusal.Reserved (λ r u. kind-skipped r [] u) (λ r t k x. ap (λ (n : ℕ). not (kind.reserved n)) k) d 0 0
+
+  codecs-copied : {rs ts : List Row} → Copied f b g c rs ts → (codecCheck rs ≡ Check.Fine) ↔ (codecCheck ts ≡ Check.Fine)
+  codecs-copied d = each-copied codecGood Refusal.Codec (λ r u. codec-skipped r [] u) (λ r t k x. ap₂ (λ (n m : ℕ). not (kind.fixed n) || eqb m 0) k x) d 0 0
 
   length-copied : {rs ts : List Row} → Copied f b g c rs ts → length ts ≤ length rs
   length-copied none = omega arith
@@ -266,7 +275,8 @@ module _ (f g : List ℕ) (s : Stripped f g) where
           tail = tail;
           sum = sum;
           table = table-copied (file .table);
-          raw = codecs-copied f b g c (s .table) 0 0 .0 (file .raw);
+          unreserved = reserved-copied f b g c (s .table) .0 (file .unreserved);
+          raw = codecs-copied f b g c (s .table) .0 (file .raw);
           apart = apart;
           counts = counts-same ∙ file .counts;
         }) in
@@ -289,7 +299,8 @@ module _ (f g : List ℕ) (s : Stripped f g) where
         tail = tail;
         sum = sum;
         table = table-added l (copy .table);
-        raw = codecs-copied f b g c (s .table) 0 0 .1 (copy .raw);
+        unreserved = reserved-copied f b g c (s .table) .1 (copy .unreserved);
+        raw = codecs-copied f b g c (s .table) .1 (copy .raw);
         apart = apart;
         counts = sym counts-same ∙ copy .counts;
       }) in

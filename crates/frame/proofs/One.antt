@@ -27,6 +27,8 @@ use Rattle.frame.proofs.kind.Fences.bytes as fences-bytes
 use Rattle.frame.proofs.kind.Fences.bytes.Reads as fences-bytes-reads
 use Rattle.frame.proofs.kind.Fences.entry as fences-entry
 use Rattle.frame.proofs.kind.Fences.entry.Reads as fences-entry-reads
+use Rattle.frame.proofs.kind.Reserved.holds as holds
+use Rattle.frame.proofs.kind.Reserved.holds.Reads as holds-reads
 use Rattle.frame.proofs.kind.Kinds.slot as slot
 use Rattle.frame.proofs.kind.Kinds.slot.Reads as slot-reads
 use Rattle.frame.proofs.ends.foot_len as foot-len
@@ -72,6 +74,9 @@ fences-bytes-determined κs a pre r₁ r₂ w₁ w₂ p q = (p ∙ sym q, refl)
 
 pub fences-entry-determined : Determined fences-entry.ended fences-entry-reads.Pre fences-entry-reads.Post
 fences-entry-determined κs a pre r₁ r₂ w₁ w₂ p q = (p ∙ sym q, refl)
+
+pub holds-determined : Determined holds.ended holds-reads.Pre holds-reads.Post
+holds-determined κs a pre r₁ r₂ w₁ w₂ p q = (p ∙ sym q, refl)
 
 pub slot-determined : Determined slot.ended slot-reads.Pre slot-reads.Post
 slot-determined κs a pre r₁ r₂ w₁ w₂ p q = (p ∙ sym q, refl)

@@ -1,7 +1,7 @@
 -- Two files held to bytes that the second program made: laid out by the definitions, and opened by them.
 use mathlib.Core.Path.{_≡_, refl}
 use mathlib.Core.List.{List, [], _∷_}
-use mathlib.Core.Bool.{false}
+use mathlib.Core.Bool.{true, false}
 use Prim.Native.Nat.{ℕ}
 use lib.ListN.{length}
 use Rattle.codes.specs.Little.{leAt, leBytes}
@@ -14,9 +14,9 @@ use Rattle.frame.specs.declared.Opened.{Opened}
 use Rattle.frame.specs.declared.Opening.{Opening}
 use Rattle.frame.specs.declared.ends.Header.{Header}
 use Rattle.frame.specs.Kind as kind
-use Rattle.frame.specs.Frame.{rowAt, rowsFrom, endFrom, rowsOf, endOf, has, repeated, sectionOf, all, kindsGood, tableGood, codecs, ranges, sizesGood, presenceGood, countsGood, bodyOf, headerIn, sizeCheck, headCheck, tailCheck, sumCheck, endsCheck, rowsCheck, footerCheck, shapeCheck, frameCheck, codecCheck, rangeCheck}
+use Rattle.frame.specs.Frame.{rowAt, rowsFrom, endFrom, rowsOf, endOf, has, repeated, sectionOf, all, kindsGood, tableGood, eachRow, ranges, sizesGood, presenceGood, countsGood, bodyOf, headerIn, sizeCheck, headCheck, tailCheck, sumCheck, endsCheck, rowsCheck, footerCheck, shapeCheck, frameCheck, codecCheck, rangeCheck}
 use Rattle.frame.specs.Open.{recordFrom, recordOf, framedFrom, framedOf, knownOf, keysFrom, offsetGood, offsetsFrom, fenceGood, fencesFrom, fencesGood, contentCheck, fileCheck, opening, openOf}
-use Rattle.frame.specs.Layout.{Layout, rawSection, headBytes, payload, entry, entries, bodyBytes, trailer, layOut}
+use Rattle.frame.specs.Layout.{Section, Layout, rawSection, headBytes, payload, entry, entries, bodyBytes, trailer, layOut}
 
 -- the three ids of both headers
 abbrev pub ids : List ℕ
@@ -106,7 +106,7 @@ pub opened :
       edgecount = 1;
       bits = 24;
     }))
-unfolding headingOnly oneEdge leAt beAt idAt mul fold xorshift rotl swap rrmxmx secret of1to3 of4to8 of9to16 small pair mixStep inward of17to128 onward of129to240 lane accumulate stir scramble turn runOn startLanes twice merge finish large xxh3 rowAt rowsFrom endFrom rowsOf endOf has repeated sectionOf all kindsGood tableGood codecs ranges sizesGood presenceGood countsGood bodyOf sizeCheck headCheck tailCheck sumCheck endsCheck rowsCheck footerCheck shapeCheck frameCheck recordFrom recordOf framedFrom framedOf knownOf keysFrom offsetGood offsetsFrom fenceGood fencesFrom fencesGood contentCheck fileCheck opening openOf
+unfolding headingOnly oneEdge leAt beAt idAt mul fold xorshift rotl swap rrmxmx secret of1to3 of4to8 of9to16 small pair mixStep inward of17to128 onward of129to240 lane accumulate stir scramble turn runOn startLanes twice merge finish large xxh3 rowAt rowsFrom endFrom rowsOf endOf has repeated sectionOf all kindsGood tableGood eachRow ranges sizesGood presenceGood countsGood bodyOf sizeCheck headCheck tailCheck sumCheck endsCheck rowsCheck footerCheck shapeCheck frameCheck recordFrom recordOf framedFrom framedOf knownOf keysFrom offsetGood offsetsFrom fenceGood fencesFrom fencesGood contentCheck fileCheck opening openOf
 opened = (refl, refl)
 
 -- what their header says, and that of a later writer's inverse file
@@ -137,5 +137,60 @@ pub first-place :
     × (rangeCheck 67 (entryOf 0 64 ∷ entryOf 0 65 ∷ entryOf 0 67 ∷ []) ≡ Check.Bad (Refusal.Range 2))
     × (rangeCheck 67 (entryOf 0 64 ∷ entryOf 0 64 ∷ entryOf 0 66 ∷ []) ≡ Check.Bad (Refusal.Range 1))
     × (rangeCheck 67 (entryOf 0 64 ∷ entryOf 0 65 ∷ entryOf 0 66 ∷ []) ≡ Check.Fine)
-unfolding codecs ranges
+unfolding eachRow ranges
 first-place = (refl, refl, refl, refl, refl, refl)
+
+-- ---- kinds at the ends of the reserved range
+
+pub range-ends :
+    (kind.reserved 6 ≡ false) × (kind.reserved 7 ≡ true) × (kind.reserved 8 ≡ true) × (kind.reserved 0x00FE ≡ true) × (kind.reserved 0x00FF ≡ true) × (kind.reserved 0x0100 ≡ false) × (kind.reserved 0 ≡ false)
+    × (kind.unknown 0 ≡ true) × (kind.unknown 1 ≡ false) × (kind.unknown 6 ≡ false) × (kind.unknown 7 ≡ false) × (kind.unknown 0x00FF ≡ false) × (kind.unknown 0x0100 ≡ false) × (kind.unknown 0x0101 ≡ true)
+    × (kind.unknown 0x01FF ≡ true) × (kind.unknown 0x0200 ≡ true) × (kind.unknown 0xFFFF ≡ true)
+range-ends = (refl, refl, refl, refl, refl, refl, refl, refl, refl, refl, refl, refl, refl, refl, refl, refl, refl)
+
+-- ---- rules 9, 36, 10 and 11 of a table: 36 at the first entry of the range, after 9 and before 10 of any entry
+
+-- a section without bytes, by its kind, codec and name; it lies at 64
+abbrev emptySection : ℕ → ℕ → List ℕ → Section
+emptySection k codec name = record { kind = k; codec = codec; sum = 0; name = name; bytes = [] }
+
+abbrev bare : ℕ → Section
+bare k = emptySection k 0 []
+
+abbrev rules : ℕ → List Section → Check
+rules limit ss = rowsCheck limit (bodyBytes ss 0 0 24)
+
+-- the four kinds that a file must have, and one more, first, in the middle and last
+abbrev firstly : ℕ → Check
+firstly k = rules 64 (bare k ∷ bare 1 ∷ bare 2 ∷ bare 3 ∷ bare 4 ∷ [])
+
+abbrev amid : ℕ → Check
+amid k = rules 64 (bare 1 ∷ bare 2 ∷ bare k ∷ bare 3 ∷ bare 4 ∷ [])
+
+abbrev lastly : ℕ → Check
+lastly k = rules 64 (bare 1 ∷ bare 2 ∷ bare 3 ∷ bare 4 ∷ bare k ∷ [])
+
+pub one-more :
+    (firstly 0 ≡ Check.Fine) × (firstly 7 ≡ Check.Bad (Refusal.Reserved 0)) × (firstly 0x00FF ≡ Check.Bad (Refusal.Reserved 0)) × (firstly 0x0100 ≡ Check.Fine) × (firstly 0x0101 ≡ Check.Fine)
+    × (amid 0 ≡ Check.Fine) × (amid 8 ≡ Check.Bad (Refusal.Reserved 2)) × (amid 0x00FF ≡ Check.Bad (Refusal.Reserved 2)) × (amid 0x0100 ≡ Check.Fine) × (amid 0x0200 ≡ Check.Fine)
+    × (lastly 0 ≡ Check.Fine) × (lastly 7 ≡ Check.Bad (Refusal.Reserved 4)) × (lastly 0x00FF ≡ Check.Bad (Refusal.Reserved 4)) × (lastly 0x01FF ≡ Check.Fine) × (lastly 0xFFFF ≡ Check.Fine)
+unfolding leAt leBytes entry entries bodyBytes rowAt rowsFrom endFrom rowsOf endOf has repeated all kindsGood tableGood eachRow ranges rowsCheck
+one-more = (refl, refl, refl, refl, refl, refl, refl, refl, refl, refl, refl, refl, refl, refl, refl)
+
+pub in-order :
+    -- the first of two; whatever its codec and its name
+    (rules 64 (bare 1 ∷ bare 0x00FF ∷ bare 2 ∷ bare 3 ∷ bare 4 ∷ bare 7 ∷ []) ≡ Check.Bad (Refusal.Reserved 1))
+    × (rules 64 (bare 1 ∷ bare 2 ∷ bare 3 ∷ emptySection 0x0080 9 (104 ∷ 105 ∷ []) ∷ bare 4 ∷ []) ≡ Check.Bad (Refusal.Reserved 3))
+    -- 10 before it and after it; alone it is told
+    × (rules 64 (emptySection 1 1 [] ∷ bare 2 ∷ bare 3 ∷ bare 4 ∷ bare 7 ∷ []) ≡ Check.Bad (Refusal.Reserved 4))
+    × (rules 64 (bare 7 ∷ emptySection 1 1 [] ∷ bare 2 ∷ bare 3 ∷ bare 4 ∷ []) ≡ Check.Bad (Refusal.Reserved 0))
+    × (rules 64 (bare 0 ∷ emptySection 1 1 [] ∷ bare 2 ∷ bare 3 ∷ bare 4 ∷ []) ≡ Check.Bad (Refusal.Codec 1))
+    -- 11 at the first entry, which ends after the limit
+    × (rules 63 (bare 1 ∷ bare 2 ∷ bare 3 ∷ bare 4 ∷ bare 7 ∷ []) ≡ Check.Bad (Refusal.Reserved 4))
+    × (rules 63 (bare 1 ∷ bare 2 ∷ bare 3 ∷ bare 4 ∷ bare 0x0101 ∷ []) ≡ Check.Bad (Refusal.Range 0))
+    -- 9: a kind is missing; one is doubled after it; one that is read has a name
+    × (rules 64 (bare 7 ∷ bare 1 ∷ bare 2 ∷ bare 3 ∷ []) ≡ Check.Bad Refusal.Table)
+    × (rules 64 (bare 7 ∷ bare 1 ∷ bare 2 ∷ bare 3 ∷ bare 4 ∷ bare 4 ∷ []) ≡ Check.Bad Refusal.Table)
+    × (rules 64 (bare 7 ∷ bare 1 ∷ bare 2 ∷ bare 3 ∷ emptySection 4 0 (104 ∷ []) ∷ []) ≡ Check.Bad Refusal.Table)
+unfolding leAt leBytes entry entries bodyBytes rowAt rowsFrom endFrom rowsOf endOf has repeated all kindsGood tableGood eachRow ranges rowsCheck
+in-order = (refl, refl, refl, refl, refl, refl, refl, refl, refl, refl)

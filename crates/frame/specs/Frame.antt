@@ -1,4 +1,4 @@
--- Rules 1 to 12 of opening. They see the file's size, its first bytes h and its last bytes t, and no more; for a whole
+-- Rules 1 to 12 and 36 of opening. They see the file's size, its first bytes h and its last bytes t, and no more; for a whole
 -- file f both are f. Every definition is total: past the end of a list there are zeros.
 use Prim.Native.Nat.{ℕ, zero, suc, _+_, _-_, _*_, _/_, _%_, _^_}
 use mathlib.Core.List.{List, [], _∷_}
@@ -142,14 +142,19 @@ unfoldable pub tableGood : List ℕ → Bool
 tableGood b =
     leb 1 (entryCount b) && (leb (entryCount b) kind.mostSections && (fills b && (all nameGood (rowsOf b) && kindsGood (rowsOf b))))
 
--- ---- rules 10 and 11, at the first such entry
+-- ---- rules 36, 10 and 11, at the first such entry
+
+-- each entry is good, or the first that is not is told; the first of them is entry k
+unfoldable pub eachRow : (Row → Bool) → (ℕ → Refusal) → List Row → ℕ → Check
+eachRow good told [] k = Check.Fine
+eachRow good told (r ∷ rs) k = pick (good r) (eachRow good told rs (k + 1)) (Check.Bad (told k))
+
+-- a kind outside the reserved range
+abbrev pub kindGood : Row → Bool
+kindGood r = not (kind.reserved (r .kind))
 
 abbrev pub codecGood : Row → Bool
 codecGood r = not (kind.fixed (r .kind)) || eqb (r .codec) 0
-
-unfoldable pub codecs : List Row → ℕ → Check
-codecs [] k = Check.Fine
-codecs (r ∷ rs) k = pick (codecGood r) (codecs rs (k + 1)) (Check.Bad (Refusal.Codec k))
 
 -- "begins at 64 or later", "no earlier than the one before it ends": at the floor or later; "ends no later than file
 -- size minus footer length": at the limit or before
@@ -267,9 +272,13 @@ sumCheck t = refuse Refusal.FooterSum (not (eqb (xxh3 (bodyOf t)) (leAt t (lengt
 abbrev pub tableCheck : List ℕ → Check
 tableCheck b = refuse Refusal.Table (not (tableGood b))
 
--- 10, of the rows rs
+-- 36, of the rows rs
+abbrev pub reservedCheck : List Row → Check
+reservedCheck rs = eachRow kindGood Refusal.Reserved rs 0
+
+-- 10
 abbrev pub codecCheck : List Row → Check
-codecCheck rs = codecs rs 0
+codecCheck rs = eachRow codecGood Refusal.Codec rs 0
 
 -- 11, of rows whose sections end at the limit
 abbrev pub rangeCheck : ℕ → List Row → Check
@@ -285,18 +294,18 @@ countsCheck flags x = refuse Refusal.Counts (not (countsGood flags x))
 unfoldable pub endsCheck : ℕ → List ℕ → List ℕ → Check
 endsCheck size h t = headCheck h ⊳ tailCheck size t
 
--- 9 to 11
+-- 9, 36, 10, 11: all entries are asked for one before any is asked for the next
 unfoldable pub rowsCheck : ℕ → List ℕ → Check
-rowsCheck limit b = tableCheck b ⊳ codecCheck (rowsOf b) ⊳ rangeCheck limit (rowsOf b)
+rowsCheck limit b = tableCheck b ⊳ reservedCheck (rowsOf b) ⊳ codecCheck (rowsOf b) ⊳ rangeCheck limit (rowsOf b)
 
--- 8 to 11
+-- 8 to 11, with 36
 unfoldable pub footerCheck : ℕ → List ℕ → Check
 footerCheck size t = sumCheck t ⊳ rowsCheck (size - footLen t) (bodyOf t)
 
--- 1 to 11
+-- 1 to 11, with 36
 unfoldable pub shapeCheck : ℕ → List ℕ → List ℕ → Check
 shapeCheck size h t = sizeCheck size ⊳ endsCheck size h t ⊳ footerCheck size t
 
--- 1 to 12
+-- 1 to 12, with 36
 unfoldable pub frameCheck : ℕ → List ℕ → List ℕ → Check
 frameCheck size h t = shapeCheck size h t ⊳ countsCheck (flagsOf h) (framedOf t)

@@ -1,4 +1,4 @@
--- Another major version and an unassigned flag bit: when opening gives 3 and 5, exactly. And which numbers opening gives.
+-- Another major version and an unassigned flag bit: when opening gives 3 and 5, exactly.
 use mathlib.Core.Path.{_≡_, refl, sym, ap, _∙_}
 use mathlib.Core.Logic.{_↔_}
 use Prim.Native.Nat.{ℕ, zero, suc, _+_, _-_, _*_, _/_, _%_, _^_, _≤_, _<_}
@@ -18,141 +18,31 @@ use Rattle.refusal.specs.declared.Refusal.{Refusal}
 use Rattle.refusal.specs.declared.Check.{Check}
 use Rattle.refusal.specs.Refusal.{numberOf}
 use Rattle.refusal.specs.Check.{_⊳_, refuse}
-use Rattle.refusal.specs.Check.Laws.{fine-parts, then-assoc, by-first, by-second, refuse-bad, refuse-fine, refuse-own, Numbers, numbers-fine, numbers-bad, numbers-refuse, numbers-then, numbers-pick, below, above}
+use Rattle.refusal.specs.Check.Laws.{fine-parts, by-first, by-second, refuse-bad, refuse-fine, refuse-own, listed, none-listed, Numbers, numbers-refuse, numbers-then, numbers-more, never}
 use Rattle.frame.specs.declared.Row.{Row}
 use Rattle.frame.specs.Kind as kind
-use Rattle.frame.specs.Frame.{codecGood, codecs, rangeGood, ranges, tableGood, countsGood, recordOf, framedOf, rowsOf, bodyOf, footLen, flag, flagsOf, sizeCheck, headCheck, tailCheck, sumCheck, countsCheck, endsCheck, rowsCheck, footerCheck, shapeCheck, frameCheck}
-use Rattle.frame.specs.Open.{Known, knownOf, bytesAt, keyAt, keysFrom, offsetGood, offsetsFrom, fencesGood, contentCheck, fileCheck}
+use Rattle.frame.specs.Frame.{flag, flagsOf, sizeCheck, headCheck, reservedCheck}
+use Rattle.frame.specs.Open.{fileCheck}
 use Rattle.frame.specs.Open.Laws.{size-parts, size-made}
-
--- ---- the tests of rules 2 to 8
-
-module _ (f : List ℕ) where
-  abbrev otherMagic : Bool
-  otherMagic = not (eqb (leAt f 0 8) kind.magic)
-
-  abbrev otherMajor : Bool
-  otherMajor = not (eqb (getD f 8 0) 1)
-
-  abbrev otherSize : Bool
-  otherSize = not (eqb (leAt f 10 2) kind.headerSize)
-
-  abbrev moreFlags : Bool
-  moreFlags = ltb 15 (flagsOf f)
-
-  abbrev otherTail : Bool
-  otherTail = not (eqb (leAt f (length f - 8) 8) kind.magic)
-
-  abbrev otherFoot : Bool
-  otherFoot = ltb (footLen f) kind.leastFooter || ltb (length f - kind.headerSize) (footLen f)
-
-  abbrev otherSum : Bool
-  otherSum = not (eqb (xxh3 (bodyOf f)) (leAt f (length f - 20) 8))
-
--- ---- which numbers each rule gives
-
-size-numbers : (n : ℕ) → Numbers 1 1 (sizeCheck n)
-unfolding sizeCheck
-size-numbers n = numbers-refuse 1 1 Refusal.Size (ltb n 84 || ltb kind.mostBytes n) refl
+use Rattle.frame.specs.Numbers.{otherMagic, otherMajor, otherSize, moreFlags, headNumbers, footNumbers, lateNumbers, size-numbers, head-numbers, foot-numbers, reserved-numbers, late-numbers, rows, foot, late, chain}
 
 module _ (f : List ℕ) where
-  head-numbers : Numbers 2 5 (headCheck f)
-  unfolding headCheck
-  head-numbers =
-      numbers-then 2 5 _ _ (numbers-refuse 2 5 Refusal.Magic (otherMagic f) refl)
-      (numbers-then 2 5 _ _ (numbers-refuse 2 5 Refusal.Major (otherMajor f) refl)
-      (numbers-then 2 5 _ _ (numbers-refuse 2 5 Refusal.HeaderSize (otherSize f) refl) (numbers-refuse 2 5 Refusal.Flags (moreFlags f) refl)))
+  afterNumbers : List ℕ
+  afterNumbers = 6 ∷ 7 ∷ 8 ∷ 9 ∷ 36 ∷ 10 ∷ 11 ∷ 12 ∷ 13 ∷ 14 ∷ 15 ∷ []
 
-  tail-numbers : Numbers 6 15 (tailCheck (length f) f)
-  unfolding tailCheck
-  tail-numbers = numbers-then 6 15 _ _ (numbers-refuse 6 15 Refusal.TailMagic (otherTail f) refl) (numbers-refuse 6 15 Refusal.FooterLength (otherFoot f) refl)
-
-  sum-numbers : Numbers 6 15 (sumCheck f)
-  unfolding sumCheck
-  sum-numbers = numbers-refuse 6 15 Refusal.FooterSum (otherSum f) refl
-
-codecs-numbers : (rs : List Row) (k : ℕ) → Numbers 6 15 (codecs rs k)
-unfolding codecs
-codecs-numbers [] k = numbers-fine 6 15
-codecs-numbers (r ∷ rs) k = numbers-pick 6 15 (codecGood r) _ _ (codecs-numbers rs (k + 1)) (numbers-bad 6 15 (Refusal.Codec k) refl)
-
-ranges-numbers : (limit : ℕ) (rs : List Row) (floor k : ℕ) → Numbers 6 15 (ranges limit rs floor k)
-unfolding ranges
-ranges-numbers limit [] floor k = numbers-fine 6 15
-ranges-numbers limit (r ∷ rs) floor k =
-    numbers-pick 6 15 (rangeGood limit floor r) _ _ (ranges-numbers limit rs (r .start + r .len) (k + 1)) (numbers-bad 6 15 (Refusal.Range k) refl)
-
-rows-numbers : (limit : ℕ) (b : List ℕ) → Numbers 6 15 (rowsCheck limit b)
-unfolding rowsCheck
-rows-numbers limit b =
-    numbers-then 6 15 _ _ (numbers-refuse 6 15 Refusal.Table (not (tableGood b)) refl)
-    (numbers-then 6 15 _ _ (codecs-numbers (rowsOf b) 0) (ranges-numbers limit (rowsOf b) kind.headerSize 0))
-
-footer-numbers : (size : ℕ) (t : List ℕ) → Numbers 6 15 (footerCheck size t)
-unfolding footerCheck
-footer-numbers size t = numbers-then 6 15 _ _ (sum-numbers t) (rows-numbers (size - footLen t) (bodyOf t))
-
-keys-numbers : (d : ℕ) (s : List ℕ) (k : ℕ) → Numbers 6 15 (keysFrom d s k)
-unfolding keysFrom
-keys-numbers zero s k = numbers-fine 6 15
-keys-numbers (suc d) s k = numbers-pick 6 15 (ltb (keyAt s (k - 1)) (keyAt s k)) _ _ (keys-numbers d s (k + 1)) (numbers-bad 6 15 (Refusal.Key k) refl)
-
-offsets-numbers : (d : ℕ) (o : List ℕ) (w n len i : ℕ) → Numbers 6 15 (offsetsFrom d o w n len i)
-unfolding offsetsFrom
-offsets-numbers zero o w n len i = numbers-fine 6 15
-offsets-numbers (suc d) o w n len i =
-    numbers-pick 6 15 (offsetGood o w n len i) _ _ (offsets-numbers d o w n len (i + 1)) (numbers-bad 6 15 (Refusal.Offset i) refl)
-
-content-numbers : (k : Known) (fenced : Bool) (fences : List ℕ) → Numbers 6 15 (contentCheck k fenced fences)
-unfolding contentCheck
-content-numbers k fenced fences =
-    numbers-then 6 15 _ _ (keys-numbers (k .keycount - 1) (k .keys) 1)
-    (numbers-then 6 15 _ _ (offsets-numbers (k .keycount + 1) (k .offsets) (k .bits / 8) (k .keycount) (length (k .partners)) 0)
-    (numbers-refuse 6 15 Refusal.Fences (fenced && not (fencesGood fences (k .keys) (k .keycount))) refl))
-
--- ---- rules 6 to 15
-
-contents : List ℕ → Check
-contents f = contentCheck (knownOf f (recordOf f)) (framedOf f .fenced) (bytesAt f (framedOf f .fences))
-
-afterHead : List ℕ → Check
-afterHead f = tailCheck (length f) f ⊳ (footerCheck (length f) f ⊳ (countsCheck (flagsOf f) (framedOf f) ⊳ contents f))
-
-after-numbers : (f : List ℕ) → Numbers 6 15 (afterHead f)
-unfolding afterHead contents
-after-numbers f =
-    numbers-then 6 15 _ _ (tail-numbers f)
-    (numbers-then 6 15 _ _ (footer-numbers (length f) f)
-    (numbers-then 6 15 _ _ (numbers-refuse 6 15 Refusal.Counts (not (countsGood (flagsOf f) (framedOf f))) refl)
-    (content-numbers (knownOf f (recordOf f)) (framedOf f .fenced) (bytesAt f (framedOf f .fences)))))
-
--- parts of the order, one after the other
-flat : (a b c d e f : Check) → ((a ⊳ ((b ⊳ c) ⊳ d)) ⊳ e) ⊳ f ≡ a ⊳ (b ⊳ (c ⊳ (d ⊳ (e ⊳ f))))
-flat (Check.Bad r) b c d e f = refl
-flat Check.Fine (Check.Bad r) c d e f = refl
-flat Check.Fine Check.Fine (Check.Bad r) d e f = refl
-flat Check.Fine Check.Fine Check.Fine d e f = then-assoc d e f
-
-module _ (f : List ℕ) where
-  -- the rules: size, header, and the rest
-  chain : fileCheck f ≡ sizeCheck (length f) ⊳ (headCheck f ⊳ afterHead f)
-  unfolding fileCheck frameCheck shapeCheck endsCheck afterHead contents
-  chain = flat (sizeCheck (length f)) (headCheck f) (tailCheck (length f) f) (footerCheck (length f) f) (countsCheck (flagsOf f) (framedOf f)) (contents f)
-
-  -- opening gives 1 to 15
-  pub opening-numbers : Numbers 1 15 (fileCheck f)
-  opening-numbers r e =
-      numbers-then 1 15 (sizeCheck (length f)) _ (λ q d. let n = size-numbers (length f) q d in (omega arith, omega arith))
-      (numbers-then 1 15 (headCheck f) _ (λ q d. let n = head-numbers f q d in (omega arith, omega arith))
-      (λ q d. let n = after-numbers f q d in (omega arith, omega arith)))
-      r (sym chain ∙ e)
+  after-numbers : Numbers afterNumbers (foot f ⊳ reservedCheck (rows f) ⊳ late f)
+  unfolding afterNumbers
+  after-numbers =
+      numbers-then afterNumbers _ _ (numbers-more footNumbers afterNumbers refl (foot-numbers f))
+      (numbers-then afterNumbers _ _ (numbers-more (36 ∷ []) afterNumbers refl (reserved-numbers f)) (numbers-more lateNumbers afterNumbers refl (late-numbers f)))
 
   -- the header's refusal is opening's exactly if the size is right
-  head-first : (r : Refusal) → 2 ≤ numberOf r → numberOf r ≤ 5 → (fileCheck f ≡ Check.Bad r) ↔ ((sizeCheck (length f) ≡ Check.Fine) × (headCheck f ≡ Check.Bad r))
-  head-first r l h =
-      let a = by-second (sizeCheck (length f)) (headCheck f ⊳ afterHead f) r (above 1 1 (size-numbers (length f)) r (omega arith)) in
-      let b = by-first (headCheck f) (afterHead f) r (below 6 15 (after-numbers f) r (omega arith)) in
-      (λ e. let x = a .0 (sym chain ∙ e) in (x .0, b .0 (x .1)), λ x. chain ∙ a .1 (x .0, b .1 (x .1)))
+  head-first : (r : Refusal) → listed (numberOf r) headNumbers ≡ true → (fileCheck f ≡ Check.Bad r) ↔ ((sizeCheck (length f) ≡ Check.Fine) × (headCheck f ≡ Check.Bad r))
+  unfolding afterNumbers
+  head-first r h =
+      let a = by-second (sizeCheck (length f)) _ r (never (1 ∷ []) (size-numbers (length f)) r (none-listed headNumbers (1 ∷ []) (numberOf r) refl h)) in
+      let b = by-first (headCheck f) _ r (never afterNumbers after-numbers r (none-listed headNumbers afterNumbers (numberOf r) refl h)) in
+      (λ e. let x = a .0 (sym (chain f) ∙ e) in (x .0, b .0 (x .1)), λ x. chain f ∙ a .1 (x .0, b .1 (x .1)))
 
 -- ---- the header's tests in numbers
 
@@ -241,10 +131,11 @@ module _ (f : List ℕ) where
   pub major-exactly : (fileCheck f ≡ Check.Bad Refusal.Major) ↔ OtherMajor f
   unfolding headCheck
   major-exactly =
-      let first = head-first f Refusal.Major (omega arith) (omega arith) in
+      let first = head-first f Refusal.Major refl in
       let a = by-second magicRule (majorRule ⊳ (sizeRule ⊳ flagsRule)) Refusal.Major (refuse-own Refusal.Magic Refusal.Major (otherMagic f) (λ e. omega arith)) in
-      let later = numbers-then 4 5 sizeRule flagsRule (numbers-refuse 4 5 Refusal.HeaderSize (otherSize f) refl) (numbers-refuse 4 5 Refusal.Flags (moreFlags f) refl) in
-      let b = by-first majorRule (sizeRule ⊳ flagsRule) Refusal.Major (below 4 5 later Refusal.Major (omega arith)) in (
+      let rest : List ℕ = 4 ∷ 5 ∷ [] in
+      let later = numbers-then rest sizeRule flagsRule (numbers-refuse rest Refusal.HeaderSize (otherSize f) refl) (numbers-refuse rest Refusal.Flags (moreFlags f) refl) in
+      let b = by-first majorRule (sizeRule ⊳ flagsRule) Refusal.Major (never rest later Refusal.Major refl) in (
         λ e.
             let x = first .0 e in
             let y = a .0 (x .1) in
@@ -258,7 +149,7 @@ module _ (f : List ℕ) where
   pub flags-exactly : Bytes f → (fileCheck f ≡ Check.Bad Refusal.Flags) ↔ UnassignedFlag f
   unfolding headCheck
   flags-exactly by =
-      let first = head-first f Refusal.Flags (omega arith) (omega arith) in
+      let first = head-first f Refusal.Flags refl in
       let a = by-second magicRule (majorRule ⊳ (sizeRule ⊳ flagsRule)) Refusal.Flags (refuse-own Refusal.Magic Refusal.Flags (otherMagic f) (λ e. omega arith)) in
       let b = by-second majorRule (sizeRule ⊳ flagsRule) Refusal.Flags (refuse-own Refusal.Major Refusal.Flags (otherMajor f) (λ e. omega arith)) in
       let c = by-second sizeRule flagsRule Refusal.Flags (refuse-own Refusal.HeaderSize Refusal.Flags (otherSize f) (λ e. omega arith)) in (

@@ -1,9 +1,9 @@
 -- Section kinds, their numbers, rows and lengths; header, footer and trailer; bounds. Each stands here once.
 use Prim.Native.Nat.{ℕ, suc, _+_, _-_, _*_, _/_, _^_}
-use mathlib.Core.Bool.{Bool, true, false, not, _||_}
+use mathlib.Core.Bool.{Bool, true, false, not, _&&_, _||_}
 use mathlib.Core.List.{List, [], _∷_}
 use lib.ListN.{length}
-use lib.Dec.{ltb, eqb}
+use lib.Dec.{ltb, leb, eqb}
 use Rattle.base.specs.Pick.{pick}
 pub mod Laws
 
@@ -58,9 +58,21 @@ slotOf k = slotIn k kinds
 abbrev pub fixed : ℕ → Bool
 fixed k = ltb (slotOf k) (length kinds)
 
--- "Every other kind is skipped, at any minor version": every kind but 1 to 6 and 0x0100
+-- the reserved range, "0x0007 to 0x00FF": "a later writer uses that range for sections that change what the others mean, so an
+-- old reader must stop there"
+abbrev pub firstReserved : ℕ
+firstReserved = 0x0007
+
+abbrev pub lastReserved : ℕ
+lastReserved = 0x00FF
+
+abbrev pub reserved : ℕ → Bool
+reserved k = leb firstReserved k && leb k lastReserved
+
+-- "Every other kind is skipped, at any minor version", where it is "outside the reserved ranges": every kind but 1 to 6, 0x0100
+-- and the range
 abbrev pub unknown : ℕ → Bool
-unknown k = not (fixed k || eqb k properties)
+unknown k = not (fixed k || (eqb k properties || reserved k))
 
 -- ---- rows and lengths
 

@@ -1,6 +1,8 @@
 pub mod Kind
 pub mod Frame
 pub mod Open
+pub mod Numbers
 pub mod Header
+pub mod Reserved
 pub mod Layout
 pub mod Cases

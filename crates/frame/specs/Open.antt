@@ -128,7 +128,7 @@ contentCheck k fenced fences =
     ⊳ offsetsFrom (k .keycount + 1) (k .offsets) (k .bits / 8) (k .keycount) (length (k .partners)) 0
     ⊳ refuse Refusal.Fences (fenced && not (fencesGood fences (k .keys) (k .keycount)))
 
--- rules 1 to 15
+-- rules 1 to 15, with 36
 unfoldable pub fileCheck : List ℕ → Check
 fileCheck f =
     frameCheck (length f) f f ⊳ contentCheck (knownOf f (recordOf f)) (framedOf f .fenced) (bytesAt f (framedOf f .fences))

@@ -177,6 +177,25 @@ impl Properties {
     pub const KIND: u16 = 256;
 }
 
+// The reserved range: a later writer's sections of these kinds change what the others mean, so that no file with one opens.
+pub struct Reserved {}
+
+impl Reserved {
+    pub const FIRST: u16 = 7;
+
+    pub const LAST: u16 = 255;
+
+    // Whether a kind lies in it.
+    pub fn holds(k: u16) -> bool
+        ensures { λ r. ⌜ r ≡ kind.reserved k ⌝ }
+    {
+        if k < Reserved::FIRST {
+            return false;
+        }
+        k <= Reserved::LAST
+    }
+}
+
 // The kinds that are read.
 pub struct Kinds {}
 

@@ -8,34 +8,37 @@ use mathlib.Core.List.{List, [], _∷_}
 use mathlib.Core.Bool.{Bool, true, not}
 use Rattle.refusal.specs.declared.Refusal.{Refusal}
 use Rattle.refusal.specs.declared.Check.{Check}
-use Rattle.refusal.specs.Refusal.{numberOf, lastNumber}
+use Rattle.refusal.specs.Refusal.{numberOf}
 use Rattle.refusal.specs.Check.{_⊳_, refuse}
-use Rattle.refusal.specs.Check.Laws.{bad-then, fine-then, by-first, by-second, Numbers, numbers-fine, numbers-bad, numbers-refuse, numbers-then, numbers-pick, between, numbers-among, below}
+use Rattle.refusal.specs.Check.Laws.{bad-then, fine-then, by-first, by-second, listed, none-listed, Numbers, numbers-fine, numbers-bad, numbers-refuse, numbers-then, numbers-pick, numbers-more, never}
 use Rattle.frame.specs.declared.Row.{Row}
 use Rattle.frame.specs.Frame.{rowsOf, flagsOf, bodyOf, recordOf}
-use Rattle.frame.specs.Header.{opening-numbers}
+use Rattle.frame.specs.Numbers.{openingNumbers, opening-numbers}
 use Rattle.frame.specs.Open.{Known, knownOf, bytesAt, fileCheck}
 use Rattle.degrees.specs.Degrees.{groupAt}
 use Rattle.group.specs.Group.{Decoded, good, bad, isGood, groupOf}
 use Rattle.group.specs.declared.fault.Fault.{Fault}
 use Rattle.group.specs.Fault.{refusalOf}
-use Rattle.group.specs.Fault.Laws.{fault-once, fault-apart}
+use Rattle.group.specs.Fault.Laws.{faultNumbers, fault-once, fault-apart}
 use Rattle.lookup.specs.Lookup.{groupCheck}
 use Rattle.lookup.specs.Given.{group-numbers, group-fine, group-fault}
 use Rattle.full_check.specs.Full.{sumGood, sumsFrom, groupIn, groupsFrom, degreesFrom, denseFrom, dataGood, edgesCheck, fullCheck}
 
 -- ---- the numbers: 22, then a group's, then 23
 
-sums-numbers : (f : List ℕ) (rs : List Row) (k : ℕ) → Numbers 22 22 (sumsFrom f rs k)
+abbrev fullNumbers : List ℕ
+fullNumbers = 22 ∷ 23 ∷ faultNumbers
+
+sums-numbers : (f : List ℕ) (rs : List Row) (k : ℕ) → Numbers (22 ∷ []) (sumsFrom f rs k)
 unfolding sumsFrom
-sums-numbers f [] k = numbers-fine 22 22
-sums-numbers f (r ∷ rs) k = numbers-pick 22 22 (sumGood f r) _ _ (sums-numbers f rs (k + 1)) (numbers-bad 22 22 (Refusal.Sum k) refl)
+sums-numbers f [] k = numbers-fine (22 ∷ [])
+sums-numbers f (r ∷ rs) k = numbers-pick (22 ∷ []) (sumGood f r) _ _ (sums-numbers f rs (k + 1)) (numbers-bad (22 ∷ []) (Refusal.Sum k) refl)
 
 module _ (p o : List ℕ) (w : ℕ) where
-  groups-numbers : (d i : ℕ) → Numbers 16 lastNumber (groupsFrom p o w d i)
+  groups-numbers : (d i : ℕ) → Numbers faultNumbers (groupsFrom p o w d i)
   unfolding groupsFrom
-  groups-numbers zero i = numbers-fine 16 lastNumber
-  groups-numbers (suc d) i = numbers-then 16 lastNumber (groupCheck i (groupIn p o w i)) _ (group-numbers i (groupIn p o w i)) (groups-numbers d (i + 1))
+  groups-numbers zero i = numbers-fine faultNumbers
+  groups-numbers (suc d) i = numbers-then faultNumbers (groupCheck i (groupIn p o w i)) _ (group-numbers i (groupIn p o w i)) (groups-numbers d (i + 1))
 
   -- of d groups from b on, group i is the first with a fault, and f is its first
   pub record FaultFrom (d b i : ℕ) (f : Fault) : Type 0 where
@@ -113,18 +116,18 @@ module _ (f : List ℕ) where
   abbrev broken : Bool
   broken = not (dataGood (flagsOf f) (k .edgecount) (k .dead) (degreesFrom (k .partners) (k .offsets) (k .bits / 8) (k .keycount) 0) (denseFrom (k .partners) (k .offsets) (k .bits / 8) (k .keycount) 0))
 
-  edges-numbers : Numbers 16 lastNumber edges
+  edges-numbers : Numbers fullNumbers edges
   unfolding edgesCheck
   edges-numbers =
-      numbers-then 16 lastNumber groups _ (λ r e. let n = groups-numbers (k .partners) (k .offsets) (k .bits / 8) (k .keycount) 0 r e in (omega arith, omega arith)) (numbers-refuse 16 lastNumber Refusal.Data broken refl)
+      numbers-then fullNumbers groups _ (numbers-more faultNumbers fullNumbers refl (groups-numbers (k .partners) (k .offsets) (k .bits / 8) (k .keycount) 0)) (numbers-refuse fullNumbers Refusal.Data broken refl)
 
-  rest-numbers : Numbers 16 lastNumber (sums ⊳ edges)
-  rest-numbers = numbers-then 16 lastNumber sums edges (λ r e. let n = sums-numbers f (rowsOf (bodyOf f)) 0 r e in (omega arith, omega arith)) edges-numbers
+  rest-numbers : Numbers fullNumbers (sums ⊳ edges)
+  rest-numbers = numbers-then fullNumbers sums edges (numbers-more (22 ∷ []) fullNumbers refl (sums-numbers f (rowsOf (bodyOf f)) 0)) edges-numbers
 
   -- a refusal of opening is the full check's
-  pub full-opening : (r : Refusal) → numberOf r ≤ 15 → (fullCheck f ≡ Check.Bad r) ↔ (fileCheck f ≡ Check.Bad r)
+  pub full-opening : (r : Refusal) → listed (numberOf r) openingNumbers ≡ true → (fullCheck f ≡ Check.Bad r) ↔ (fileCheck f ≡ Check.Bad r)
   unfolding fullCheck
-  full-opening r h = by-first (fileCheck f) (sums ⊳ edges) r (below 16 lastNumber rest-numbers r (omega arith))
+  full-opening r h = by-first (fileCheck f) (sums ⊳ edges) r (never fullNumbers rest-numbers r (none-listed openingNumbers fullNumbers (numberOf r) refl h))
 
   -- opening and 22 pass, and of all groups group i is the first with a fault, of which f is the first
   pub record FaultFirst (i : ℕ) (fault : Fault) : Type 0 where
@@ -137,9 +140,9 @@ module _ (f : List ℕ) where
   unfolding fullCheck edgesCheck knownOf
   full-fault i fault =
       let r : Refusal = refusalOf i fault in
-      let a = by-second (fileCheck f) (sums ⊳ edges) r (fault-apart i fault (between 1 15) (numbers-among 1 15 (opening-numbers f)) refl) in
-      let b = by-second sums edges r (fault-apart i fault (between 22 22) (numbers-among 22 22 (sums-numbers f (rowsOf (bodyOf f)) 0)) refl) in
-      let c = by-first groups (refuse Refusal.Data broken) r (fault-apart i fault (between 23 23) (numbers-among 23 23 (numbers-refuse 23 23 Refusal.Data broken refl)) refl) in
+      let a = by-second (fileCheck f) (sums ⊳ edges) r (fault-apart i fault openingNumbers (opening-numbers f) refl) in
+      let b = by-second sums edges r (fault-apart i fault (22 ∷ []) (sums-numbers f (rowsOf (bodyOf f)) 0) refl) in
+      let c = by-first groups (refuse Refusal.Data broken) r (fault-apart i fault (23 ∷ []) (numbers-refuse (23 ∷ []) Refusal.Data broken refl) refl) in
       let t = groups-fault (bytesAt f (recordOf f .partners)) (bytesAt f (recordOf f .offsets)) (recordOf f .bits / 8) (recordOf f .keycount) 0 i fault in (
         λ e. let x = a .0 e in let y = b .0 (x .1) in record { opens = x .0; summed = y .0; groups = t .0 (c .0 (y .1)) },
         λ h. a .1 (h .opens, b .1 (h .summed, c .1 (t .1 (h .groups)))),

@@ -4,7 +4,7 @@ use mathlib.Core.Logic.{_↔_, _⊎_, inl, inr, ⊎-elim}
 use Prim.Native.Nat.{ℕ, _+_, _/_, _≤_, _<_}
 use native.Mathlib.Decide.{decLt}
 use native.Mathlib.Omega.{arith}
-use mathlib.Core.List.{List}
+use mathlib.Core.List.{List, [], _∷_}
 use mathlib.Core.Bool.{Bool, true, false, not, _&&_, _||_}
 use lib.ListN.{length}
 use lib.Dec.{ltb, eqb}
@@ -12,10 +12,9 @@ use borrow.Author.Tests.{ltb-false, lt-ltb, le-ltb, eq-eqb, not-true}
 use Rattle.base.specs.Over.{part}
 use Rattle.refusal.specs.declared.Refusal.{Refusal}
 use Rattle.refusal.specs.declared.Check.{Check}
-use Rattle.refusal.specs.Refusal.{numberOf, lastNumber}
-use Rattle.refusal.specs.Refusal.Laws.{number-most}
+use Rattle.refusal.specs.Refusal.{numberOf}
 use Rattle.refusal.specs.Check.{_⊳_, refuse}
-use Rattle.refusal.specs.Check.Laws.{fine-parts, fine-both, bad-then, fine-then, by-first, by-second, refuse-bad, refuse-fine, refuse-own, either-parts, and-parts, Numbers, numbers-fine, numbers-refuse, numbers-then, between, numbers-among, noneOf, below}
+use Rattle.refusal.specs.Check.Laws.{fine-parts, fine-both, bad-then, fine-then, by-first, by-second, refuse-bad, refuse-fine, refuse-own, either-parts, and-parts, listed, Numbers, numbers-fine, numbers-bad, numbers-refuse, numbers-then, numbers-more, never}
 use Rattle.frame.specs.Open.{Known, offsetAt}
 use Rattle.index.specs.declared.keys.Found.{Found}
 use Rattle.index.specs.Find.{findIn}
@@ -23,15 +22,15 @@ use Rattle.degrees.specs.Degrees.{misplaced, edgesBefore}
 use Rattle.group.specs.Group.{Decoded, good, bad, isGood, groupOf, partnersOf}
 use Rattle.group.specs.declared.fault.Fault.{Fault}
 use Rattle.group.specs.Fault.{refusalOf}
-use Rattle.group.specs.Fault.Laws.{faultNumbers, fault-least, fault-once, fault-fails, fault-apart}
+use Rattle.group.specs.Fault.Laws.{faultNumbers, fault-listed, fault-once, fault-apart}
 use Rattle.lookup.specs.Lookup.{Outcome, found, refused, outcome, Rooms, groupCheck, groupFault, within, short, partnersAt, before, lookCheck, lookGroup, onFound, lookIn}
 
 -- ---- a group's faults
 
-pub group-numbers : (i : ℕ) (w : Decoded) → Numbers 16 lastNumber (groupCheck i w)
+pub group-numbers : (i : ℕ) (w : Decoded) → Numbers faultNumbers (groupCheck i w)
 unfolding groupCheck
-group-numbers i (good dense ps) = numbers-fine 16 lastNumber
-group-numbers i (bad f) = λ r e. let same : refusalOf i f ≡ r = cc in let n = ap numberOf same in (omega (arith, fault-least i f), number-most r)
+group-numbers i (good dense ps) = numbers-fine faultNumbers
+group-numbers i (bad f) = numbers-bad faultNumbers (refusalOf i f) (fault-listed i f)
 
 pub group-fine : (i : ℕ) (w : Decoded) → (groupCheck i w ≡ Check.Fine) ↔ (isGood w ≡ true)
 unfolding groupCheck isGood
@@ -48,15 +47,6 @@ group-fault i w j f = (go w, λ h. ap (groupCheck i) (h .0) ∙ ap (λ (t : ℕ)
         let same : refusalOf i x ≡ refusalOf j f = cc in
         let t = fault-once i j x f same in (ap bad (t .0), t .1)
 
--- another number tells none
-group-not : (i : ℕ) (w : Decoded) (n : ℕ) → noneOf (eqb n) faultNumbers ≡ true → (r : Refusal) → numberOf r ≡ n → groupCheck i w ≡ Check.Bad r → ⊥
-unfolding groupCheck
-group-not i (good dense ps) n none r is e = let z : _≡_ {A = ℕ} 0 1 = cc in omega arith
-group-not i (bad f) n none r is e =
-    let same : refusalOf i f ≡ r = cc in
-    let hit : eqb n (numberOf (refusalOf i f)) ≡ true = eq-eqb n (numberOf (refusalOf i f)) (sym is ∙ sym (ap numberOf same)) in
-    let z : _≡_ {A = ℕ} 0 1 = cc (hit, fault-fails i f (eqb n) none) in omega arith
-
 -- ---- a lookup in what is known of a file
 
 -- a check's refusal is the outcome's
@@ -64,6 +54,10 @@ told : (c : Check) (x : Outcome) → ((r : Refusal) → x ≡ refused r → ⊥)
 unfolding outcome
 told Check.Fine x never r = (λ e. absurd (never r e), λ e. let z : _≡_ {A = ℕ} 0 1 = cc in absurd (omega arith))
 told (Check.Bad q) x never r = (λ e. let same : q ≡ r = cc in ap Check.Bad same, λ e. let same : q ≡ r = cc in ap refused same)
+
+-- what a lookup may give after opening: 14, a group's faults, 19 and 20
+abbrev pub lookNumbers : List ℕ
+lookNumbers = 14 ∷ 19 ∷ 20 ∷ faultNumbers
 
 -- the group of key i is found, its two offsets neither fall nor pass the partner range, and A holds of its bytes
 pub record GroupIn (k : Known) (key i : ℕ) (A : List ℕ → Type 0) : Type 0 where
@@ -102,27 +96,29 @@ module _ (full : Bool) (rooms : Rooms) (k : Known) where
   abbrev unsummed : ℕ → ℕ → Bool
   unsummed i d = full && not (within (k .edgecount) d (before full rooms k i))
 
-  late-numbers : (i d : ℕ) → Numbers 19 20 (refuse (Refusal.Degrees i) (unsummed i d) ⊳ refuse (Refusal.Room d) (short full rooms d))
-  late-numbers i d = numbers-then 19 20 _ _ (numbers-refuse 19 20 (Refusal.Degrees i) (unsummed i d) refl) (numbers-refuse 19 20 (Refusal.Room d) (short full rooms d) refl)
+  late-numbers : (i d : ℕ) → Numbers (19 ∷ 20 ∷ []) (refuse (Refusal.Degrees i) (unsummed i d) ⊳ refuse (Refusal.Room d) (short full rooms d))
+  late-numbers i d =
+      let late : List ℕ = 19 ∷ 20 ∷ [] in
+      numbers-then late _ _ (numbers-refuse late (Refusal.Degrees i) (unsummed i d) refl) (numbers-refuse late (Refusal.Room d) (short full rooms d) refl)
 
-  check-numbers : (i d : ℕ) → Numbers 14 lastNumber (lookCheck full rooms k i d)
+  check-numbers : (i d : ℕ) → Numbers lookNumbers (lookCheck full rooms k i d)
   unfolding lookCheck groupFault
   check-numbers i d =
-      numbers-then 14 lastNumber _ _
-      (numbers-then 14 lastNumber _ _ (numbers-refuse 14 lastNumber (Refusal.Offset i) (misses i) refl) (λ r e. let n = group-numbers i (groupOf (group i)) r e in (omega arith, omega arith)))
-      (λ r e. let n = late-numbers i d r e in (omega arith, omega arith))
+      numbers-then lookNumbers _ _
+      (numbers-then lookNumbers _ _ (numbers-refuse lookNumbers (Refusal.Offset i) (misses i) refl) (numbers-more faultNumbers lookNumbers refl (group-numbers i (groupOf (group i)))))
+      (numbers-more (19 ∷ 20 ∷ []) lookNumbers refl (late-numbers i d))
 
   group-refused : (i c : ℕ) (r : Refusal) → (lookGroup full rooms k i c ≡ refused r) ↔ (lookCheck full rooms k i (length (partnersAt full rooms k i)) ≡ Check.Bad r)
   unfolding lookGroup
   group-refused i c r = told (lookCheck full rooms k i (length (partnersAt full rooms k i))) _ (λ q e. let z : _≡_ {A = ℕ} 0 1 = cc in omega arith) r
 
   module _ (key : ℕ) where
-    -- none below 14
-    pub look-numbers : (r : Refusal) → lookIn full rooms k key ≡ refused r → (14 ≤ numberOf r) × (numberOf r ≤ lastNumber)
+    -- no other number
+    pub look-numbers : (r : Refusal) → lookIn full rooms k key ≡ refused r → listed (numberOf r) lookNumbers ≡ true
     unfolding lookIn onFound
     look-numbers r = go (findIn (k .keys) (k .keycount) key)
       where
-        go : (x : Found) → onFound full rooms k x ≡ refused r → (14 ≤ numberOf r) × (numberOf r ≤ lastNumber)
+        go : (x : Found) → onFound full rooms k x ≡ refused r → listed (numberOf r) lookNumbers ≡ true
         go (Found.At i c) e = check-numbers i (length (partnersAt full rooms k i)) r (group-refused i c r .0 e)
         go (Found.Absent c) e = let z : _≡_ {A = ℕ} 0 1 = cc in absurd (omega arith)
 
@@ -174,10 +170,10 @@ module _ (full : Bool) (rooms : Rooms) (k : Known) where
 
       -- 14, 19 and 20 tell no fault
       misplaced-not : (j : ℕ) → refuse (Refusal.Offset j) (misses j) ≡ Check.Bad told-by → ⊥
-      misplaced-not j = fault-apart i f (between 14 14) (numbers-among 14 14 (numbers-refuse 14 14 (Refusal.Offset j) (misses j) refl)) refl
+      misplaced-not j = fault-apart i f (14 ∷ []) (numbers-refuse (14 ∷ []) (Refusal.Offset j) (misses j) refl) refl
 
       late-not : (j d : ℕ) → refuse (Refusal.Degrees j) (unsummed j d) ⊳ refuse (Refusal.Room d) (short full rooms d) ≡ Check.Bad told-by → ⊥
-      late-not j d = fault-apart i f (between 19 20) (numbers-among 19 20 (late-numbers j d)) refl
+      late-not j d = fault-apart i f (19 ∷ 20 ∷ []) (late-numbers j d) refl
 
       -- a fault of group i, exactly
       pub look-fault : (lookIn full rooms k key ≡ refused told-by) ↔ FaultIn k key i f
@@ -216,8 +212,8 @@ module _ (full : Bool) (rooms : Rooms) (k : Known) where
         told : (j : ℕ) → lookCheck full rooms k j (length (partnersAt full rooms k j)) ≡ Check.Bad (Refusal.Offset i) → (misses j ≡ true) × (j ≡ i)
         told j e =
             let r : Refusal = Refusal.Offset i in
-            let a = by-first (refuse (Refusal.Offset j) (misses j) ⊳ groupCheck j (groupOf (group j))) _ r (below 19 20 (late-numbers j (length (partnersAt full rooms k j))) r (omega arith)) .0 e in
-            let b = by-first (refuse (Refusal.Offset j) (misses j)) (groupCheck j (groupOf (group j))) r (below 16 lastNumber (group-numbers j (groupOf (group j))) r (omega arith)) .0 a in
+            let a = by-first (refuse (Refusal.Offset j) (misses j) ⊳ groupCheck j (groupOf (group j))) _ r (never (19 ∷ 20 ∷ []) (late-numbers j (length (partnersAt full rooms k j))) r refl) .0 e in
+            let b = by-first (refuse (Refusal.Offset j) (misses j)) (groupCheck j (groupOf (group j))) r (never faultNumbers (group-numbers j (groupOf (group j))) r refl) .0 a in
             of-rule j (misses j) b
 
         found : ((j : ℕ) × (c : ℕ) × (findIn (k .keys) (k .keycount) key ≡ Found.At j c) × ((misses j ≡ true) × (j ≡ i))) → MisplacedIn k key i
@@ -239,7 +235,7 @@ module _ (full : Bool) (rooms : Rooms) (k : Known) where
         of-rule j false e = let z : _≡_ {A = ℕ} 0 1 = cc in absurd (omega arith)
 
         not-group : (j : ℕ) (w : Decoded) → groupCheck j w ≡ Check.Bad (Refusal.Degrees i) → ⊥
-        not-group j w e = group-not j w 19 refl (Refusal.Degrees i) refl e
+        not-group j w = never faultNumbers (group-numbers j w) (Refusal.Degrees i) refl
 
         told : (j : ℕ) → lookCheck full rooms k j (length (partnersAt full rooms k j)) ≡ Check.Bad (Refusal.Degrees i) → Here j
         told j e =

@@ -1,4 +1,4 @@
-// Rules 8 to 12 of a file's last bytes, and all twelve of a file.
+// Rules 8 to 12, with 36, of a file's last bytes, and rules 1 to 12 of a file.
 ghost use mathlib.Core.Path.{_≡_};
 ghost use mathlib.Core.Bool.{not};
 ghost use Prim.Native.Nat.{_-_, _≤_};
@@ -37,7 +37,7 @@ pub fn counted(flags: u64, x: Framed) -> Framing
     Framing::Good { framed: x }
 }
 
-// Rules 8 to 11 of the last bytes t of a file of that size. The footer lies within t, and its length is good.
+// Rules 8 to 11, with 36, of the last bytes t of a file of that size. The footer lies within t, and its length is good.
 pub fn footed(size: usize, t: &[u8]) -> Framing
     requires { ⌜ (length (now t) ≤ kind.mostBytes) × (kind.leastFooter ≤ footLen (now t)) × (footLen (now t) ≤ length (now t)) × (footLen (now t) ≤ size) ⌝ }
     ensures { λ r. ⌜ r ≡ framing (footerCheck size (now (t .entry))) (framedOf (now (t .entry))) ⌝ }
@@ -48,7 +48,7 @@ pub fn footed(size: usize, t: &[u8]) -> Framing
     }
 }
 
-// Rules 8 to 12.
+// Rules 8 to 12, with 36.
 pub fn footer_framing(size: usize, flags: u64, t: &[u8]) -> Framing
     requires { ⌜ (length (now t) ≤ kind.mostBytes) × (kind.leastFooter ≤ footLen (now t)) × (footLen (now t) ≤ length (now t)) × (footLen (now t) ≤ size) ⌝ }
     ensures { λ r. ⌜ r ≡ framing (footerCheck size (now (t .entry)) ⊳ countsCheck flags (framedOf (now (t .entry)))) (framedOf (now (t .entry))) ⌝ }
@@ -59,7 +59,7 @@ pub fn footer_framing(size: usize, flags: u64, t: &[u8]) -> Framing
     }
 }
 
-// Rules 1 to 12 of a file.
+// Rules 1 to 12, with 36, of a file.
 pub fn frame_of(file: &[u8]) -> Framing
     ensures { λ r. ⌜ r ≡ framing (frameCheck (length (now (file .entry))) (now (file .entry)) (now (file .entry))) (framedOf (now (file .entry))) ⌝ }
 {

@@ -12,7 +12,7 @@ use Rattle.frame.specs.declared.Row.{Row}
 use Rattle.frame.specs.declared.Range.{Range}
 use Rattle.frame.specs.declared.Framed.{Framed}
 use Rattle.frame.specs.Kind as kind
-use Rattle.frame.specs.Frame.{nowhere, keyCount, edgeCount, bitsOf, rangeGood}
+use Rattle.frame.specs.Frame.{nowhere, keyCount, edgeCount, bitsOf, kindGood, rangeGood}
 use Rattle.open_table.specs.declared.Seen.{Seen}
 pub mod Laws
 
@@ -28,15 +28,16 @@ toldBad r bad = pick (ltb bad kind.mostSections) (Check.Bad (r bad)) Check.Fine
 -- ---- what is seen of the entries
 
 abbrev pub unseen : Seen
-unseen = record { codec = kind.mostSections; range = kind.mostSections; floor = kind.headerSize; streams = false }
+unseen = record { reserved = kind.mostSections; codec = kind.mostSections; range = kind.mostSections; floor = kind.headerSize; streams = false }
 
 -- with the codec of entry k, of a kind that is read
 unfoldable pub coded : ℕ → Seen → ℕ → Seen
-coded k s codec = record { codec = firstBad (s .codec) (eqb codec 0) k; range = s .range; floor = s .floor; streams = s .streams }
+coded k s codec = record { reserved = s .reserved; codec = firstBad (s .codec) (eqb codec 0) k; range = s .range; floor = s .floor; streams = s .streams }
 
 -- with the kind and the range of entry k, which is r
 unfoldable pub ranged : ℕ → ℕ → Seen → Row → Seen
 ranged limit k s r = record {
+  reserved = firstBad (s .reserved) (kindGood r) k;
   codec = s .codec;
   range = firstBad (s .range) (rangeGood limit (s .floor) r) k;
   floor = pick (rangeGood limit (s .floor) r) (r .start + r .len) (s .floor);
@@ -78,6 +79,7 @@ framedSeen b met places streams = record {
   streams = streams;
 }
 
--- rules 9 to 11 of a table that was passed to its end
+-- rules 9 to 11, with 36, of a table that was passed to its end
 unfoldable pub passed : List Bool → Seen → Check
-passed met s = refuse Refusal.Table (not (requiredSeen kind.kinds met)) ⊳ toldBad Refusal.Codec (s .codec) ⊳ toldBad Refusal.Range (s .range)
+passed met s =
+    refuse Refusal.Table (not (requiredSeen kind.kinds met)) ⊳ toldBad Refusal.Reserved (s .reserved) ⊳ toldBad Refusal.Codec (s .codec) ⊳ toldBad Refusal.Range (s .range)

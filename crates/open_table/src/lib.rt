@@ -1,4 +1,4 @@
-// Rules 9 to 11: one pass over the section table notes where each kind that is read lies, and the first entries that are
+// Rules 9 to 11, with 36: one pass over the section table notes where each kind that is read lies, and the first entries that are
 // not as they should be.
 ghost use mathlib.Core.Path.{_≡_};
 ghost use mathlib.Core.Bool.{not, _&&_, _||_};
@@ -29,12 +29,14 @@ use frame::kind::Logs;
 use frame::kind::Offsets;
 use frame::kind::Partners;
 use frame::kind::Properties;
+use frame::kind::Reserved;
 use frame::kind::Tombstones;
 use refusal::Refusal;
 
-// What was seen of the entries so far: the first that breaks rule 10 and the first that breaks 11 (64: none), where the
-// last section ended, and whether a property stream stands there. Where each kind lies stands in two arrays, by its slot.
+// What was seen of the entries so far: the first that breaks rule 36, the first that breaks 10 and the first that breaks 11 (64: none),
+// where the last section ended, and whether a property stream stands there. Where each kind lies stands in two arrays, by its slot.
 pub struct Seen {
+    pub reserved: u64,
     pub codec: u64,
     pub range: u64,
     pub floor: u64,
@@ -102,6 +104,7 @@ impl Seen {
         ensures { λ s. ⌜ s ≡ unseen ⌝ }
     {
         Seen {
+            reserved: Bounds::SECTIONS,
             codec: Bounds::SECTIONS,
             range: Bounds::SECTIONS,
             floor: Header::SIZE as u64,
@@ -114,6 +117,7 @@ impl Seen {
         ensures { λ s. ⌜ s ≡ coded k self codec ⌝ }
     {
         Seen {
+            reserved: self.reserved,
             codec: first_bad(self.codec, codec == Row::RAW, k),
             range: self.range,
             floor: self.floor,
@@ -125,9 +129,11 @@ impl Seen {
     fn ranged(self, limit: u64, k: u64, r: Row) -> Seen
         ensures { λ s. ⌜ s ≡ ranged limit k self r ⌝ }
     {
+        let reserved = first_bad(self.reserved, !Reserved::holds(r.kind), k);
         let streams = either(self.streams, r.kind == Properties::KIND);
         if range_good(limit, self.floor, r) {
             return Seen {
+                reserved,
                 codec: self.codec,
                 range: first_bad(self.range, true, k),
                 floor: r.start + r.len,
@@ -135,6 +141,7 @@ impl Seen {
             };
         }
         Seen {
+            reserved,
             codec: self.codec,
             range: first_bad(self.range, false, k),
             floor: self.floor,
@@ -202,13 +209,16 @@ fn framed_of(
     }
 }
 
-// Rules 9 to 11 of a table that was passed to its end.
+// Rules 9 to 11, with 36, of a table that was passed to its end.
 fn judged(b: &[u8], met: [bool; Kinds::READ], places: [Range; Kinds::READ], s: Seen) -> Framing
     requires { ⌜ 19 ≤ length (now b) ⌝ }
     ensures { λ r. ⌜ r ≡ framing (passed met s) (framedSeen (now (b .entry)) met places (s .streams)) ⌝ }
 {
     if !needed_met(met) {
         return refused(Refusal::Table);
+    }
+    if s.reserved < Bounds::SECTIONS {
+        return refused(Refusal::Reserved { entry: s.reserved });
     }
     if s.codec < Bounds::SECTIONS {
         return refused(Refusal::Codec { entry: s.codec });
@@ -221,7 +231,7 @@ fn judged(b: &[u8], met: [bool; Kinds::READ], places: [Range; Kinds::READ], s: S
     }
 }
 
-// Rules 9 to 11 of a footer body b, whose sections have to end at the limit. All of rule 9 is one refusal, so what breaks
+// Rules 9 to 11, with 36, of a footer body b, whose sections have to end at the limit. All of rule 9 is one refusal, so what breaks
 // it ends the pass.
 pub fn rows_framing(b: &[u8], limit: u64) -> Framing
     requires { ⌜ (19 ≤ length (now b)) × (length (now b) ≤ kind.mostBytes) ⌝ }

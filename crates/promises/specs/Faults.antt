@@ -1,23 +1,22 @@
 -- "Say what is wrong with a group": each number of a group's faults is given by every call on the file exactly where that fault is the
 -- first in the order of checks, at the byte inside the group, with the group beside it.
-use mathlib.Core.Path.{_≡_, refl, sym, _∙_}
+use mathlib.Core.Path.{_≡_, refl, sym, ap, _∙_}
 use mathlib.Core.Logic.{_↔_, Iff·trans}
 use Prim.Native.Nat.{ℕ, _+_, _/_, _<_}
 use native.Mathlib.Omega.{arith}
-use mathlib.Core.List.{List}
+use mathlib.Core.List.{List, [], _∷_}
 use mathlib.Core.Bool.{Bool, true}
-use lib.Dec.{eqb}
 use Rattle.refusal.specs.declared.Refusal.{Refusal}
 use Rattle.refusal.specs.declared.Check.{Check}
 use Rattle.refusal.specs.Refusal.{numberOf, isGone}
 use Rattle.refusal.specs.Refusal.Laws.{not-gone}
-use Rattle.refusal.specs.Check.Laws.{between, numbers-among}
+use Rattle.refusal.specs.Check.Laws.{listed}
 use Rattle.frame.specs.declared.Opened.{Opened}
 use Rattle.frame.specs.declared.Opening.{Opening}
 use Rattle.frame.specs.Frame.{rowsOf, bodyOf, recordOf}
 use Rattle.frame.specs.Open.{Known, keyAt, knownOf, bytesAt, recordGood, fileCheck, openOf}
 use Rattle.frame.specs.Open.Laws.{opens-fine, opens-refused}
-use Rattle.frame.specs.Header.{opening-numbers}
+use Rattle.frame.specs.Numbers.{openingNumbers, opening-numbers}
 use Rattle.index.specs.declared.keys.Found.{Found}
 use Rattle.index.specs.Find.{findIn}
 use Rattle.index.specs.Find.Laws.{find-sound, find-complete}
@@ -25,7 +24,7 @@ use Rattle.degrees.specs.Degrees.{groupAt}
 use Rattle.group.specs.declared.fault.Flaw.{Flaw}
 use Rattle.group.specs.declared.fault.Fault.{Fault}
 use Rattle.group.specs.Fault.{faultAt, refusalOf, numberFor}
-use Rattle.group.specs.Fault.Laws.{fault-number, fault-place, fault-beside, fault-fails, fault-apart}
+use Rattle.group.specs.Fault.Laws.{fault-number, fault-place, fault-beside, fault-unlisted, fault-apart}
 use Rattle.group.specs.Group.{isGood, groupOf}
 use Rattle.group.specs.Wrong.{Wrong, wrong-exactly}
 use Rattle.lookup.specs.Lookup.{Rooms, refused, lookOf, lookWith}
@@ -126,7 +125,7 @@ module _ (f : List ℕ) (i : ℕ) (w : Flaw) (b : ℕ) where
   )
 
   unopened : fileCheck f ≡ Check.Bad told → ⊥
-  unopened = fault-apart i fault (between 1 15) (numbers-among 1 15 (opening-numbers f)) refl
+  unopened = fault-apart i fault openingNumbers (opening-numbers f) refl
 
   -- the number and both places tell the fault
   gives-fault : {A : Type 0} (refusing : Refusal → A) (a : A) → Gives refusing a (numberFor w) b i ↔ (a ≡ refusing told)
@@ -150,7 +149,7 @@ module _ (f : List ℕ) (i : ℕ) (w : Flaw) (b : ℕ) where
       (gives-is refusing a told)
 
   not-room : numberOf told ≡ 20 → ⊥
-  not-room e = let z : _≡_ {A = ℕ} 0 1 = cc (e, fault-fails i fault (eqb 20) refl) in omega arith
+  not-room e = let z : _≡_ {A = ℕ} 0 1 = cc (fault-unlisted i fault (20 ∷ []) refl, e) in omega arith
 
   pub faulty : Faulty f i w b (numberFor w)
   faulty =

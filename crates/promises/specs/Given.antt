@@ -1,18 +1,21 @@
 -- Refusals by document 01's numbers and places, and that a refusal of opening is every call's on the file.
 use mathlib.Core.Path.{_≡_, refl, sym, ap, _∙_}
 use mathlib.Core.Logic.{_↔_, Iff·trans}
-use Prim.Native.Nat.{ℕ, _≤_}
+use Prim.Native.Nat.{ℕ}
 use native.Mathlib.Omega.{arith}
 use mathlib.Core.List.{List}
-use mathlib.Core.Bool.{Bool}
+use mathlib.Core.Bool.{Bool, true, false}
 use Rattle.refusal.specs.declared.Refusal.{Refusal}
 use Rattle.refusal.specs.declared.Check.{Check}
 use Rattle.refusal.specs.Refusal.{numberOf, placeOf, besideOf}
 use Rattle.refusal.specs.Refusal.Laws.{told-once}
 use Rattle.frame.specs.declared.Opening.{Opening}
+use Rattle.refusal.specs.Check.Laws.{listed}
 use Rattle.frame.specs.Open.{fileCheck, openOf}
+use Rattle.frame.specs.Numbers.{openingNumbers}
 use Rattle.frame.specs.Open.Laws.{opens-refused}
 use Rattle.lookup.specs.Lookup.{Rooms, refused, lookOf}
+use Rattle.lookup.specs.Given.{lookNumbers}
 use Rattle.reader.specs.declared.header.HeaderRead.{HeaderRead}
 use Rattle.reader.specs.Header.{headerOf, header-opening}
 use Rattle.reader.specs.Given.{look-opening}
@@ -68,16 +71,20 @@ pub record Every (f : List ℕ) (n p s : ℕ) (A : Type 0) : Type 0 where
 pub checked-is : (f : List ℕ) (r : Refusal) → (checkedOf f ≡ Opening.Refused r) ↔ (fullCheck f ≡ Check.Bad r)
 checked-is f r = (checked-refused f r, checked-bad f r)
 
--- a refusal of opening below 14 is every call's
-pub every : (f : List ℕ) (r : Refusal) → numberOf r ≤ 13 → {A : Type 0} → (fileCheck f ≡ Check.Bad r) ↔ A → Every f (numberOf r) (placeOf r) (besideOf r) A
-every f r h is =
-    let full = Iff·trans (full-opening f r (omega arith)) is in record {
+-- a number of opening is not 20
+not-room : (r : Refusal) → listed (numberOf r) openingNumbers ≡ true → numberOf r ≡ 20 → ⊥
+not-room r o e = let z : _≡_ {A = ℕ} 0 1 = cc in omega arith
+
+-- a refusal of the frame or of the keys is every call's: its number is opening's, and no lookup's after it
+pub every : (f : List ℕ) (r : Refusal) → listed (numberOf r) openingNumbers ≡ true → listed (numberOf r) lookNumbers ≡ false → {A : Type 0} → (fileCheck f ≡ Check.Bad r) ↔ A → Every f (numberOf r) (placeOf r) (besideOf r) A
+every f r o l is =
+    let full = Iff·trans (full-opening f r o) is in record {
       opening = Iff·trans (gives-is Opening.Refused (openOf f) r) (Iff·trans (opens-refused f r) is);
       header = Iff·trans (gives-is HeaderRead.Refused (headerOf f) r) (Iff·trans (header-opening f r) is);
-      lookup = λ full rooms key. Iff·trans (gives-is refused (lookOf full rooms key f) r) (Iff·trans (look-opening full rooms key f r h) is);
+      lookup = λ full rooms key. Iff·trans (gives-is refused (lookOf full rooms key f) r) (Iff·trans (look-opening full rooms key f r l) is);
       check = Iff·trans (gives-is Check.Bad (fullCheck f) r) full;
       checked = Iff·trans (gives-is Opening.Refused (checkedOf f) r) (Iff·trans (checked-is f r) full);
-      read-out = λ room. Iff·trans (gives-is ReadOut.Refused (readOutOf f room) r) (Iff·trans (read-full f room r (λ e. omega arith)) full);
+      read-out = λ room. Iff·trans (gives-is ReadOut.Refused (readOutOf f room) r) (Iff·trans (read-full f room r (not-room r o)) full);
       summary = Iff·trans (gives-is notSummed (summarisedOf f) r) (Iff·trans (summary-refuses f r) full);
-      sections = λ room. Iff·trans (gives-is Listed.Refused (listedOf f room) r) (Iff·trans (list-opening f room r (λ e. omega arith)) is);
+      sections = λ room. Iff·trans (gives-is Listed.Refused (listedOf f room) r) (Iff·trans (list-opening f room r (not-room r o)) is);
     }

@@ -1,4 +1,4 @@
--- What rules 1 to 12 give rules 13 to 15: sections that lie within the file, and lengths that fit the counts.
+-- What rules 1 to 12 and 36 give rules 13 to 15: sections that lie within the file, and lengths that fit the counts.
 use mathlib.Core.Path.{_≡_, refl, sym, ap, _∙_}
 use Prim.Native.Nat.{ℕ, _+_, _-_, _*_, _/_, _≤_}
 use native.Mathlib.Omega.{arith}
@@ -28,7 +28,7 @@ pub record Fit (size : ℕ) (x : Framed) : Type 0 where
   pub narrow : 3 ≤ x .opened .bits / 8
   pub wide : x .opened .bits / 8 ≤ 6
 
--- a file that passes rules 1 to 12
+-- a file that passes rules 1 to 12 and 36
 pub fit-of : (f : List ℕ) → Frames f → Fit (length f) (framedOf f)
 unfolding framedOf framedFrom recordFrom recordOf
 fit-of f s =

@@ -1,33 +1,33 @@
 -- Which refusals of a lookup are opening's, and when a lookup tells a fault of a group, 14 at it or 19, exactly.
 use mathlib.Core.Path.{_≡_, refl, sym, ap, _∙_}
 use mathlib.Core.Logic.{_↔_, Iff·trans}
-use Prim.Native.Nat.{ℕ, _≤_}
+use Prim.Native.Nat.{ℕ}
 use native.Mathlib.Omega.{arith}
-use mathlib.Core.List.{List}
+use mathlib.Core.List.{List, [], _∷_}
 use mathlib.Core.Bool.{Bool, true, false}
 use Rattle.refusal.specs.declared.Refusal.{Refusal}
 use Rattle.refusal.specs.declared.Check.{Check}
 use Rattle.refusal.specs.Refusal.{numberOf}
-use Rattle.refusal.specs.Check.Laws.{numbers-bad, between, numbers-among, above}
+use Rattle.refusal.specs.Check.Laws.{listed, numbers-bad, never}
 use Rattle.frame.specs.declared.Opened.{Opened}
 use Rattle.frame.specs.declared.Opening.{Opening}
-use Rattle.frame.specs.Header.{opening-numbers}
+use Rattle.frame.specs.Numbers.{openingNumbers, opening-numbers}
 use Rattle.frame.specs.Open.{knownOf, recordOf, recordGood, fileCheck, openOf}
 use Rattle.frame.specs.Open.Laws.{opens-fine, opens-record, opens-refused}
 use Rattle.group.specs.declared.fault.Fault.{Fault}
 use Rattle.group.specs.Fault.{refusalOf}
 use Rattle.group.specs.Fault.Laws.{fault-apart}
 use Rattle.lookup.specs.Lookup.{Rooms, refused, lookIn, lookWith, lookOf}
-use Rattle.lookup.specs.Given.{FaultIn, UnsummedIn, MisplacedIn, look-numbers, look-fault, look-misplaced, look-unsummed}
+use Rattle.lookup.specs.Given.{lookNumbers, FaultIn, UnsummedIn, MisplacedIn, look-numbers, look-fault, look-misplaced, look-unsummed}
 use Rattle.reader.specs.Look.{with-bad, with-good, of-refused, of-good}
 
 module _ (full : Bool) (rooms : Rooms) (key : ℕ) (f : List ℕ) where
-  -- a refusal below 14 is a lookup's exactly if it is opening's
-  pub look-opening : (r : Refusal) → numberOf r ≤ 13 → (lookOf full rooms key f ≡ refused r) ↔ (fileCheck f ≡ Check.Bad r)
+  -- a refusal that no lookup gives after opening is a lookup's exactly if it is opening's
+  pub look-opening : (r : Refusal) → listed (numberOf r) lookNumbers ≡ false → (lookOf full rooms key f ≡ refused r) ↔ (fileCheck f ≡ Check.Bad r)
   look-opening r h = (λ e. go (openOf f) refl e, λ e. of-refused full rooms key f r (opens-refused f r .1 e))
     where
       go : (x : Opening) → openOf f ≡ x → lookOf full rooms key f ≡ refused r → fileCheck f ≡ Check.Bad r
-      go (Opening.Good o) q e = let n = look-numbers full rooms (knownOf f o) key r (sym (of-good full rooms key f o q) ∙ e) in absurd (omega arith)
+      go (Opening.Good o) q e = let z : _≡_ {A = ℕ} 0 1 = cc (look-numbers full rooms (knownOf f o) key r (sym (of-good full rooms key f o q) ∙ e), h) in absurd (omega arith)
       go (Opening.Refused s) q e =
           let d : refused s ≡ refused r = sym (of-refused full rooms key f s q) ∙ e in
           let same : s ≡ r = cc in opens-refused f r .0 (q ∙ ap Opening.Refused same)
@@ -69,19 +69,19 @@ module _ (full : Bool) (rooms : Rooms) (key : ℕ) (f : List ℕ) where
   -- a fault of group i, which is that of the key
   pub look-of-fault : (i : ℕ) (fault : Fault) → (lookOf full rooms key f ≡ refused (refusalOf i fault)) ↔ ((fileCheck f ≡ Check.Fine) × FaultIn (knownOf f (recordOf f)) key i fault)
   look-of-fault i fault =
-      Iff·trans (look-of-told (refusalOf i fault) (fault-apart i fault (between 1 15) (numbers-among 1 15 (opening-numbers f)) refl))
+      Iff·trans (look-of-told (refusalOf i fault) (fault-apart i fault openingNumbers (opening-numbers f) refl))
       (both (look-fault full rooms (knownOf f (recordOf f)) key i fault))
 
   pub look-with-fault : (o : Opened) (i : ℕ) (fault : Fault) → (lookWith full rooms key f o ≡ refused (refusalOf i fault)) ↔ ((recordGood f o ≡ true) × FaultIn (knownOf f o) key i fault)
   look-with-fault o i fault =
       Iff·trans
-      (look-with-told o (refusalOf i fault) (λ e. fault-apart i fault (between 21 21) (numbers-among 21 21 (numbers-bad 21 21 Refusal.Record refl)) refl (ap Check.Bad e)))
+      (look-with-told o (refusalOf i fault) (λ e. fault-apart i fault (21 ∷ []) (numbers-bad (21 ∷ []) Refusal.Record refl) refl (ap Check.Bad e)))
       (both (look-fault full rooms (knownOf f o) key i fault))
 
   -- 19 of a file, and by a record; 14 by a record
   pub look-of-unsummed : (i : ℕ) → (lookOf full rooms key f ≡ refused (Refusal.Degrees i)) ↔ ((fileCheck f ≡ Check.Fine) × ((full ≡ true) × UnsummedIn (knownOf f (recordOf f)) key i))
   look-of-unsummed i =
-      Iff·trans (look-of-told (Refusal.Degrees i) (above 1 15 (opening-numbers f) (Refusal.Degrees i) (omega arith))) (both (look-unsummed full rooms (knownOf f (recordOf f)) key i))
+      Iff·trans (look-of-told (Refusal.Degrees i) (never openingNumbers (opening-numbers f) (Refusal.Degrees i) refl)) (both (look-unsummed full rooms (knownOf f (recordOf f)) key i))
 
   pub look-with-unsummed : (o : Opened) (i : ℕ) → (lookWith full rooms key f o ≡ refused (Refusal.Degrees i)) ↔ ((recordGood f o ≡ true) × ((full ≡ true) × UnsummedIn (knownOf f o) key i))
   look-with-unsummed o i =

@@ -1,4 +1,4 @@
-// Opening a file: rules 1 to 15.
+// Opening a file: rules 1 to 15, with 36.
 ghost use mathlib.Core.Path.{_≡_};
 ghost use mathlib.Core.Bool.{not, _&&_};
 ghost use Prim.Native.Nat.{_+_, _-_, _*_, _≤_};

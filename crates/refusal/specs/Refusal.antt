@@ -75,13 +75,15 @@ numberOf (Refusal.VarintCut byte group) = 33
 numberOf (Refusal.VarintLong byte group) = 34
 -- a varint's tenth byte is above 1, whatever follows: 2^64 or more
 numberOf (Refusal.VarintLarge byte group) = 35
+-- a section is of a kind of the reserved range, 0x0007 to 0x00FF
+numberOf (Refusal.Reserved entry) = 36
 
 -- numbers: to here
 
 -- the last of them
 abbrev pub lastNumber : ℕ
 -- last: from refusals.txt
-lastNumber = 35
+lastNumber = 36
 
 -- last: to here
 
@@ -127,6 +129,7 @@ placeOf (Refusal.SpareBytes byte group) = byte
 placeOf (Refusal.VarintCut byte group) = byte
 placeOf (Refusal.VarintLong byte group) = byte
 placeOf (Refusal.VarintLarge byte group) = byte
+placeOf (Refusal.Reserved entry) = entry
 
 -- places: to here
 
@@ -166,6 +169,7 @@ besideOf (Refusal.SpareBytes byte group) = group
 besideOf (Refusal.VarintCut byte group) = group
 besideOf (Refusal.VarintLong byte group) = group
 besideOf (Refusal.VarintLarge byte group) = group
+besideOf (Refusal.Reserved entry) = 0
 
 -- places beside: to here
 
@@ -176,7 +180,7 @@ refusalsAt p q =
     Refusal.Size ∷ Refusal.Magic ∷ Refusal.Major ∷ Refusal.HeaderSize ∷ Refusal.Flags ∷ Refusal.TailMagic ∷ Refusal.FooterLength ∷ Refusal.FooterSum ∷ Refusal.Table ∷ Refusal.Codec p
     ∷ Refusal.Range p ∷ Refusal.Counts ∷ Refusal.Key p ∷ Refusal.Offset p ∷ Refusal.Fences ∷ Refusal.Tag p q ∷ Refusal.Size ∷ Refusal.Size ∷ Refusal.Degrees p ∷ Refusal.Room p
     ∷ Refusal.Record ∷ Refusal.Sum p ∷ Refusal.Data ∷ Refusal.Batch p ∷ Refusal.Unordered p ∷ Refusal.Bounds ∷ Refusal.Chunk ∷ Refusal.DegreeZero p q ∷ Refusal.PartnerOrder p q ∷ Refusal.UpperHalf p q
-    ∷ Refusal.GroupCut p q ∷ Refusal.SpareBytes p q ∷ Refusal.VarintCut p q ∷ Refusal.VarintLong p q ∷ Refusal.VarintLarge p q ∷ []
+    ∷ Refusal.GroupCut p q ∷ Refusal.SpareBytes p q ∷ Refusal.VarintCut p q ∷ Refusal.VarintLong p q ∷ Refusal.VarintLarge p q ∷ Refusal.Reserved p ∷ []
 
 -- all: to here
 

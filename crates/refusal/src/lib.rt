@@ -44,6 +44,8 @@ pub enum Refusal {
     VarintCut { byte: u64, group: u64 },
     VarintLong { byte: u64, group: u64 },
     VarintLarge { byte: u64, group: u64 },
+    // sections that change what the others mean
+    Reserved { entry: u64 },
     // cases: to here
 }
 
@@ -109,6 +111,7 @@ pub fn told_of(r: Refusal) -> Told
         Refusal::VarintCut { byte, group } => tell(33, byte, group),
         Refusal::VarintLong { byte, group } => tell(34, byte, group),
         Refusal::VarintLarge { byte, group } => tell(35, byte, group),
+        Refusal::Reserved { entry } => tell(36, entry, 0),
         // told: to here
     }
 }

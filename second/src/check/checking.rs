@@ -2,7 +2,7 @@
 //! summary stand beside.
 
 use super::groups::{check_fault, group_bytes, Spots, FAULTS};
-use super::{check_framed, check_names, summaries, Named, Tally};
+use super::{check_framed, check_names, opening, summaries, Named, Tally};
 use crate::batch;
 use crate::corpus::check_files::{self, CheckFile, ROOM};
 use crate::corpus::fresh_output;
@@ -44,7 +44,7 @@ pub fn check(tally: &mut Tally) {
 fn check_sizes(tally: &mut Tally, files: &[CheckFile]) {
     let input = check_files::stdin(files).len();
     let output = check_files::stdout(files).len();
-    tally.same("check input at most 2300000", input <= 2_300_000, true);
+    tally.same("check input at most 2450000", input <= 2_450_000, true);
     for file in files {
         let within = file.bytes.len() <= LONGEST;
         tally.same(&format!("size of {}", file.name), within, true);
@@ -172,14 +172,14 @@ fn check_refusals(tally: &mut Tally, files: &[CheckFile]) {
     tally
         .notes
         .push(format!("full check: fine: files {passed}"));
-    let numbers: BTreeSet<u8> = (1..=15).chain(LATER).chain(FAULTS).collect();
+    let numbers = opening::NUMBERS.into_iter().chain(LATER).chain(FAULTS);
     let found: BTreeSet<u8> = told.keys().copied().collect();
-    tally.same("refusals of the full check", found, numbers);
+    tally.same("refusals of the full check", found, numbers.collect());
     for (number, told) in told {
         let places: BTreeSet<u64> = told.iter().map(|refusal| refusal.place).collect();
         let groups: BTreeSet<u64> = told.iter().map(|refusal| refusal.beside).collect();
         let enough = match number {
-            10 | 11 | 13 | 14 => places.len() >= 4,
+            10 | 11 | 13 | 14 | 36 => places.len() >= 4,
             22 => places.len() >= 8,
             28 => places == BTreeSet::from([0]) && groups.len() >= 3,
             _ if FAULTS.contains(&number) => places.len() >= 5 && groups.len() >= 3,
@@ -234,7 +234,7 @@ fn check_changed_bytes(tally: &mut Tally, files: &[CheckFile]) {
                 Err(Refusal {
                     number: 22, place, ..
                 }) => entry == Some(place as usize),
-                Err(Refusal { number, .. }) => number <= 15,
+                Err(Refusal { number, .. }) => opening::NUMBERS.contains(&number),
             };
             tally.same(&format!("{name} changed at {at}"), right, true);
         }

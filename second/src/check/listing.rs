@@ -1,6 +1,6 @@
 //! Checks of the section list and of its corpus.
 
-use super::Tally;
+use super::{opening, Tally};
 use crate::corpus::list_files::{self, blank, sort, Sort, OF_EACH_COUNT, OF_EACH_REFUSAL, ROOM};
 use crate::corpus::open_files::{self, OpenFile};
 use crate::list::list;
@@ -27,7 +27,7 @@ fn check_chosen(tally: &mut Tally, files: &[OpenFile]) {
     for file in files {
         *sorts.entry(sort(file)).or_default() += 1;
     }
-    for number in 1..=15 {
+    for number in opening::NUMBERS {
         let found = sorts.get(&Sort::Refused(number)).copied();
         let what = format!("refusal {number} listed");
         tally.same(&what, found, Some(OF_EACH_REFUSAL));
@@ -37,8 +37,8 @@ fn check_chosen(tally: &mut Tally, files: &[OpenFile]) {
         let some = (1..=OF_EACH_COUNT).contains(&found);
         tally.same(&format!("{count} sections listed"), some, true);
     }
-    let few = (140..=170).contains(&files.len());
-    tally.same("140 to 170 listed", few, true);
+    let few = (150..=185).contains(&files.len());
+    tally.same("150 to 185 listed", few, true);
     tally.notes.push(format!(
         "corpus of the section list: {} files, {} bytes in, {} bytes out",
         files.len(),

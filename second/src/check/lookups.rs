@@ -422,11 +422,12 @@ fn check_told(tally: &mut Tally, mut told: BTreeMap<String, Told>) {
     };
     enough(FOUND, true, true, 10);
     enough(ABSENT, true, true, 1);
-    for number in (1..=16).chain(19..=21).chain(28..=35) {
+    for number in (1..=16).chain(19..=21).chain(28..=36) {
         let answer = &refusal_word(number)[..];
         match number {
             14 => enough(answer, true, true, 4),
             21 => enough(answer, false, true, 1),
+            36 => enough(answer, true, false, 4),
             1..=15 => enough(answer, true, false, 1),
             20 => enough(answer, true, true, 8),
             19 => enough(answer, true, true, 3),

@@ -1,5 +1,7 @@
 //! Checks of opening and of its corpus.
 
+mod reserved;
+
 use super::{check_framed, check_names, Named, Tally};
 use crate::corpus::open_files::{self, OpenFile, Verdict};
 use crate::format::{bound, kind, HEADER, MAGIC, TRAILER};
@@ -10,6 +12,9 @@ use crate::numbers::id_of;
 use crate::open::{open, Opened};
 use crate::refusal::Refusal;
 use std::collections::{BTreeMap, BTreeSet};
+
+/// The refusals of opening, in the order of its checks.
+pub const NUMBERS: [u8; 16] = [1, 2, 3, 4, 5, 6, 7, 8, 9, 36, 10, 11, 12, 13, 14, 15];
 
 pub fn check(tally: &mut Tally) {
     let small = open_files::small();
@@ -26,6 +31,7 @@ pub fn check(tally: &mut Tally) {
         check_relaid(tally, file);
     }
     check_refusals(tally, &small);
+    reserved::check(tally, &small);
     check_bounds(tally);
     check_any_bytes(tally, &small);
 }
@@ -84,7 +90,7 @@ fn check_headers(tally: &mut Tally, files: &[OpenFile]) {
 
 fn check_sizes(tally: &mut Tally, small: &[OpenFile], large: &[OpenFile]) {
     let size = open_files::stdin(small).len();
-    tally.same("small corpus at most 600000", size <= 600_000, true);
+    tally.same("small corpus at most 750000", size <= 750_000, true);
     tally.same("large files at most 8", large.len() <= 8, true);
     let longest = large.iter().map(|file| file.bytes.len()).max();
     let within = longest.is_some_and(|longest| longest <= 3_500_000);
@@ -160,12 +166,12 @@ fn check_refusals(tally: &mut Tally, files: &[OpenFile]) {
     let refused: usize = places.values().map(Vec::len).sum();
     let opened = files.len() - refused;
     tally.notes.push(format!("opens: files {opened}"));
-    for number in 1..=15 {
+    for number in NUMBERS {
         let places = places.get(&number).map_or(&[][..], Vec::as_slice);
         let distinct: BTreeSet<&u64> = places.iter().collect();
         let what = format!("refusal {number}");
         let enough = match number {
-            10 | 11 | 13 | 14 => distinct.len() >= 4,
+            10 | 11 | 13 | 14 | 36 => distinct.len() >= 4,
             _ => distinct.len() == 1 && places[0] == 0,
         };
         tally.same(&format!("{what} at its places"), enough, true);
@@ -274,10 +280,9 @@ fn check_answer(tally: &mut Tally, file: &[u8]) {
             place,
             beside: 0,
         }) => match number {
-            10 | 11 => place < 64,
+            10 | 11 | 36 => place < 64,
             13 | 14 => place <= bound::KEYS,
-            1..=15 => place == 0,
-            _ => false,
+            _ => NUMBERS.contains(&number) && place == 0,
         },
         Err(_) => false,
     };

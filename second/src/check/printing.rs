@@ -1,7 +1,7 @@
 //! Checks of what is printed, and of the corpus of printing.
 
 use super::groups::FAULTS;
-use super::Tally;
+use super::{opening, Tally};
 use crate::batch::{Batch, KeyedEdge};
 use crate::corpus::check_files::{self, samples, CheckFile, ROOM};
 use crate::corpus::print_files;
@@ -50,7 +50,7 @@ fn check_chosen(tally: &mut Tally, files: &[CheckFile]) {
             Err(refusal) => *refused.entry(refusal.number).or_default() += 1,
         }
     }
-    let numbers = (1..=15).chain([22, 23]).chain(FAULTS);
+    let numbers = opening::NUMBERS.into_iter().chain([22, 23]).chain(FAULTS);
     let each = numbers.map(|number| (number, print_files::OF_EACH_REFUSAL));
     tally.same("refusals printed", &refused, &each.collect());
     tally.same("80 to 100 printed", (80..=100).contains(&files.len()), true);

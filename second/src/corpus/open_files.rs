@@ -11,6 +11,7 @@ mod kinds;
 mod large;
 mod pairs;
 mod ranges;
+mod reserved;
 pub(super) mod samples;
 mod sound;
 mod table;
@@ -52,6 +53,7 @@ pub fn small() -> Vec<OpenFile> {
     heads::add(&mut files);
     checksums::add(&mut files);
     table::add(&mut files);
+    reserved::add(&mut files);
     ranges::add(&mut files);
     counts::add(&mut files);
     keys_and_offsets::add(&mut files);

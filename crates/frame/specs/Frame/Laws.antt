@@ -1,14 +1,15 @@
--- The laws of the section table and of rules 9 to 12, and what the rules do not see: sections of unknown kinds and the minor
+-- The laws of the section table and of rules 9 to 12 and 36, and what the rules do not see: sections of unknown kinds and the minor
 -- version.
 use mathlib.Core.Path.{_≡_, refl, sym, ap, _∙_}
-use mathlib.Core.Logic.{_↔_}
+use mathlib.Core.Logic.{_↔_, _⊎_, inl, inr, ⊎-elim}
 use Prim.Native.Nat.{ℕ, zero, suc, _+_, _-_, _*_, _≤_, _<_}
+use native.Mathlib.Decide.{ℕ-discrete, decLt}
 use native.Mathlib.Omega.{arith}
 use mathlib.Core.List.{List, [], _∷_}
 use mathlib.Core.Bool.{Bool, true, false, not, _&&_, _||_}
 use lib.ListN.{length, getD}
 use lib.Dec.{leb, eqb}
-use borrow.Author.Tests.{eqb-true, eqb-false, leb-true, eq-eqb, ne-eqb, le-leb, lt-ltb, ltb-true}
+use borrow.Author.Tests.{eqb-true, eqb-false, leb-true, eq-eqb, ne-eqb, le-leb, lt-leb, lt-ltb, ltb-true}
 use Rattle.base.specs.Pick.{pick}
 use Rattle.codes.specs.Little.{leAt, leBytes}
 use Rattle.codes.specs.Little.Laws.{leAt-same}
@@ -20,7 +21,7 @@ use Rattle.frame.specs.declared.Row.{Row}
 use Rattle.frame.specs.declared.Range.{Range}
 use Rattle.frame.specs.Kind as kind
 use Rattle.frame.specs.Kind.Laws.{numberAt, slot-found}
-use Rattle.frame.specs.Frame.{rowAt, nextAt, rowsFrom, endFrom, entryCount, rowsOf, endOf, keyCount, edgeCount, bitsOf, has, repeated, sectionOf, rangeOf, nowhere, rangeGood, ranges, all, nameGood, onceGood, kindsGood, fills, tableGood, codecGood, codecs, widthGood, sizesGood, presenceGood, countsGood, flagsOf, directionOf, headerIn, atMinor, headCheck, recordFrom, framedFrom}
+use Rattle.frame.specs.Frame.{rowAt, nextAt, rowsFrom, endFrom, entryCount, rowsOf, endOf, keyCount, edgeCount, bitsOf, has, repeated, sectionOf, rangeOf, nowhere, rangeGood, ranges, all, nameGood, onceGood, kindsGood, fills, tableGood, eachRow, kindGood, codecGood, widthGood, sizesGood, presenceGood, countsGood, flagsOf, directionOf, headerIn, atMinor, headCheck, recordFrom, framedFrom}
 
 -- the magic's number is that of its bytes
 pub magic-is : leBytes 8 kind.magic ≡ kind.magicBytes
@@ -143,6 +144,21 @@ ranges-made limit floor (r ∷ rs) k a =
     let good : rangeGood limit floor r ≡ true = and-both (le-leb floor (r .start) (a .0)) (le-leb (r .start + r .len) limit (a .1)) in
     fine-pick (Check.Bad (Refusal.Range k)) good (ranges-made limit (r .start + r .len) rs (k + 1) (a .2))
 
+-- ---- what is asked of each entry
+
+module _ (good : Row → Bool) (told : ℕ → Refusal) where
+  pub each-good : (r : Row) (rs : List Row) (k : ℕ) → good r ≡ true → eachRow good told (r ∷ rs) k ≡ eachRow good told rs (k + 1)
+  unfolding eachRow
+  each-good r rs k e = rw e
+
+  pub each-bad : (r : Row) (rs : List Row) (k : ℕ) → good r ≡ false → eachRow good told (r ∷ rs) k ≡ Check.Bad (told k)
+  unfolding eachRow
+  each-bad r rs k e = rw e
+
+  pub each-parts : (r : Row) (rs : List Row) (k : ℕ) → eachRow good told (r ∷ rs) k ≡ Check.Fine → (good r ≡ true) × (eachRow good told rs (k + 1) ≡ Check.Fine)
+  unfolding eachRow
+  each-parts r rs k e = pick-fine (good r) (eachRow good told rs (k + 1)) (told k) e
+
 -- ---- "Every other kind is skipped"
 
 -- the kinds that are read are 1 to 6
@@ -175,18 +191,52 @@ fixed-kinds k = (
   λ h. fixed-low k (h .0) (h .1),
 )
 
--- which kinds are unknown: neither 1 to 6 nor 0x0100
-pub unknown-kinds : (k : ℕ) → (kind.unknown k ≡ true) ↔ ((1 ≤ k → k ≤ 6 → ⊥) × (k ≡ 0x0100 → ⊥))
-unknown-kinds k = (go (kind.fixed k) refl (eqb k 0x0100) refl, back (kind.fixed k) refl)
-  where
-    go : (x : Bool) → kind.fixed k ≡ x → (y : Bool) → eqb k 0x0100 ≡ y → not (x || y) ≡ true → (1 ≤ k → k ≤ 6 → ⊥) × (k ≡ 0x0100 → ⊥)
-    go true p y q e = let z : _≡_ {A = ℕ} 0 1 = cc in absurd (omega arith)
-    go false p true q e = let z : _≡_ {A = ℕ} 0 1 = cc in absurd (omega arith)
-    go false p false q e = (λ a b. let t : true ≡ false = sym (fixed-low k a b) ∙ p in let z : _≡_ {A = ℕ} 0 1 = cc in omega arith, eqb-false k 0x0100 q)
+-- the reserved range
+pub reserved-kinds : (k : ℕ) → (kind.reserved k ≡ true) ↔ ((0x0007 ≤ k) × (k ≤ 0x00FF))
+reserved-kinds k = (
+  λ e. let p = and-parts (leb 7 k) (leb k 255) e in (leb-true 7 k (p .0), leb-true k 255 (p .1)),
+  λ h. and-both (le-leb 7 k (h .0)) (le-leb k 255 (h .1)),
+)
 
-    back : (x : Bool) → kind.fixed k ≡ x → (1 ≤ k → k ≤ 6 → ⊥) × (k ≡ 0x0100 → ⊥) → not (x || eqb k 0x0100) ≡ true
-    back true p h = let w = fixed-kinds k .0 p in absurd (h .0 (w .0) (w .1))
-    back false p h = rw (ne-eqb k 0x0100 (h .1))
+-- a kind that is read is not reserved
+pub fixed-unreserved : (k : ℕ) → kind.fixed k ≡ true → kind.reserved k ≡ false
+fixed-unreserved k e = let w = fixed-kinds k .0 e in simp (lt-leb 7 k (omega arith))
+
+-- a kind is read, a property stream's, reserved, or unknown
+unknown-parts : (k : ℕ) → kind.unknown k ≡ true → (kind.fixed k ≡ false) × (eqb k kind.properties ≡ false) × (kind.reserved k ≡ false)
+unknown-parts k = go (kind.fixed k) (eqb k kind.properties) (kind.reserved k)
+  where
+    go : (x y z : Bool) → not (x || (y || z)) ≡ true → (x ≡ false) × (y ≡ false) × (z ≡ false)
+    go true y z e = let q : _≡_ {A = ℕ} 0 1 = cc in absurd (omega arith)
+    go false true z e = let q : _≡_ {A = ℕ} 0 1 = cc in absurd (omega arith)
+    go false false true e = let q : _≡_ {A = ℕ} 0 1 = cc in absurd (omega arith)
+    go false false false e = (refl, refl, refl)
+
+-- which kinds are unknown: "kind 0 and kinds from 0x0101 up"
+pub unknown-kinds : (k : ℕ) → (kind.unknown k ≡ true) ↔ ((k ≡ 0) ⊎ (0x0101 ≤ k))
+unknown-kinds k = (λ u. there (unknown-parts k u), ⊎-elim (λ e. rw e) large)
+  where
+    clash : {t : Bool} → t ≡ true → t ≡ false → ⊥
+    clash e d = let q : _≡_ {A = ℕ} 0 1 = cc in omega arith
+
+    there : (kind.fixed k ≡ false) × (eqb k kind.properties ≡ false) × (kind.reserved k ≡ false) → (k ≡ 0) ⊎ (0x0101 ≤ k)
+    there (x, y, z) = elim (ℕ-discrete k 0) [
+      | yes e ↦ inl e
+      | no e ↦ elim (decLt 0x0100 k) [
+        | yes h ↦ inr (omega arith)
+        | no h ↦ elim (decLt 6 k) [
+          | yes g ↦ let other = eqb-false k 0x0100 y in absurd (clash (reserved-kinds k .1 (omega arith, omega arith)) z)
+          | no g ↦ absurd (clash (fixed-low k (omega arith) (omega arith)) x)
+        ]
+      ]
+    ]
+
+    large : 0x0101 ≤ k → kind.unknown k ≡ true
+    large h = go (kind.fixed k) refl
+      where
+        go : (x : Bool) → kind.fixed k ≡ x → not (x || (eqb k 0x0100 || kind.reserved k)) ≡ true
+        go true p = let w = fixed-kinds k .0 p in absurd (omega arith)
+        go false p = simp (ne-eqb k 0x0100 (λ e. omega arith), le-leb 7 k (omega arith), lt-leb k 255 (omega arith))
 
 -- what the rules ask a table of known kinds is the same of both: whether one is there, whether twice, and how long it is
 pub record SameKnown (rs ts : List Row) : Type 0 where
@@ -231,13 +281,6 @@ module _ (r : Row) (rs : List Row) (u : kind.unknown (r .kind) ≡ true) where
   unlike : (k : ℕ) → kind.unknown k ≡ false → eqb (r .kind) k ≡ false
   unlike k h = ne-eqb (r .kind) k (λ e. let v : kind.unknown k ≡ true = (rw e at u) in let w : true ≡ false = sym v ∙ h in let z : _≡_ {A = ℕ} 0 1 = cc in omega arith)
 
-  not-fixed : kind.fixed (r .kind) ≡ false
-  not-fixed = go (kind.fixed (r .kind)) u
-    where
-      go : (x : Bool) → not (x || eqb (r .kind) kind.properties) ≡ true → x ≡ false
-      go true e = let z : _≡_ {A = ℕ} 0 1 = cc in absurd (omega arith)
-      go false e = refl
-
   -- an entry of an unknown kind makes no difference to what is asked of known ones
   pub section-skipped : (k : ℕ) → kind.unknown k ≡ false → sectionOf k rs ≡ sectionOf k (r ∷ rs)
   unfolding sectionOf
@@ -251,13 +294,15 @@ module _ (r : Row) (rs : List Row) (u : kind.unknown (r .kind) ≡ true) where
   pub kinds-skipped : kindsGood (r ∷ rs) ≡ kindsGood rs
   kinds-skipped = sym (kinds-known (r ∷ rs) rs skipped)
 
-  -- its codec and its name's bytes are its writer's own
-  pub codec-skipped : (k : ℕ) → codecs (r ∷ rs) k ≡ codecs rs (k + 1)
-  unfolding codecs
-  codec-skipped k = rw not-fixed
+  -- its kind is not reserved, and its codec and its name's bytes are its writer's own
+  pub kind-skipped : kindGood r ≡ true
+  kind-skipped = ap not (unknown-parts (r .kind) u .2)
+
+  pub codec-skipped : codecGood r ≡ true
+  codec-skipped = ap (λ (x : Bool). not x || eqb (r .codec) 0) (unknown-parts (r .kind) u .0)
 
   pub name-skipped : r .namelen ≤ 63 → nameGood r ≡ true
-  name-skipped h = rw (le-leb (r .namelen) 63 h, not-fixed)
+  name-skipped h = rw (le-leb (r .namelen) 63 h, unknown-parts (r .kind) u .0)
 
 -- ---- "minor u8, any"
 

@@ -22,11 +22,11 @@ use Rattle.frame.specs.declared.Framed.{Framed}
 use Rattle.frame.specs.declared.Framing.{Framing}
 use Rattle.frame.specs.declared.Opening.{Opening}
 use Rattle.frame.specs.Kind as kind
-use Rattle.frame.specs.Frame.{rowsOf, sectionOf, widthGood, sizesGood, countsGood, flagsOf, footLen, bodyOf, recordOf, framedFrom, framedOf, sizeCheck, headCheck, tailCheck, sumCheck, tableCheck, codecCheck, rangeCheck, countsCheck, endsCheck, rowsCheck, footerCheck, shapeCheck, frameCheck}
+use Rattle.frame.specs.Frame.{rowsOf, sectionOf, widthGood, sizesGood, countsGood, flagsOf, footLen, bodyOf, recordOf, framedFrom, framedOf, sizeCheck, headCheck, tailCheck, sumCheck, tableCheck, reservedCheck, codecCheck, rangeCheck, countsCheck, endsCheck, rowsCheck, footerCheck, shapeCheck, frameCheck}
 use Rattle.frame.specs.Frame.Laws.{Table, table-parts, table-made, section-within}
 use Rattle.frame.specs.Open.{knownOf, bytesAt, inside, recordWithin, keysFrom, offsetsFrom, fencesGood, contentCheck, fileCheck, framing, opening, openOf}
 
--- ---- rules 1 to 12, of a size, first bytes h and last bytes t
+-- ---- rules 1 to 12 and 36, of a size, first bytes h and last bytes t
 
 pub record FramesBy (n : ℕ) (h t : List ℕ) : Type 0 where
   pub size : sizeCheck n ≡ Check.Fine
@@ -34,6 +34,7 @@ pub record FramesBy (n : ℕ) (h t : List ℕ) : Type 0 where
   pub tail : tailCheck n t ≡ Check.Fine
   pub sum : sumCheck t ≡ Check.Fine
   pub table : Table (bodyOf t)
+  pub unreserved : reservedCheck (rowsOf (bodyOf t)) ≡ Check.Fine
   pub raw : codecCheck (rowsOf (bodyOf t)) ≡ Check.Fine
   pub apart : rangeCheck (n - footLen t) (rowsOf (bodyOf t)) ≡ Check.Fine
   pub counts : countsGood (flagsOf h) (framedOf t) ≡ true
@@ -52,13 +53,15 @@ module _ (size : ℕ) (h t : List ℕ) where
       let d = fine-parts (headCheck h) (tailCheck size t) (c .0) in
       let i = fine-parts (sumCheck t) _ (c .1) in
       let j = fine-parts (tableCheck (bodyOf t)) _ (i .1) in
-      let k = fine-parts (codecCheck (rowsOf (bodyOf t))) _ (j .1) in
+      let l = fine-parts (reservedCheck (rowsOf (bodyOf t))) _ (j .1) in
+      let k = fine-parts (codecCheck (rowsOf (bodyOf t))) _ (l .1) in
       record {
         size = b .0;
         head = d .0;
         tail = d .1;
         sum = i .0;
         table = table-parts (bodyOf t) (good-parts Refusal.Table _ (j .0));
+        unreserved = l .0;
         raw = k .0;
         apart = k .1;
         counts = good-parts Refusal.Counts _ (a .1);
@@ -79,7 +82,7 @@ module _ (size : ℕ) (h t : List ℕ) where
   pub frames-made : FramesBy size h t → frameCheck size h t ≡ Check.Fine
   unfolding frameCheck shapeCheck endsCheck footerCheck rowsCheck
   frames-made s =
-      let rows : rowsCheck (size - footLen t) (bodyOf t) ≡ Check.Fine = fine-both (good-fine Refusal.Table (table-made (bodyOf t) (s .table))) (fine-both (s .raw) (s .apart)) in
+      let rows : rowsCheck (size - footLen t) (bodyOf t) ≡ Check.Fine = fine-both (good-fine Refusal.Table (table-made (bodyOf t) (s .table))) (fine-both (s .unreserved) (fine-both (s .raw) (s .apart))) in
       fine-both (fine-both (s .size) (fine-both (fine-both (s .head) (s .tail)) (fine-both (s .sum) rows))) (good-fine Refusal.Counts (s .counts))
 
 -- the size and the footer's length, as numbers

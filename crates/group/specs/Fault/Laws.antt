@@ -1,17 +1,14 @@
 -- The laws of a fault's refusal, for callers that do not look at single faults.
 use mathlib.Core.Path.{_≡_, refl, sym, ap, _∙_}
-use Prim.Native.Nat.{ℕ, _-_, _≤_, _<_}
-use native.Mathlib.Omega.{arith}
+use Prim.Native.Nat.{ℕ, _-_}
 use mathlib.Core.List.{List, [], _∷_}
-use mathlib.Core.Bool.{Bool, true, false}
+use mathlib.Core.Bool.{true, false}
 use lib.ListN.{getD}
-use lib.Dec.{lit<, ltb}
-use borrow.Author.Tests.{ltb-false}
 use Rattle.codes.specs.declared.varint.Unread.{Unread}
 use Rattle.refusal.specs.declared.Refusal.{Refusal}
 use Rattle.refusal.specs.declared.Check.{Check}
 use Rattle.refusal.specs.Refusal.{numberOf, placeOf, besideOf}
-use Rattle.refusal.specs.Check.Laws.{Among, noneOf, none-at}
+use Rattle.refusal.specs.Check.Laws.{listed, noneIn, none-listed, Numbers, never}
 use Rattle.group.specs.declared.fault.Flaw.{Flaw}
 use Rattle.group.specs.declared.fault.Fault.{Fault}
 use Rattle.group.specs.Fault.{faultAt, flawOf, refusalOf, numberFor}
@@ -23,41 +20,29 @@ flaws = Flaw.Tag ∷ Flaw.Degree ∷ Flaw.Order ∷ Flaw.Upper ∷ Flaw.Cut ∷ 
 abbrev pub faultNumbers : List ℕ
 faultNumbers = 16 ∷ 28 ∷ 29 ∷ 30 ∷ 31 ∷ 32 ∷ 33 ∷ 34 ∷ 35 ∷ []
 
--- the place of a flaw among them, and of a number
-rankOf : Flaw → ℕ
-rankOf Flaw.Tag = 0
-rankOf Flaw.Degree = 1
-rankOf Flaw.Order = 2
-rankOf Flaw.Upper = 3
-rankOf Flaw.Cut = 4
-rankOf Flaw.Spare = 5
-rankOf (Flaw.Number Unread.Cut) = 6
-rankOf (Flaw.Number Unread.Long) = 7
-rankOf (Flaw.Number Unread.Large) = 8
-
+-- the place of a number among them
 rankTold : ℕ → ℕ
 rankTold n = n - 27
 
 -- its number is the flaw's, its places are the byte and the group
 record ToldAs (at i : ℕ) (w : Flaw) : Type 0 where
-  rank : rankOf w < 9
-  listed : numberFor w ≡ getD faultNumbers (rankOf w) 0
+  listed-as : listed (numberFor w) faultNumbers ≡ true
   number : numberOf (flawOf at i w) ≡ numberFor w
   back : getD flaws (rankTold (numberOf (flawOf at i w))) Flaw.Tag ≡ w
   place : placeOf (flawOf at i w) ≡ at
   beside : besideOf (flawOf at i w) ≡ i
 
 told-as : (at i : ℕ) (w : Flaw) → ToldAs at i w
-unfolding flaws rankOf rankTold
-told-as at i Flaw.Tag = record { rank = lit< tt; listed = refl; number = refl; back = refl; place = refl; beside = refl }
-told-as at i Flaw.Degree = record { rank = lit< tt; listed = refl; number = refl; back = refl; place = refl; beside = refl }
-told-as at i Flaw.Order = record { rank = lit< tt; listed = refl; number = refl; back = refl; place = refl; beside = refl }
-told-as at i Flaw.Upper = record { rank = lit< tt; listed = refl; number = refl; back = refl; place = refl; beside = refl }
-told-as at i Flaw.Cut = record { rank = lit< tt; listed = refl; number = refl; back = refl; place = refl; beside = refl }
-told-as at i Flaw.Spare = record { rank = lit< tt; listed = refl; number = refl; back = refl; place = refl; beside = refl }
-told-as at i (Flaw.Number Unread.Cut) = record { rank = lit< tt; listed = refl; number = refl; back = refl; place = refl; beside = refl }
-told-as at i (Flaw.Number Unread.Long) = record { rank = lit< tt; listed = refl; number = refl; back = refl; place = refl; beside = refl }
-told-as at i (Flaw.Number Unread.Large) = record { rank = lit< tt; listed = refl; number = refl; back = refl; place = refl; beside = refl }
+unfolding flaws rankTold
+told-as at i Flaw.Tag = record { listed-as = refl; number = refl; back = refl; place = refl; beside = refl }
+told-as at i Flaw.Degree = record { listed-as = refl; number = refl; back = refl; place = refl; beside = refl }
+told-as at i Flaw.Order = record { listed-as = refl; number = refl; back = refl; place = refl; beside = refl }
+told-as at i Flaw.Upper = record { listed-as = refl; number = refl; back = refl; place = refl; beside = refl }
+told-as at i Flaw.Cut = record { listed-as = refl; number = refl; back = refl; place = refl; beside = refl }
+told-as at i Flaw.Spare = record { listed-as = refl; number = refl; back = refl; place = refl; beside = refl }
+told-as at i (Flaw.Number Unread.Cut) = record { listed-as = refl; number = refl; back = refl; place = refl; beside = refl }
+told-as at i (Flaw.Number Unread.Long) = record { listed-as = refl; number = refl; back = refl; place = refl; beside = refl }
+told-as at i (Flaw.Number Unread.Large) = record { listed-as = refl; number = refl; back = refl; place = refl; beside = refl }
 
 module _ (i : ℕ) (f : Fault) where
   is : ToldAs (f .at) i (f .flaw)
@@ -73,16 +58,15 @@ module _ (i : ℕ) (f : Fault) where
   pub fault-beside : besideOf (refusalOf i f) ≡ i
   fault-beside = is .beside
 
-  -- its number passes no test that none of the faults' numbers passes
-  pub fault-fails : (test : ℕ → Bool) → noneOf test faultNumbers ≡ true → test (numberOf (refusalOf i f)) ≡ false
-  fault-fails test e = ap test (is .number ∙ is .listed) ∙ none-at test faultNumbers (rankOf (f .flaw)) (is .rank) e
+  -- it is one of the faults' numbers, so no other
+  pub fault-listed : listed (numberOf (refusalOf i f)) faultNumbers ≡ true
+  fault-listed = ap (λ (n : ℕ). listed n faultNumbers) (is .number) ∙ is .listed-as
 
-  pub fault-apart : (test : ℕ → Bool) {c : Check} → Among test c → noneOf test faultNumbers ≡ true → c ≡ Check.Bad (refusalOf i f) → ⊥
-  fault-apart test a e q = let z : _≡_ {A = ℕ} 0 1 = cc (a (refusalOf i f) q, fault-fails test e) in omega arith
+  pub fault-unlisted : (ns : List ℕ) → noneIn faultNumbers ns ≡ true → listed (numberOf (refusalOf i f)) ns ≡ false
+  fault-unlisted ns e = none-listed faultNumbers ns (numberOf (refusalOf i f)) e fault-listed
 
-  -- it is 16 or more
-  pub fault-least : 16 ≤ numberOf (refusalOf i f)
-  fault-least = ltb-false (numberOf (refusalOf i f)) 16 (fault-fails (λ n. ltb n 16) refl)
+  pub fault-apart : (ns : List ℕ) {c : Check} → Numbers ns c → noneIn faultNumbers ns ≡ true → c ≡ Check.Bad (refusalOf i f) → ⊥
+  fault-apart ns n e = never ns n (refusalOf i f) (fault-unlisted ns e)
 
 -- a refusal tells one fault of one group
 pub fault-once : (i j : ℕ) (f g : Fault) → refusalOf i f ≡ refusalOf j g → (f ≡ g) × (i ≡ j)

@@ -121,6 +121,7 @@ loop-again c =
     let l = c .before .before .before .before .before .before .before .before .before .loop in
     let m = c .before .before .before .before .before .before .before .before .before .before .before .before .before .le16 .result in
     let h = c .before .before .before .before .before .before .before .before .before .before .before .before .before .le16 .ensures .0 in
+    let most = c .before .before .before .before .before .before .before .before .before .before .before .if2 .left in
     ⊎-elim (λ w. rw (c .before .ranged .ensures, w .4, w .5, w .6, w .3 .ensures) (passing-read (a .b .now) (a .limit) m (l .k) (l .i) (l .seen) (l .met) (l .places) (l .inv) (omega arith) (omega arith) (c .before .before .before .before .before .before .row-at .result) (c .before .before .before .before .before .before .row-at .ensures) (omega arith) (c .before .before .before .slot .result) (c .before .before .before .slot .ensures) (omega (arith, w .0 .taken)) (sym (w .1 .ensures) ∙ not-false _ (w .2 .left)))) (λ w. rw (c .before .ranged .ensures, w .1, w .2, w .3) (passing-skipped (a .b .now) (a .limit) m (l .k) (l .i) (l .seen) (l .met) (l .places) (l .inv) (omega arith) (omega arith) (c .before .before .before .before .before .before .row-at .result) (c .before .before .before .before .before .before .row-at .ensures) (omega arith) (omega arith))) (c .before .before .if5 .came)
 
 add-if7 : tie.Need-add-if7 Inv-loop μ-loop

@@ -1,4 +1,4 @@
--- What the pass notes is what rules 9 to 11 ask.
+-- What the pass notes is what rules 9 to 11 and 36 ask.
 use mathlib.Core.Path.{_≡_, refl, sym, ap, ap₂, _∙_}
 use Prim.Native.Nat.{ℕ, zero, suc, _+_, _-_, _*_, _≤_, _<_}
 use native.Mathlib.Decide.{decLe, ℕ-discrete}
@@ -22,8 +22,8 @@ use Rattle.frame.specs.declared.Framed.{Framed}
 use Rattle.frame.specs.declared.Framing.{Framing}
 use Rattle.frame.specs.Kind as kind
 use Rattle.frame.specs.Kind.Laws.{numberIn, numberAt, slot-found, slot-of}
-use Rattle.frame.specs.Frame.{rowAt, rowsFrom, endFrom, entryCount, rowsOf, endOf, rangeOf, nowhere, has, repeated, sectionOf, all, nameGood, onceGood, kindsGood, fills, tableGood, codecGood, codecs, rangeGood, ranges, keyCount, edgeCount, bitsOf, recordFrom, framedFrom, tableCheck, rowsCheck}
-use Rattle.frame.specs.Frame.Laws.{rows-on, end-on, row-room, rows-none, end-none}
+use Rattle.frame.specs.Frame.{rowAt, rowsFrom, endFrom, entryCount, rowsOf, endOf, rangeOf, nowhere, has, repeated, sectionOf, all, nameGood, onceGood, kindsGood, fills, tableGood, eachRow, kindGood, codecGood, rangeGood, ranges, keyCount, edgeCount, bitsOf, recordFrom, framedFrom, tableCheck, reservedCheck, codecCheck, rangeCheck, rowsCheck}
+use Rattle.frame.specs.Frame.Laws.{each-good, rows-on, end-on, row-room, rows-none, end-none}
 use Rattle.frame.specs.Open.{framing}
 use Rattle.open_table.specs.declared.Seen.{Seen}
 use Rattle.open_table.specs.Pass.{firstBad, toldBad, unseen, coded, ranged, metAt, placeAt, neededFrom, requiredSeen, framedSeen, passed}
@@ -108,7 +108,8 @@ module _ (q : ℕ) (rows : List Row) where
 
 pub record Noted (limit : ℕ) (rows rest : List Row) (k : ℕ) (s : Seen) (met : List Bool) (places : List Range) : Type 0 where
   pub names : all nameGood rows ≡ all nameGood rest
-  pub codecs-are : codecs rows 0 ≡ toldBad Refusal.Codec (s .codec) ⊳ codecs rest k
+  pub reserved-are : reservedCheck rows ≡ toldBad Refusal.Reserved (s .reserved) ⊳ eachRow kindGood Refusal.Reserved rest k
+  pub codecs-are : codecCheck rows ≡ toldBad Refusal.Codec (s .codec) ⊳ eachRow codecGood Refusal.Codec rest k
   pub ranges-are : ranges limit rows kind.headerSize 0 ≡ toldBad Refusal.Range (s .range) ⊳ ranges limit rest (s .floor) k
   pub streams-are : has kind.properties rows ≡ (s .streams || has kind.properties rest)
   pub kinds-are : (i : ℕ) → i < length kind.kinds → Met (numberAt i) rows rest (metAt met i) (placeAt places i)
@@ -118,6 +119,7 @@ module _ (limit : ℕ) (rows : List Row) where
   unfolding toldBad
   noted-start = record {
     names = refl;
+    reserved-are = refl;
     codecs-are = refl;
     ranges-are = refl;
     streams-are = refl;
@@ -143,12 +145,18 @@ module _ (limit : ℕ) (rows : List Row) where
     unfolding all
     names-on g e = e ∙ ap (λ (t : Bool). t && all nameGood rest) g
 
-    codecs-on : (good : Bool) → codecGood r ≡ good → codecs rows 0 ≡ toldBad Refusal.Codec (s .codec) ⊳ codecs (r ∷ rest) k
-        → codecs rows 0 ≡ toldBad Refusal.Codec (firstBad (s .codec) good k) ⊳ codecs rest (k + 1)
-    unfolding codecs
-    codecs-on good g e =
-        e ∙ ap (λ (t : Bool). toldBad Refusal.Codec (s .codec) ⊳ pick t (codecs rest (k + 1)) (Check.Bad (Refusal.Codec k))) g
-        ∙ first-told Refusal.Codec (s .codec) k small good (codecs rest (k + 1))
+    -- of what is asked of each entry: bad is the first bad entry so far
+    each-on : (good : Row → Bool) (told : ℕ → Refusal) (bad : ℕ) (g : Bool) → good r ≡ g → eachRow good told rows 0 ≡ toldBad told bad ⊳ eachRow good told (r ∷ rest) k
+        → eachRow good told rows 0 ≡ toldBad told (firstBad bad g k) ⊳ eachRow good told rest (k + 1)
+    unfolding eachRow
+    each-on good told bad g is e =
+        e ∙ ap (λ (t : Bool). toldBad told bad ⊳ pick t (eachRow good told rest (k + 1)) (Check.Bad (told k))) is
+        ∙ first-told told bad k small g (eachRow good told rest (k + 1))
+
+    reserved-on : reservedCheck rows ≡ toldBad Refusal.Reserved (s .reserved) ⊳ eachRow kindGood Refusal.Reserved (r ∷ rest) k
+        → reservedCheck rows ≡ toldBad Refusal.Reserved (ranged limit k s r .reserved) ⊳ eachRow kindGood Refusal.Reserved rest (k + 1)
+    unfolding ranged
+    reserved-on e = each-on kindGood Refusal.Reserved (s .reserved) (kindGood r) refl e
 
     -- r is of a kind that is read, and not met before
     module _ (slot : ℕ) (at : kind.slotOf (r .kind) ≡ slot) (read : slot < length kind.kinds) where
@@ -174,7 +182,8 @@ module _ (limit : ℕ) (rows : List Row) where
       unfolding coded ranged
       noted-read met places g f p q n = record {
         names = names-on g (n .names);
-        codecs-are = codecs-on (eqb (r .codec) 0) codec-read (n .codecs-are);
+        reserved-are = reserved-on (n .reserved-are);
+        codecs-are = each-on codecGood Refusal.Codec (s .codec) (eqb (r .codec) 0) codec-read (n .codecs-are);
         ranges-are = ranges-on (n .ranges-are);
         streams-are = streams-on (n .streams-are);
         kinds-are = λ i h. kind-on met places (rw f at (n .kinds-are slot read)) p q i h (n .kinds-are i h);
@@ -188,15 +197,12 @@ module _ (limit : ℕ) (rows : List Row) where
       codec-skipped : codecGood r ≡ true
       codec-skipped = rw (le-ltb (kind.slotOf (r .kind)) (length kind.kinds) past)
 
-      codecs-past : codecs rows 0 ≡ toldBad Refusal.Codec (s .codec) ⊳ codecs (r ∷ rest) k → codecs rows 0 ≡ toldBad Refusal.Codec (s .codec) ⊳ codecs rest (k + 1)
-      unfolding codecs
-      codecs-past e = e ∙ ap (λ (t : Bool). toldBad Refusal.Codec (s .codec) ⊳ pick t (codecs rest (k + 1)) (Check.Bad (Refusal.Codec k))) codec-skipped
-
       pub noted-skipped : {met : List Bool} {places : List Range} → nameGood r ≡ true → Noted limit rows (r ∷ rest) k s met places → Noted limit rows rest (k + 1) (ranged limit k s r) met places
       unfolding ranged
       noted-skipped g n = record {
         names = names-on g (n .names);
-        codecs-are = codecs-past (n .codecs-are);
+        reserved-are = reserved-on (n .reserved-are);
+        codecs-are = n .codecs-are ∙ ap (λ (c : Check). toldBad Refusal.Codec (s .codec) ⊳ c) (each-good codecGood Refusal.Codec r rest k codec-skipped);
         ranges-are = ranges-on (n .ranges-are);
         streams-are = streams-on (n .streams-are);
         kinds-are = λ i h. met-other (numberAt i) rows r rest (ne-eqb (r .kind) (numberAt i) (λ z. let e = slot-of i h in let d = ap kind.slotOf z in omega arith)) (n .kinds-are i h);
@@ -241,8 +247,12 @@ module _ (limit : ℕ) (rows : List Row) where
     unfolding kindsGood
     end-kinds = kinds-once kind.kinds met 0 (λ j h. let m = met-end (numberAt j) rows (n .kinds-are j h) in rw zero-add (m .0, m .1))
 
-    end-codecs : codecs rows 0 ≡ toldBad Refusal.Codec (s .codec)
-    unfolding codecs
+    end-reserved : reservedCheck rows ≡ toldBad Refusal.Reserved (s .reserved)
+    unfolding eachRow
+    end-reserved = n .reserved-are ∙ then-fine _
+
+    end-codecs : codecCheck rows ≡ toldBad Refusal.Codec (s .codec)
+    unfolding eachRow
     end-codecs = n .codecs-are ∙ then-fine _
 
     end-ranges : ranges limit rows kind.headerSize 0 ≡ toldBad Refusal.Range (s .range)
@@ -323,7 +333,7 @@ row-is b i p q r s = λ j. record {
 pub range-fits : (limit floor : ℕ) (r : Row) → rangeGood limit floor r ≡ true → r .start + r .len ≤ limit
 range-fits limit floor r e = leb-true (r .start + r .len) limit (and-parts (leb floor (r .start)) (leb (r .start + r .len) limit) e .1)
 
--- ---- rules 9 to 11 of a body, as the code goes through them
+-- ---- rules 9 to 11, with 36, of a body, as the code goes through them
 
 module _ (b : List ℕ) (limit : ℕ) where
   abbrev pub answer : Framing
@@ -377,8 +387,10 @@ module _ (b : List ℕ) (limit : ℕ) where
       pass-ended k s met places n =
           let rows : rowsOf b ≡ rowsFrom count b 2 = rw (← c) in
           let check : passed met s ≡ rowsCheck limit b =
-          (λ j. refuse Refusal.Table (not (sym (table-is n) j)) ⊳ sym (end-codecs limit (rowsFrom count b 2) k s met places n) j ⊳ sym (end-ranges limit (rowsFrom count b 2) k s met places n) j)
-          ∙ ap (λ (t : List Row). tableCheck b ⊳ codecs t 0 ⊳ ranges limit t kind.headerSize 0) (sym rows) in
+          (λ j.
+          refuse Refusal.Table (not (sym (table-is n) j)) ⊳ sym (end-reserved limit (rowsFrom count b 2) k s met places n) j ⊳ sym (end-codecs limit (rowsFrom count b 2) k s met places n) j
+          ⊳ sym (end-ranges limit (rowsFrom count b 2) k s met places n) j)
+          ∙ ap (λ (t : List Row). tableCheck b ⊳ reservedCheck t ⊳ codecCheck t ⊳ rangeCheck limit t) (sym rows) in
           ap₂ framing check (end-framed limit (rowsFrom count b 2) k s met places n b ∙ ap (framedFrom b) (sym rows))
 
 -- ---- the pass under way: k entries are passed, the next is at i
@@ -473,15 +485,20 @@ module _ (met : List Bool) (s : Seen) (x : Framed) where
   judged-missing e = rw e
 
   module _ (e : requiredSeen kind.kinds met ≡ true) where
-    pub judged-codec : s .codec < kind.mostSections → framing (passed met s) x ≡ Framing.Refused (Refusal.Codec (s .codec))
+    pub judged-reserved : s .reserved < kind.mostSections → framing (passed met s) x ≡ Framing.Refused (Refusal.Reserved (s .reserved))
     unfolding passed framing toldBad
-    judged-codec h = rw (e, lt-ltb (s .codec) kind.mostSections h)
+    judged-reserved h = rw (e, lt-ltb (s .reserved) kind.mostSections h)
 
-    module _ (raw : kind.mostSections ≤ s .codec) where
-      pub judged-range : s .range < kind.mostSections → framing (passed met s) x ≡ Framing.Refused (Refusal.Range (s .range))
+    module _ (free : kind.mostSections ≤ s .reserved) where
+      pub judged-codec : s .codec < kind.mostSections → framing (passed met s) x ≡ Framing.Refused (Refusal.Codec (s .codec))
       unfolding passed framing toldBad
-      judged-range h = rw (e, le-ltb (s .codec) kind.mostSections raw, lt-ltb (s .range) kind.mostSections h)
+      judged-codec h = rw (e, le-ltb (s .reserved) kind.mostSections free, lt-ltb (s .codec) kind.mostSections h)
 
-      pub judged-good : kind.mostSections ≤ s .range → framing (passed met s) x ≡ Framing.Good x
-      unfolding passed framing toldBad
-      judged-good h = rw (e, le-ltb (s .codec) kind.mostSections raw, le-ltb (s .range) kind.mostSections h)
+      module _ (raw : kind.mostSections ≤ s .codec) where
+        pub judged-range : s .range < kind.mostSections → framing (passed met s) x ≡ Framing.Refused (Refusal.Range (s .range))
+        unfolding passed framing toldBad
+        judged-range h = rw (e, le-ltb (s .reserved) kind.mostSections free, le-ltb (s .codec) kind.mostSections raw, lt-ltb (s .range) kind.mostSections h)
+
+        pub judged-good : kind.mostSections ≤ s .range → framing (passed met s) x ≡ Framing.Good x
+        unfolding passed framing toldBad
+        judged-good h = rw (e, le-ltb (s .reserved) kind.mostSections free, le-ltb (s .codec) kind.mostSections raw, le-ltb (s .range) kind.mostSections h)

@@ -210,6 +210,12 @@ enum-known-r-18 c = search needs
 tell-requires-33 : tie.Need-tell-requires-33
 tell-requires-33 c κs = search needs
 
+enum-known-r-19 : tie.Need-enum-known-r-19
+enum-known-r-19 c = search needs
+
+tell-requires-34 : tie.Need-tell-requires-34
+tell-requires-34 c κs = search needs
+
 returns : tie.Need-returns
 returns c = is (c .before .enum-told .given .1) (c .tell .ensures)
 
@@ -309,6 +315,9 @@ returns-32 c = is (c .before .before .r17 .given .1) (c .tell32 .ensures)
 returns-33 : tie.Need-returns-33
 returns-33 c = is (c .before .before .r18 .given .1) (c .tell33 .ensures)
 
+returns-34 : tie.Need-returns-34
+returns-34 c = is (c .before .before .r19 .given .1) (c .tell34 .ensures)
+
 pub told-of-spec : {M : Type 1} → statement M
 told-of-spec =
     tie.close
@@ -379,6 +388,8 @@ told-of-spec =
     tell-requires-32
     enum-known-r-18
     tell-requires-33
+    enum-known-r-19
+    tell-requires-34
     returns
     returns-2
     returns-3
@@ -411,4 +422,5 @@ told-of-spec =
     returns-30
     returns-31
     returns-32
-    returns-33)
+    returns-33
+    returns-34)

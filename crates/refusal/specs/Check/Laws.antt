@@ -1,13 +1,12 @@
 -- The laws of rules in their order, and of the tests that they are made of.
 use mathlib.Core.Path.{_≡_, refl, sym, ap, _∙_}
 use mathlib.Core.Logic.{_↔_, _⊎_, inl, inr, ⊎-elim}
-use Prim.Native.Nat.{ℕ, zero, suc, _≤_, _<_}
+use Prim.Native.Nat.{ℕ}
 use native.Mathlib.Omega.{arith}
 use mathlib.Core.Bool.{Bool, true, false, not, _&&_, _||_}
 use mathlib.Core.List.{List, [], _∷_}
-use lib.ListN.{length, getD}
-use lib.Dec.{leb}
-use borrow.Author.Tests.{le-leb, leb-true, not-true}
+use lib.Dec.{eqb}
+use borrow.Author.Tests.{eqb-true, not-true}
 use Rattle.base.specs.Pick.{pick}
 use Rattle.refusal.specs.declared.Refusal.{Refusal}
 use Rattle.refusal.specs.declared.Check.{Check}
@@ -107,60 +106,67 @@ or-cases false b e f = e
 
 -- ---- the numbers that rules may give
 
-abbrev pub Numbers : ℕ → ℕ → Check → Type 0
-Numbers low high c = (r : Refusal) → c ≡ Check.Bad r → (low ≤ numberOf r) × (numberOf r ≤ high)
+-- n stands in a list
+abbrev pub listed : ℕ → List ℕ → Bool
+listed n [] = false
+listed n (m ∷ ms) = eqb n m || listed n ms
 
-module _ (low high : ℕ) where
-  pub numbers-fine : Numbers low high Check.Fine
+-- no number of the first list stands in the second; all do
+abbrev pub noneIn : List ℕ → List ℕ → Bool
+noneIn [] ms = true
+noneIn (n ∷ ns) ms = not (listed n ms) && noneIn ns ms
+
+abbrev pub allIn : List ℕ → List ℕ → Bool
+allIn [] ms = true
+allIn (n ∷ ns) ms = listed n ms && allIn ns ms
+
+-- of two numbers, one of which heads a list
+listed-first : (P : ℕ → Type 0) (n m : ℕ) (ns : List ℕ) → (n ≡ m → P n) → (listed n ns ≡ true → P n) → listed n (m ∷ ns) ≡ true → P n
+listed-first P n m ns here there e = go (eqb n m) refl e
+  where
+    go : (t : Bool) → eqb n m ≡ t → (t || listed n ns) ≡ true → P n
+    go true p e = here (eqb-true n m p)
+    go false p e = there e
+
+pub none-listed : (ns ms : List ℕ) (n : ℕ) → noneIn ns ms ≡ true → listed n ns ≡ true → listed n ms ≡ false
+none-listed [] ms n e h = let z : _≡_ {A = ℕ} 0 1 = cc in absurd (omega arith)
+none-listed (m ∷ ns) ms n e h =
+    let p = and-parts (not (listed m ms)) (noneIn ns ms) e in
+    listed-first (λ k. listed k ms ≡ false) n m ns (λ q. ap (λ (k : ℕ). listed k ms) q ∙ not-true _ (p .0)) (none-listed ns ms n (p .1)) h
+
+pub all-listed : (ns ms : List ℕ) (n : ℕ) → allIn ns ms ≡ true → listed n ns ≡ true → listed n ms ≡ true
+all-listed [] ms n e h = let z : _≡_ {A = ℕ} 0 1 = cc in absurd (omega arith)
+all-listed (m ∷ ns) ms n e h =
+    let p = and-parts (listed m ms) (allIn ns ms) e in
+    listed-first (λ k. listed k ms ≡ true) n m ns (λ q. ap (λ (k : ℕ). listed k ms) q ∙ p .0) (all-listed ns ms n (p .1)) h
+
+-- every refusal of a rule has one of the numbers ns
+abbrev pub Numbers : List ℕ → Check → Type 0
+Numbers ns c = (r : Refusal) → c ≡ Check.Bad r → listed (numberOf r) ns ≡ true
+
+module _ (ns : List ℕ) where
+  pub numbers-fine : Numbers ns Check.Fine
   numbers-fine r e = let z : _≡_ {A = ℕ} 0 1 = cc in absurd (omega arith)
 
-  abbrev pub given : Refusal → Bool
-  given q = leb low (numberOf q) && leb (numberOf q) high
+  pub numbers-bad : (q : Refusal) → listed (numberOf q) ns ≡ true → Numbers ns (Check.Bad q)
+  numbers-bad q g r e = let same : q ≡ r = cc in ap (λ (x : Refusal). listed (numberOf x) ns) (sym same) ∙ g
 
-  pub numbers-bad : (q : Refusal) → given q ≡ true → Numbers low high (Check.Bad q)
-  numbers-bad q g r e =
-      let p = and-parts (leb low (numberOf q)) (leb (numberOf q) high) g in
-      let low = leb-true low (numberOf q) (p .0) in
-      let high = leb-true (numberOf q) high (p .1) in
-      let same : q ≡ r = cc in
-      let n = ap numberOf same in
-      (omega arith, omega arith)
-
-  pub numbers-refuse : (q : Refusal) (t : Bool) → given q ≡ true → Numbers low high (refuse q t)
+  pub numbers-refuse : (q : Refusal) (t : Bool) → listed (numberOf q) ns ≡ true → Numbers ns (refuse q t)
   numbers-refuse q true g = numbers-bad q g
   numbers-refuse q false g = numbers-fine
 
-  pub numbers-then : (a b : Check) → Numbers low high a → Numbers low high b → Numbers low high (a ⊳ b)
+  pub numbers-then : (a b : Check) → Numbers ns a → Numbers ns b → Numbers ns (a ⊳ b)
   numbers-then Check.Fine b m n = n
   numbers-then (Check.Bad q) b m n = m
 
-  pub numbers-pick : (t : Bool) (a b : Check) → Numbers low high a → Numbers low high b → Numbers low high (pick t a b)
+  pub numbers-pick : (t : Bool) (a b : Check) → Numbers ns a → Numbers ns b → Numbers ns (pick t a b)
   numbers-pick true a b m n = m
   numbers-pick false a b m n = n
 
--- the same as a test of the number
-abbrev pub between : ℕ → ℕ → ℕ → Bool
-between low high n = leb low n && leb n high
-
-abbrev pub Among : (ℕ → Bool) → Check → Type 0
-Among test c = (r : Refusal) → c ≡ Check.Bad r → test (numberOf r) ≡ true
-
-pub numbers-among : (low high : ℕ) {c : Check} → Numbers low high c → Among (between low high) c
-numbers-among low high n r e = let h = n r e in and-both (le-leb low (numberOf r) (h .0)) (le-leb (numberOf r) high (h .1))
-
--- no number of a list passes a test
-abbrev pub noneOf : (ℕ → Bool) → List ℕ → Bool
-noneOf test [] = true
-noneOf test (n ∷ ns) = not (test n) && noneOf test ns
-
-pub none-at : (test : ℕ → Bool) (ns : List ℕ) (k : ℕ) → k < length ns → noneOf test ns ≡ true → test (getD ns k 0) ≡ false
-none-at test [] k h e = absurd (omega arith)
-none-at test (n ∷ ns) zero h e = not-true (test n) (and-parts (not (test n)) (noneOf test ns) e .0)
-none-at test (n ∷ ns) (suc k) h e = none-at test ns k (omega arith) (and-parts (not (test n)) (noneOf test ns) e .1)
+-- the same of a longer list
+pub numbers-more : (ns ms : List ℕ) → allIn ns ms ≡ true → {c : Check} → Numbers ns c → Numbers ms c
+numbers-more ns ms h n r e = all-listed ns ms (numberOf r) h (n r e)
 
 -- another number is never given
-pub below : (low high : ℕ) {c : Check} → Numbers low high c → (r : Refusal) → numberOf r < low → c ≡ Check.Bad r → ⊥
-below low high n r l e = let h = n r e .0 in omega arith
-
-pub above : (low high : ℕ) {c : Check} → Numbers low high c → (r : Refusal) → high < numberOf r → c ≡ Check.Bad r → ⊥
-above low high n r l e = let h = n r e .1 in omega arith
+pub never : (ns : List ℕ) {c : Check} → Numbers ns c → (r : Refusal) → listed (numberOf r) ns ≡ false → c ≡ Check.Bad r → ⊥
+never ns n r h e = let z : _≡_ {A = ℕ} 0 1 = cc (n r e, h) in omega arith

@@ -44,6 +44,7 @@ numbered (Refusal.SpareBytes byte group) = refl
 numbered (Refusal.VarintCut byte group) = refl
 numbered (Refusal.VarintLong byte group) = refl
 numbered (Refusal.VarintLarge byte group) = refl
+numbered (Refusal.Reserved entry) = refl
 
 -- numbered: to here
 
@@ -90,6 +91,7 @@ not-gone (Refusal.SpareBytes byte group) = refl
 not-gone (Refusal.VarintCut byte group) = refl
 not-gone (Refusal.VarintLong byte group) = refl
 not-gone (Refusal.VarintLarge byte group) = refl
+not-gone (Refusal.Reserved entry) = refl
 
 -- not-gone: to here
 
@@ -130,6 +132,7 @@ told-back (Refusal.SpareBytes byte group) = refl
 told-back (Refusal.VarintCut byte group) = refl
 told-back (Refusal.VarintLong byte group) = refl
 told-back (Refusal.VarintLarge byte group) = refl
+told-back (Refusal.Reserved entry) = refl
 
 -- told-back: to here
 

@@ -3,7 +3,7 @@
 //! that says what becomes of them.
 
 use super::Files;
-use crate::corpus::open_files::samples::{dense, live, split};
+use crate::corpus::open_files::samples::{dense, live, split, SKIPPED};
 use crate::format::{flag, kind, OFFSET_BITS};
 use crate::groups::{self, Edge, Group};
 use crate::layout::{Layout, Section};
@@ -68,7 +68,7 @@ fn more_sections(layout: &mut Layout, groups: &[Group], random: &mut Random) {
         layout.sections.push(groups::fences(groups, stride));
     }
     for _ in 0..random.below(3) {
-        let kind = [kind::PROPERTIES, 7, 0xABCD][random.below(3) as usize];
+        let kind = [kind::PROPERTIES, SKIPPED, 0xABCD][random.below(3) as usize];
         if kind == kind::PROPERTIES {
             layout.header.flags |= flag::PROPERTIES;
         }

@@ -4,7 +4,7 @@
 use super::samples::of_bytes;
 use super::Files;
 use crate::corpus::lookup_calls::raw::{group, halves, single, DENSE, SPLIT};
-use crate::corpus::open_files::samples::{set_key, set_offset};
+use crate::corpus::open_files::samples::{set_key, set_offset, SKIPPED};
 use crate::format::{flag, kind};
 use crate::layout::{Layout, Section};
 use crate::numbers::id_of;
@@ -28,6 +28,7 @@ pub fn add(files: &mut Files) {
     }
     sum_before_totals(files);
     opening_before_sum(files);
+    reserved_before_sums(files);
 }
 
 fn three() -> Layout {
@@ -43,8 +44,8 @@ fn wrong_sum(layout: Layout, index: usize) -> Layout {
 fn sum_before_group(files: &mut Files, number: u8, faulty: &impl Fn(usize) -> Layout) {
     for index in [0, 2] {
         for entry in [0, 2, 4] {
-            let layout = faulty(index).with(|l| l.sections.push(Section::new(99, *b"skipped")));
-            let layout = wrong_sum(layout, entry);
+            let skipped = Section::new(SKIPPED, *b"skipped");
+            let layout = wrong_sum(faulty(index).with(|l| l.sections.push(skipped)), entry);
             let name = format!("check-sum-{entry}-before-{number}-at-{index}");
             files.refused(name, layout, 22, entry as u64);
         }
@@ -81,6 +82,12 @@ fn opening_before_group(files: &mut Files, number: u8, faulty: &impl Fn(usize) -
     files.refused(format!("check-14-before-{number}"), offsets, 14, 3);
     let fences = faulty(0).with(|l| l.sections.push(Section::new(kind::FENCES, [0; 8])));
     files.refused(format!("check-15-before-{number}"), fences, 15, 0);
+    let new = faulty(0).with(|l| l.sections.insert(1, reserved()));
+    files.refused(format!("check-36-before-{number}"), new, 36, 1);
+}
+
+fn reserved() -> Section {
+    Section::new(0x00FF, *b"new")
 }
 
 fn sum_before_totals(files: &mut Files) {
@@ -105,6 +112,15 @@ fn sum_before_totals(files: &mut Files) {
     });
 }
 
+/// The reserved section's own sum is wrong, and others before and after it.
+fn reserved_before_sums(files: &mut Files) {
+    for entry in [0, 2, 4] {
+        let layout = three().with(|l| l.sections.insert(2, reserved()));
+        let name = format!("check-36-before-sum-of-entry-{entry}");
+        files.refused(name, wrong_sum(layout, entry), 36, 2);
+    }
+}
+
 fn opening_before_sum(files: &mut Files) {
     let mut add = |number: u8, place: u64, change: &dyn Fn(&mut Layout)| {
         let layout = wrong_sum(three().with(change), 0);
@@ -117,7 +133,8 @@ fn opening_before_sum(files: &mut Files) {
     add(6, 0, &|l| l.tail_magic[7] = 1);
     add(7, 0, &|l| l.footer_length = Some(38));
     add(8, 0, &|l| l.footer_checksum = Some(0));
-    add(9, 0, &|l| l.sections[3].kind = 99);
+    add(9, 0, &|l| l.sections[3].kind = SKIPPED);
+    add(36, 4, &|l| l.sections.push(reserved()));
     add(10, 2, &|l| l.sections[2].codec = 1);
     add(11, 0, &|l| l.sections[0].stated.offset = Some(63));
     add(12, 0, &|l| l.header.flags |= flag::PROPERTIES);

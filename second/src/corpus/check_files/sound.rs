@@ -3,7 +3,7 @@
 use super::samples::{board, example, one_group, one_group_dead};
 use super::Files;
 use crate::corpus::open_files::samples::{
-    dead, dense, full, heading_only, live, one_edge, single_groups, split, three_groups,
+    dead, dense, full, heading_only, live, one_edge, single_groups, split, three_groups, SKIPPED,
 };
 use crate::format::{flag, kind, OFFSET_BITS};
 use crate::groups::{self, Edge, Group};
@@ -120,7 +120,7 @@ fn skipped_sections(files: &mut Files) {
     files.fine("check-minor-200-unknown-section", unknown);
     let many = board().with(|l| {
         l.header.minor = 255;
-        for (i, kind) in [0, 7, 0x00FF, 0x0101, 0x1000, 0xFFFF]
+        for (i, kind) in [0, SKIPPED, 0x01FF, 0x0101, 0x1000, 0xFFFF]
             .into_iter()
             .enumerate()
         {

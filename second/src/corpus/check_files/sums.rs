@@ -2,7 +2,7 @@
 
 use super::samples::board;
 use super::Files;
-use crate::corpus::open_files::samples::{full, heading_only, one_edge, set_key};
+use crate::corpus::open_files::samples::{full, heading_only, one_edge, set_key, SKIPPED};
 use crate::family;
 use crate::format::{flag, kind};
 use crate::layout::{Layout, Section};
@@ -81,8 +81,8 @@ fn changed_bytes(files: &mut Files) {
         })
     };
     for (word, kind, at, entry) in [
-        ("skipped", 7, 0, 2),
-        ("skipped-end", 7, 3, 2),
+        ("skipped", SKIPPED, 0, 2),
+        ("skipped-end", SKIPPED, 3, 2),
         ("partners-tag", kind::PARTNERS, 1, 3),
         ("partners-lower-half", kind::PARTNERS, 5, 3),
         ("logs", kind::LOGS, 0, 4),

@@ -2,14 +2,15 @@
 //! is asked; a record looks past the faults that it does not say anything of.
 
 use super::{ask, expect, found, Files, Intended, LentRecord, Rooms};
-use crate::corpus::open_files::samples::one_edge;
+use crate::corpus::open_files::samples::{full, one_edge};
 use crate::corpus::open_files::{self, Verdict};
-use crate::layout::Layout;
+use crate::layout::{Layout, Section};
 use crate::numbers::id_of;
 use std::collections::BTreeMap;
 
 pub fn add(files: &mut Files) {
     heads_and_footers(files);
+    reserved_kinds(files);
     files_of_opening(files);
     short_files(files);
 }
@@ -34,9 +35,30 @@ fn heads_and_footers(files: &mut Files) {
     damaged(7, 0, |l| l.footer_length = Some(38));
     damaged(8, 0, |l| l.footer_checksum = Some(0));
     damaged(9, 0, |l| l.section_count = Some(5));
+    damaged(36, 4, |l| l.sections.push(Section::new(7, *b"new")));
     damaged(10, 3, |l| l.sections[3].codec = 1);
     damaged(11, 2, |l| l.sections[2].stated.offset = Some(63));
     damaged(12, 0, |l| l.edge_count = 0);
+}
+
+/// A reserved kind anywhere in the table, which a record says nothing of: the
+/// lookups by it answer as ever.
+fn reserved_kinds(files: &mut Files) {
+    for (place, kind) in [(0, 7), (3, 0x0080), (8, 0x00FF)] {
+        let new = Section::new(kind, *b"new").named(*b"later");
+        let layout = full().with(|l| l.sections.insert(place, new));
+        let record = LentRecord::of_layout(&layout);
+        let file = files.layout(format!("reserved-kind-{kind}-in-full"), &layout);
+        for (name, key, answer) in [
+            ("key-0", id_of(1, 2), found(2, 0)),
+            ("key-1", id_of(1, 3), found(1, 1)),
+            ("key-2", id_of(2, 0), found(2, 2)),
+            ("absent", id_of(1, 4), Intended::Absent),
+        ] {
+            file.both(name, ask(key), expect(36, place as u64));
+            file.both(format!("{name}-by-record"), ask(key).by(&record), answer);
+        }
+    }
 }
 
 /// A few files of the corpus of opening for each refusal.

@@ -3,7 +3,7 @@
 use super::{ask, found, Files, Intended, LentRecord, LookupFile, Rooms};
 use crate::corpus::open_files;
 use crate::corpus::open_files::samples::{
-    dead, dense, full, live, one_edge, single_groups, split, three_groups,
+    dead, dense, full, live, one_edge, single_groups, split, three_groups, SKIPPED,
 };
 use crate::format::{flag, kind, OFFSET_BITS};
 use crate::groups::{self, Edge, Group};
@@ -211,7 +211,8 @@ fn tombstones(files: &mut Files) {
 fn skipped_sections(files: &mut Files) {
     let unknown = |l: &mut Layout| {
         l.header.minor = 200;
-        for (i, kind) in [300, 7, 0, 0xFFFF, 255, 7].into_iter().enumerate() {
+        let kinds = [300, SKIPPED, 0, 0xFFFF, 0x01FF, SKIPPED];
+        for (i, kind) in kinds.into_iter().enumerate() {
             let bytes: Vec<u8> = (0..=2 * i as u8).collect();
             let section = Section::new(kind, bytes).codec(i as u8).named(*b"what");
             l.sections.insert(2 * i, section);

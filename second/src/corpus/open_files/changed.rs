@@ -3,7 +3,7 @@
 
 use super::samples::{full, heading_only, one_edge, single_groups};
 use super::Files;
-use crate::format::{HEADER, TRAILER};
+use crate::format::{ENTRY, HEADER, TRAILER};
 use crate::groups;
 use crate::layout::{mend, Layout, Section};
 use crate::random::Random;
@@ -36,6 +36,9 @@ pub fn add(files: &mut Files) {
     for base in &bases[3..] {
         add("section", 20, base, Part::Sections, true);
     }
+    for base in [&bases[2], &bases[4]] {
+        add("kind", 20, base, Part::Kinds, true);
+    }
 }
 
 #[derive(Clone, Copy)]
@@ -43,8 +46,21 @@ enum Part {
     /// Without the ids, in which nothing can be wrong.
     Header,
     Sections,
+    /// The bytes of the kinds alone.
+    Kinds,
     /// If it is mended, without the checksum, which would be mended too.
     Footer,
+}
+
+/// Where the kinds stand in the table, two bytes each.
+fn kind_places(base: &Layout) -> Vec<usize> {
+    let mut row = base.footer_place() as usize + 2;
+    let mut places = Vec::new();
+    for section in &base.sections {
+        places.extend([row, row + 1]);
+        row += ENTRY + section.name.len();
+    }
+    places
 }
 
 /// The file of the description with another byte at a place of the part, and
@@ -56,6 +72,7 @@ fn changed(base: &Layout, part: Part, mended: bool, random: &mut Random) -> (Vec
     let places: Vec<usize> = match part {
         Part::Header => (0..16).collect(),
         Part::Sections => (HEADER..footer).collect(),
+        Part::Kinds => kind_places(base),
         Part::Footer => (footer..bytes.len())
             .filter(|at| !(mended && checksum.contains(at)))
             .collect(),

@@ -289,10 +289,10 @@ fn other_kinds(files: &mut Files) {
         (
             0,
             flag::PROPERTIES,
-            &[0, 7, 0x0101, 0x0200, 0xFF00][..],
+            &[0, 0x0101, 0x0107, 0x0200, 0xFF00][..],
             b'p',
         ),
-        (1, flag::TOMBSTONES, &[7, 0x0105, 0x0500], 1),
+        (1, flag::TOMBSTONES, &[0x0105, 0x0107, 0x0500], 1),
     ] {
         for &kind in kinds {
             let layout = one_edge().with(|l| l.sections.push(Section::new(kind, [bytes])));
@@ -300,8 +300,9 @@ fn other_kinds(files: &mut Files) {
             files.refused(name, with_flags(layout, flag), expect(12, 0));
         }
     }
-    let layout = full().with(|l| l.section(kind::TOMBSTONES).kind = 8);
-    files.refused("bit-1-with-tombstones-as-kind-8", layout, expect(12, 0));
+    let layout = full().with(|l| l.section(kind::TOMBSTONES).kind = 0x0105);
+    let name = "bit-1-with-tombstones-as-kind-261";
+    files.refused(name, layout, expect(12, 0));
     let both = with_flags(one_edge(), flag::PROPERTIES | flag::TOMBSTONES);
     files.refused("bits-0-and-1-without-sections", both, expect(12, 0));
 }

@@ -1,6 +1,6 @@
 //! Sound files with skipped kinds and property streams.
 
-use super::samples::{heading_only, one_edge};
+use super::samples::{heading_only, one_edge, SKIPPED};
 use super::Files;
 use crate::format::{bound, flag, kind};
 use crate::layout::{Layout, Section};
@@ -28,7 +28,8 @@ fn after_all(section: Section) -> Layout {
 
 fn skipped_kinds(files: &mut Files) {
     for kind in [
-        0, 7, 8, 255, 257, 258, 260, 262, 511, 512, 0x0600, 0x1000, 0x7FFF, 0x8001, 65_535,
+        0, 257, 258, 260, 262, 263, 264, 511, 512, 0x0600, 0x0700, 0x1000, 0x7FFF, 0x8001, 0x8007,
+        0xFF00, 65_535,
     ] {
         let layout = after_all(skipped(kind));
         files.opens(format!("skipped-kind-{kind}-at-minor-0"), layout);
@@ -37,7 +38,7 @@ fn skipped_kinds(files: &mut Files) {
 
 fn skipped_kinds_at_other_minors(files: &mut Files) {
     for minor in [1, 200] {
-        for kind in [0, 7, 65_535] {
+        for kind in [0, SKIPPED, 65_535] {
             let named = skipped(kind).named(*b"new");
             let layout = after_all(named).with(|l| l.header.minor = minor);
             files.opens(format!("skipped-kind-{kind}-at-minor-{minor}"), layout);
@@ -47,7 +48,7 @@ fn skipped_kinds_at_other_minors(files: &mut Files) {
 
 fn skipped_codecs(files: &mut Files) {
     for codec in [1, 2, 128, 255] {
-        let layout = after_all(skipped(7).codec(codec));
+        let layout = after_all(skipped(SKIPPED).codec(codec));
         files.opens(format!("skipped-kind-with-codec-{codec}"), layout);
     }
 }
@@ -58,7 +59,7 @@ fn skipped_names(files: &mut Files) {
         files.opens(format!("skipped-kind-with-name-of-{length}"), layout);
     }
     for (word, name) in [("zeros", [0x00; 4]), ("no-utf-8", [0xC3, 0x28, 0xFF, 0xFE])] {
-        let layout = after_all(skipped(7).named(name));
+        let layout = after_all(skipped(SKIPPED).named(name));
         files.opens(format!("skipped-kind-with-name-of-{word}"), layout);
     }
 }
@@ -66,9 +67,9 @@ fn skipped_names(files: &mut Files) {
 /// A skipped kind anywhere in the table, with and without a name.
 fn skipped_places(files: &mut Files) {
     for (word, index) in [("first", 0), ("among", 2), ("last", 4)] {
-        let layout = one_edge().with(|l| l.sections.insert(index, skipped(7)));
+        let layout = one_edge().with(|l| l.sections.insert(index, skipped(SKIPPED)));
         files.opens(format!("skipped-kind-{word}"), layout);
-        let named = skipped(7).named(*b"name").codec(9);
+        let named = skipped(SKIPPED).named(*b"name").codec(9);
         let layout = one_edge().with(|l| l.sections.insert(index, named));
         files.opens(format!("skipped-kind-{word}-named"), layout);
     }
@@ -76,14 +77,14 @@ fn skipped_places(files: &mut Files) {
 
 /// Two sections of one kind, an empty one, and several of one name.
 fn skipped_alike(files: &mut Files) {
-    for kind in [0, 7, 65_535] {
+    for kind in [0, SKIPPED, 65_535] {
         let layout = after_all(skipped(kind)).with(|l| l.sections.push(skipped(kind)));
         files.opens(format!("skipped-kind-{kind}-doubled"), layout);
         let layout = after_all(Section::new(kind, []));
         files.opens(format!("skipped-kind-{kind}-empty"), layout);
     }
     let same_name = |kind: u16| skipped(kind).named(*b"same name");
-    let kinds = [0, 7, 255, 256 + 5, 65_535];
+    let kinds = [0, SKIPPED, 511, 256 + 5, 65_535];
     let layout = heading_only().with(|l| l.sections.extend(kinds.map(same_name)));
     files.opens("skipped-kinds-of-one-name", layout);
 }
@@ -139,7 +140,7 @@ fn many_sections(files: &mut Files) {
     let fill = |layout: Layout, section: Section| {
         layout.with(|l| l.sections.resize(bound::SECTIONS as usize, section))
     };
-    let skipped = Section::new(7, [1]);
+    let skipped = Section::new(SKIPPED, [1]);
     files.opens("sections-64-skipped", fill(one_edge(), skipped.clone()));
     files.opens(
         "sections-64-skipped-first",
@@ -147,7 +148,7 @@ fn many_sections(files: &mut Files) {
     );
     files.opens(
         "sections-64-empty-and-named",
-        fill(heading_only(), Section::new(7, []).named([b'x'; 63])),
+        fill(heading_only(), Section::new(SKIPPED, []).named([b'x'; 63])),
     );
     files.opens(
         "sections-64-properties",

@@ -23,7 +23,7 @@ const fn fault(name: &'static str, intended: Verdict, change: fn(&mut Layout)) -
 }
 
 /// In the order of the checks. See `full` for the entries' indices.
-static FAULTS: [Fault; 21] = [
+static FAULTS: [Fault; 23] = [
     fault("magic", expect(2, 0), |l| l.header.magic[5] = b'F'),
     fault("major", expect(3, 0), |l| l.header.major = 2),
     fault("header-size", expect(4, 0), |l| l.header.size = 65),
@@ -38,6 +38,10 @@ static FAULTS: [Fault; 21] = [
     }),
     fault("doubled-fences", expect(9, 0), |l| {
         l.sections.push(Section::new(kind::FENCES, []))
+    }),
+    fault("reserved-at-2", expect(36, 2), |l| l.sections[2].kind = 7),
+    fault("reserved-at-8", expect(36, 8), |l| {
+        l.sections.push(Section::new(0x00FF, []))
     }),
     fault("codec-at-1", expect(10, 1), |l| l.sections[1].codec = 1),
     fault("codec-at-7", expect(10, 7), |l| l.sections[7].codec = 1),
@@ -68,6 +72,15 @@ impl Fault {
             Verdict::Opens => unreachable!("a fault is refused"),
         }
     }
+
+    /// Where its check stands among all: 36 comes between 9 and 10.
+    fn turn(&self) -> u8 {
+        match self.number() {
+            36 => 10,
+            number if number < 10 => number,
+            number => number + 1,
+        }
+    }
 }
 
 pub fn add(files: &mut Files) {
@@ -83,17 +96,18 @@ pub fn add(files: &mut Files) {
 
 /// Whether a fault is the first of its number.
 fn leads(index: usize) -> bool {
-    index == 0 || FAULTS[index - 1].number() < FAULTS[index].number()
+    index == 0 || FAULTS[index - 1].turn() < FAULTS[index].turn()
 }
 
-/// Neighbouring numbers with all their faults, all other pairs of numbers with
-/// the first fault of each.
+/// Neighbouring checks with all their faults, 9 and 10 too, all other pairs of
+/// checks with the first fault of each.
 fn two_numbers(files: &mut Files) {
     for (i, earlier) in FAULTS.iter().enumerate() {
         for (j, later) in FAULTS.iter().enumerate().skip(i + 1) {
-            let wanted = match later.number() - earlier.number() {
+            let wanted = match later.turn() - earlier.turn() {
                 0 => false,
                 1 => true,
+                2 if earlier.number() == 9 => true,
                 _ => leads(i) && leads(j),
             };
             if wanted {

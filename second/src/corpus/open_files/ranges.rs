@@ -1,6 +1,6 @@
 //! Refusal 11: the ranges of the sections.
 
-use super::samples::{full, heading_only, one_edge};
+use super::samples::{full, heading_only, one_edge, SKIPPED};
 use super::{expect, Files};
 use crate::format::kind;
 use crate::layout::{Layout, Section};
@@ -33,7 +33,7 @@ fn beginnings(files: &mut Files) {
     let layout = begin(heading_only(), 0, 63);
     files.refused("range-of-no-keys-begins-at-63", layout, expect(11, 0));
     // A skipped kind has to keep the rule too.
-    let skipped = one_edge().with(|l| l.sections.insert(0, Section::new(7, *b"skip")));
+    let skipped = one_edge().with(|l| l.sections.insert(0, Section::new(SKIPPED, *b"skip")));
     let layout = begin(skipped, 0, 63);
     files.refused("range-of-skipped-kind-begins-at-63", layout, expect(11, 0));
     // Rows after the first: they begin below 64 and below the end before.
@@ -81,7 +81,7 @@ fn ends(files: &mut Files) {
         files.refused(name, into_footer(index, 0), expect(11, index as u64 + 1));
     }
     let last = full().with(|l| {
-        l.sections.push(Section::new(7, *b"skip"));
+        l.sections.push(Section::new(SKIPPED, *b"skip"));
         l.last_gap.clear();
     });
     let name = "range-of-skipped-kind-ends-in-footer";
@@ -116,7 +116,7 @@ fn sums(files: &mut Files) {
         both("length-2-to-31", offset, 1 << 31);
     }
     // In 64 bits the sum would be the end of the section before it.
-    let one_more = one_edge().with(|l| l.sections.push(Section::new(7, *b"skipped")));
+    let one_more = one_edge().with(|l| l.sections.push(Section::new(SKIPPED, *b"skipped")));
     let offset = one_more.offsets()[4];
     let layout = length(begin(one_more, 4, u64::MAX), 4, offset + 1);
     files.refused("range-of-skipped-kind-sum-wraps", layout, expect(11, 4));
@@ -153,8 +153,9 @@ fn rising(files: &mut Files) {
 /// A skipped section of no bytes, as the entry with an index and at an offset;
 /// and the entry that is told.
 fn empty_ones(files: &mut Files) {
-    let with_empty =
-        |index: usize| one_edge().with(|layout| layout.sections.insert(index, Section::new(7, [])));
+    let with_empty = |index: usize| {
+        one_edge().with(|layout| layout.sections.insert(index, Section::new(SKIPPED, [])))
+    };
     let offsets = one_edge().offsets();
     let footer = one_edge().footer_place();
     for (word, index, offset, told) in [
@@ -199,7 +200,7 @@ fn first_of_several(files: &mut Files) {
         }
     });
     files.refused("ranges-all-begin-at-64", layout, expect(11, 1));
-    let last = one_edge().with(|l| l.sections.resize(64, Section::new(7, [])));
+    let last = one_edge().with(|l| l.sections.resize(64, Section::new(SKIPPED, [])));
     let last = begin(last, 63, 80);
     files.refused("range-at-entry-63", last, expect(11, 63));
 }

@@ -5,6 +5,9 @@ use crate::groups::{self, Edge, Form, Group};
 use crate::layout::{Layout, Section};
 use crate::numbers::{id_of, write_le, Id};
 
+/// A kind that is skipped. Its lower byte alone would be reserved.
+pub const SKIPPED: u16 = 0x0107;
+
 pub fn live(upper: u64, lower: u64, log: u64) -> Edge {
     Edge {
         partner: id_of(upper, lower),
@@ -78,7 +81,7 @@ pub fn full() -> Layout {
     layout.sections.push(groups::fences(&groups, 2));
     let weights = Section::new(kind::PROPERTIES, *b"5 5 5").named(*b"weight");
     layout.sections.insert(4, weights);
-    let skipped = Section::new(7, *b"????").named(*b"skipped");
+    let skipped = Section::new(SKIPPED, *b"????").named(*b"skipped");
     layout.sections.insert(2, skipped);
     layout.header.flags |= flag::PROPERTIES;
     layout.last_gap = vec![0x5A; 2];

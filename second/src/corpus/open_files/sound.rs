@@ -2,7 +2,7 @@
 //! skipped kinds and property streams.
 
 use super::samples::{
-    dead, dense, full, heading_only, live, one_edge, single_groups, split, three_groups,
+    dead, dense, full, heading_only, live, one_edge, single_groups, split, three_groups, SKIPPED,
 };
 use super::Files;
 use crate::format::{flag, kind, OFFSET_BITS};
@@ -160,7 +160,7 @@ fn section_orders(files: &mut Files) {
         let layout = reorder(full(), &kinds).with(|l| l.header.flags &= !flag::PROPERTIES);
         files.opens(name(&kinds), layout);
     }
-    let kinds = [256, 6, 4, 2, 7, 5, 3, 1];
+    let kinds = [256, 6, 4, 2, SKIPPED, 5, 3, 1];
     files.opens(name(&kinds), reorder(full(), &kinds));
     let kinds = [3, 4, 1, 2];
     files.opens(
@@ -198,7 +198,7 @@ fn gaps(files: &mut Files) {
 
 /// Zero lengths where a range rule is at its edge.
 fn empty_sections(files: &mut Files) {
-    let empty = || Section::new(9, []);
+    let empty = || Section::new(SKIPPED, []);
     let at_64 = one_edge().with(|l| l.sections.insert(0, empty()));
     files.opens("empty-section-at-64", at_64);
     let at_footer = one_edge().with(|l| l.sections.push(empty()));

@@ -1,6 +1,6 @@
 //! Refusals 9 and 10: the form of the section table, names, kinds and codecs.
 
-use super::samples::{full, heading_only, one_edge};
+use super::samples::{full, heading_only, one_edge, SKIPPED};
 use super::{expect, Files};
 use crate::format::{bound, flag, kind};
 use crate::layout::{Layout, Section};
@@ -35,8 +35,10 @@ fn section_counts(files: &mut Files) {
     }
     let none = Layout::new(heading_only().header, Vec::new());
     files.refused("section-count-0-and-no-row", none, expect(9, 0));
-    let fill =
-        |count: u64| one_edge().with(|l| l.sections.resize(count as usize, Section::new(7, [])));
+    let fill = |count: u64| {
+        let skipped = Section::new(SKIPPED, []);
+        one_edge().with(|l| l.sections.resize(count as usize, skipped))
+    };
     let over = bound::SECTIONS + 1;
     files.refused(
         "section-count-65-and-as-many-rows",
@@ -49,7 +51,7 @@ fn section_counts(files: &mut Files) {
     let unneeded = full().with(|l| {
         l.sections.truncate(5);
         l.header.flags = 0;
-        l.sections.push(Section::new(7, []));
+        l.sections.push(Section::new(SKIPPED, []));
         l.section_count = Some(5);
     });
     files.refused(
@@ -83,7 +85,7 @@ fn bodies_not_filled(files: &mut Files) {
     // The name of the last row takes in the counts, which stand there twice.
     let layout = one_edge().with(|l| {
         let counts = [1, 0, 0, 0, 0, 0, 0, 0, 1, 0, 0, 0, 0, 0, 0, 0, 24];
-        l.sections.push(Section::new(7, []));
+        l.sections.push(Section::new(SKIPPED, []));
         l.body_rest = counts.into();
     });
     files.refused("body-with-counts-twice", layout.clone(), expect(9, 0));
@@ -108,7 +110,7 @@ fn names_of_read_kinds(files: &mut Files) {
 fn names_too_long(files: &mut Files) {
     for length in [64, 128, 255] {
         for (word, kind, flags) in [
-            ("skipped-kind", 7, 0),
+            ("skipped-kind", SKIPPED, 0),
             ("properties", kind::PROPERTIES, flag::PROPERTIES),
         ] {
             let layout = one_edge().with(|l| {
@@ -124,7 +126,8 @@ fn names_too_long(files: &mut Files) {
 
 /// The name length says more or less than there is.
 fn name_lengths(files: &mut Files) {
-    let named = one_edge().with(|l| l.sections.push(Section::new(7, *b"!").named(*b"four")));
+    let four = Section::new(SKIPPED, *b"!").named(*b"four");
+    let named = one_edge().with(|l| l.sections.push(four));
     let stated = |index: usize, length: u8| {
         let mut layout = named.clone();
         layout.sections[index].stated.name_length = Some(length);
@@ -232,7 +235,7 @@ fn several_codecs(files: &mut Files) {
 /// In the last entry that there may be, and at another minor version.
 fn codecs_elsewhere(files: &mut Files) {
     let last = one_edge().with(|l| {
-        let skipped = Section::new(7, []);
+        let skipped = Section::new(SKIPPED, []);
         l.sections.splice(0..0, vec![skipped; 60]);
         l.sections[63].codec = 1;
     });

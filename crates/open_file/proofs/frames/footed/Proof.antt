@@ -15,7 +15,7 @@ use borrow.Author.Needs.{needs}
 use native.Mathlib.Omega.{arith}
 
 module _ (size : ℕ) (t : List ℕ) where
-  -- the answer to rules 9 to 11 of a body b that begins at the limit
+  -- the answer to rules 9 to 11, with 36, of a body b that begins at the limit
   rows : (b : List ℕ) (limit : ℕ) → b ≡ bodyOf t → limit ≡ size - footLen t → framing (rowsCheck limit b) (framedFrom b (rowsOf b)) ≡ framing (rowsCheck (size - footLen t) (bodyOf t)) (framedOf t)
   unfolding framedOf
   rows b limit e l = λ j. framing (rowsCheck (l j) (e j)) (framedFrom (e j) (rowsOf (e j)))

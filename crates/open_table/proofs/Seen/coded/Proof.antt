@@ -9,7 +9,7 @@ first-bad-requires c κs = search needs
 
 returns : tie.Need-returns
 unfolding coded
-returns c = let s = c .before .args .self in λ j. record { codec = c .first-bad .ensures j; range = s .range; floor = s .floor; streams = s .streams }
+returns c = let s = c .before .args .self in λ j. record { reserved = s .reserved; codec = c .first-bad .ensures j; range = s .range; floor = s .floor; streams = s .streams }
 
 pub coded-spec : {M : Type 1} → statement M
 coded-spec = tie.close (tie.spec first-bad-requires returns)

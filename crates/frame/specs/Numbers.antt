@@ -1,0 +1,159 @@
+-- Which numbers opening gives: the order of checks in parts, and the numbers of each.
+use mathlib.Core.Path.{_≡_, refl, sym, _∙_}
+use Prim.Native.Nat.{ℕ, zero, suc, _+_, _-_, _/_}
+use mathlib.Core.List.{List, [], _∷_}
+use mathlib.Core.Bool.{Bool, true, false, not, _&&_, _||_}
+use lib.ListN.{length, getD}
+use lib.Dec.{ltb, eqb}
+use Rattle.codes.specs.Little.{leAt}
+use Rattle.xxh3_spec.specs.Xxh3.{xxh3}
+use Rattle.refusal.specs.declared.Refusal.{Refusal}
+use Rattle.refusal.specs.declared.Check.{Check}
+use Rattle.refusal.specs.Refusal.{numberOf}
+use Rattle.refusal.specs.Check.{_⊳_, refuse}
+use Rattle.refusal.specs.Check.Laws.{then-assoc, listed, Numbers, numbers-fine, numbers-bad, numbers-refuse, numbers-then, numbers-pick, numbers-more}
+use Rattle.frame.specs.declared.Row.{Row}
+use Rattle.frame.specs.Kind as kind
+use Rattle.frame.specs.Frame.{eachRow, kindGood, codecGood, rangeGood, ranges, tableGood, countsGood, recordOf, framedOf, rowsOf, bodyOf, footLen, flagsOf, sizeCheck, headCheck, tailCheck, sumCheck, tableCheck, reservedCheck, codecCheck, rangeCheck, countsCheck, endsCheck, rowsCheck, footerCheck, shapeCheck, frameCheck}
+use Rattle.frame.specs.Open.{Known, knownOf, bytesAt, keyAt, keysFrom, offsetGood, offsetsFrom, fencesGood, contentCheck, fileCheck}
+
+-- ---- the tests of rules 2 to 8
+
+module _ (f : List ℕ) where
+  abbrev pub otherMagic : Bool
+  otherMagic = not (eqb (leAt f 0 8) kind.magic)
+
+  abbrev pub otherMajor : Bool
+  otherMajor = not (eqb (getD f 8 0) 1)
+
+  abbrev pub otherSize : Bool
+  otherSize = not (eqb (leAt f 10 2) kind.headerSize)
+
+  abbrev pub moreFlags : Bool
+  moreFlags = ltb 15 (flagsOf f)
+
+  abbrev pub otherTail : Bool
+  otherTail = not (eqb (leAt f (length f - 8) 8) kind.magic)
+
+  abbrev pub otherFoot : Bool
+  otherFoot = ltb (footLen f) kind.leastFooter || ltb (length f - kind.headerSize) (footLen f)
+
+  abbrev pub otherSum : Bool
+  otherSum = not (eqb (xxh3 (bodyOf f)) (leAt f (length f - 20) 8))
+
+-- ---- which numbers each rule gives, in the order of checks
+
+-- the header's; then up to the table; then after 36
+abbrev pub headNumbers : List ℕ
+headNumbers = 2 ∷ 3 ∷ 4 ∷ 5 ∷ []
+
+abbrev pub footNumbers : List ℕ
+footNumbers = 6 ∷ 7 ∷ 8 ∷ 9 ∷ []
+
+abbrev pub lateNumbers : List ℕ
+lateNumbers = 10 ∷ 11 ∷ 12 ∷ 13 ∷ 14 ∷ 15 ∷ []
+
+-- all that opening gives
+abbrev pub openingNumbers : List ℕ
+openingNumbers = 1 ∷ 2 ∷ 3 ∷ 4 ∷ 5 ∷ 6 ∷ 7 ∷ 8 ∷ 9 ∷ 36 ∷ 10 ∷ 11 ∷ 12 ∷ 13 ∷ 14 ∷ 15 ∷ []
+
+pub size-numbers : (n : ℕ) → Numbers (1 ∷ []) (sizeCheck n)
+unfolding sizeCheck
+size-numbers n = numbers-refuse (1 ∷ []) Refusal.Size (ltb n 84 || ltb kind.mostBytes n) refl
+
+each-numbers : (ns : List ℕ) (good : Row → Bool) (told : ℕ → Refusal) → ((k : ℕ) → listed (numberOf (told k)) ns ≡ true) → (rs : List Row) (k : ℕ) → Numbers ns (eachRow good told rs k)
+unfolding eachRow
+each-numbers ns good told h [] k = numbers-fine ns
+each-numbers ns good told h (r ∷ rs) k = numbers-pick ns (good r) _ _ (each-numbers ns good told h rs (k + 1)) (numbers-bad ns (told k) (h k))
+
+ranges-numbers : (limit : ℕ) (rs : List Row) (floor k : ℕ) → Numbers lateNumbers (ranges limit rs floor k)
+unfolding ranges
+ranges-numbers limit [] floor k = numbers-fine lateNumbers
+ranges-numbers limit (r ∷ rs) floor k =
+    numbers-pick lateNumbers (rangeGood limit floor r) _ _ (ranges-numbers limit rs (r .start + r .len) (k + 1)) (numbers-bad lateNumbers (Refusal.Range k) refl)
+
+keys-numbers : (d : ℕ) (s : List ℕ) (k : ℕ) → Numbers lateNumbers (keysFrom d s k)
+unfolding keysFrom
+keys-numbers zero s k = numbers-fine lateNumbers
+keys-numbers (suc d) s k =
+    numbers-pick lateNumbers (ltb (keyAt s (k - 1)) (keyAt s k)) _ _ (keys-numbers d s (k + 1)) (numbers-bad lateNumbers (Refusal.Key k) refl)
+
+offsets-numbers : (d : ℕ) (o : List ℕ) (w n len i : ℕ) → Numbers lateNumbers (offsetsFrom d o w n len i)
+unfolding offsetsFrom
+offsets-numbers zero o w n len i = numbers-fine lateNumbers
+offsets-numbers (suc d) o w n len i =
+    numbers-pick lateNumbers (offsetGood o w n len i) _ _ (offsets-numbers d o w n len (i + 1)) (numbers-bad lateNumbers (Refusal.Offset i) refl)
+
+content-numbers : (k : Known) (fenced : Bool) (fences : List ℕ) → Numbers lateNumbers (contentCheck k fenced fences)
+unfolding contentCheck
+content-numbers k fenced fences =
+    numbers-then lateNumbers _ _ (keys-numbers (k .keycount - 1) (k .keys) 1)
+    (numbers-then lateNumbers _ _ (offsets-numbers (k .keycount + 1) (k .offsets) (k .bits / 8) (k .keycount) (length (k .partners)) 0)
+    (numbers-refuse lateNumbers Refusal.Fences (fenced && not (fencesGood fences (k .keys) (k .keycount))) refl))
+
+-- ---- the order of checks in parts: size, header, 6 to 9, 36, and the rest
+
+module _ (f : List ℕ) where
+  abbrev pub rows : List Row
+  rows = rowsOf (bodyOf f)
+
+  unfoldable pub contents : Check
+  contents = contentCheck (knownOf f (recordOf f)) (framedOf f .fenced) (bytesAt f (framedOf f .fences))
+
+  unfoldable pub foot : Check
+  foot = tailCheck (length f) f ⊳ sumCheck f ⊳ tableCheck (bodyOf f)
+
+  unfoldable pub late : Check
+  late = codecCheck rows ⊳ rangeCheck (length f - footLen f) rows ⊳ countsCheck (flagsOf f) (framedOf f) ⊳ contents
+
+  pub head-numbers : Numbers headNumbers (headCheck f)
+  unfolding headCheck
+  head-numbers =
+      numbers-then headNumbers _ _ (numbers-refuse headNumbers Refusal.Magic (otherMagic f) refl)
+      (numbers-then headNumbers _ _ (numbers-refuse headNumbers Refusal.Major (otherMajor f) refl)
+      (numbers-then headNumbers _ _ (numbers-refuse headNumbers Refusal.HeaderSize (otherSize f) refl) (numbers-refuse headNumbers Refusal.Flags (moreFlags f) refl)))
+
+  pub foot-numbers : Numbers footNumbers foot
+  unfolding foot tailCheck sumCheck
+  foot-numbers =
+      numbers-then footNumbers _ _
+      (numbers-then footNumbers _ _ (numbers-refuse footNumbers Refusal.TailMagic (otherTail f) refl) (numbers-refuse footNumbers Refusal.FooterLength (otherFoot f) refl))
+      (numbers-then footNumbers _ _ (numbers-refuse footNumbers Refusal.FooterSum (otherSum f) refl) (numbers-refuse footNumbers Refusal.Table (not (tableGood (bodyOf f))) refl))
+
+  pub reserved-numbers : Numbers (36 ∷ []) (reservedCheck rows)
+  reserved-numbers = each-numbers (36 ∷ []) kindGood Refusal.Reserved (λ k. refl) rows 0
+
+  pub late-numbers : Numbers lateNumbers late
+  unfolding late contents
+  late-numbers =
+      numbers-then lateNumbers _ _ (each-numbers lateNumbers codecGood Refusal.Codec (λ k. refl) rows 0)
+      (numbers-then lateNumbers _ _ (ranges-numbers (length f - footLen f) rows kind.headerSize 0)
+      (numbers-then lateNumbers _ _ (numbers-refuse lateNumbers Refusal.Counts (not (countsGood (flagsOf f) (framedOf f))) refl)
+      (content-numbers (knownOf f (recordOf f)) (framedOf f .fenced) (bytesAt f (framedOf f .fences)))))
+
+-- parts of the order, one after the other
+flat : (a b c d e r x y z w : Check) → ((a ⊳ ((b ⊳ c) ⊳ (d ⊳ (e ⊳ (r ⊳ (x ⊳ y)))))) ⊳ z) ⊳ w ≡ a ⊳ (b ⊳ ((c ⊳ (d ⊳ e)) ⊳ (r ⊳ (x ⊳ (y ⊳ (z ⊳ w))))))
+flat (Check.Bad q) b c d e r x y z w = refl
+flat Check.Fine (Check.Bad q) c d e r x y z w = refl
+flat Check.Fine Check.Fine (Check.Bad q) d e r x y z w = refl
+flat Check.Fine Check.Fine Check.Fine (Check.Bad q) e r x y z w = refl
+flat Check.Fine Check.Fine Check.Fine Check.Fine (Check.Bad q) r x y z w = refl
+flat Check.Fine Check.Fine Check.Fine Check.Fine Check.Fine (Check.Bad q) x y z w = refl
+flat Check.Fine Check.Fine Check.Fine Check.Fine Check.Fine Check.Fine (Check.Bad q) y z w = refl
+flat Check.Fine Check.Fine Check.Fine Check.Fine Check.Fine Check.Fine Check.Fine y z w = then-assoc y z w
+
+module _ (f : List ℕ) where
+  pub chain : fileCheck f ≡ sizeCheck (length f) ⊳ headCheck f ⊳ foot f ⊳ reservedCheck (rows f) ⊳ late f
+  unfolding fileCheck frameCheck shapeCheck endsCheck footerCheck rowsCheck foot late contents
+  chain =
+      flat (sizeCheck (length f)) (headCheck f) (tailCheck (length f) f) (sumCheck f) (tableCheck (bodyOf f)) (reservedCheck (rows f)) (codecCheck (rows f))
+      (rangeCheck (length f - footLen f) (rows f)) (countsCheck (flagsOf f) (framedOf f)) (contents f)
+
+  -- opening gives no number but these
+  pub opening-numbers : Numbers openingNumbers (fileCheck f)
+  opening-numbers r e =
+      numbers-then openingNumbers _ _ (numbers-more (1 ∷ []) openingNumbers refl (size-numbers (length f)))
+      (numbers-then openingNumbers _ _ (numbers-more headNumbers openingNumbers refl (head-numbers f))
+      (numbers-then openingNumbers _ _ (numbers-more footNumbers openingNumbers refl (foot-numbers f))
+      (numbers-then openingNumbers _ _ (numbers-more (36 ∷ []) openingNumbers refl (reserved-numbers f)) (numbers-more lateNumbers openingNumbers refl (late-numbers f)))))
+      r (sym chain ∙ e)
