@@ -9,6 +9,7 @@
 enum { HEADER = 64, FOOTER_COUNTS = 17, TRAILER = 20, ENTRY = 28, ID = 16, HALF = 8, FENCES_HEAD = 8, FENCE = 24 };
 enum { STRIDE = 256, MOST_KEYS = 1 << 24, MOST_EDGES = 1 << 26, MOST_BYTES = 1 << 30, MOST_WITHOUT_FENCES = 65536 };
 enum { KEYS = 1, OFFSETS, PARTNERS, LOGS, TOMBSTONES, FENCES, PROPERTIES = 0x100 };     /* kinds of section */
+enum { RESERVED_FIRST = 7, RESERVED_LAST = 0xff };                                      /* kinds that are refused */
 enum { HAS_PROPERTIES = 1, HAS_DEAD = 2, HAS_DENSE = 4, INVERSE = 8 };                  /* flags */
 enum { SPLIT = 0x01, DENSE = 0x10 };                                                    /* tags of a group */
 enum { HEADING = 50, EDGE = 41, RECORD_KEY = 1, RECORD_PARTNER = 17, RECORD_LOG = 33 }; /* records of a batch */

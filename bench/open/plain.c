@@ -116,13 +116,13 @@ typedef struct {
     int properties;
 } table;
 
-/* Rules 9 to 11. An entry can be read anywhere in the table, as 17 and 20 bytes follow. */
+/* Rules 9 to 11, with 36. An entry can be read anywhere in the table, as 17 and 20 bytes follow. */
 INLINE EdgeSstTold table_fault(const uint8_t *body, const uint8_t *counts, uint64_t sections_end, table *t) {
     uint64_t sections = le16(body), floor = HEADER;
     if (sections < 1 || sections > 64)
         return told(9, 0);
     const uint8_t *p = body + 2;
-    size_t bad_codec = NONE, bad_range = NONE;
+    size_t reserved = NONE, bad_codec = NONE, bad_range = NONE;
     t->seen = 0;
     t->properties = 0;
     t->found[TOMBSTONES] = t->found[FENCES] = (range){0, 0};
@@ -138,8 +138,11 @@ INLINE EdgeSstTold table_fault(const uint8_t *body, const uint8_t *counts, uint6
             t->found[kind] = r;
             if (p[2] != 0 && bad_codec == NONE)
                 bad_codec = i;
-        } else if (kind == PROPERTIES)
+        } else if (kind == PROPERTIES) {
             t->properties = 1;
+        } else if (kind >= RESERVED_FIRST && kind <= RESERVED_LAST && reserved == NONE) {
+            reserved = i;
+        }
         if (bad_range == NONE && (r.start < floor || r.start > sections_end || r.length > sections_end - r.start))
             bad_range = i;
         floor = r.start + r.length;
@@ -147,6 +150,8 @@ INLINE EdgeSstTold table_fault(const uint8_t *body, const uint8_t *counts, uint6
     }
     if (p != counts || (t->seen & NEEDED) != NEEDED)
         return told(9, 0);
+    if (reserved != NONE)
+        return told(36, reserved);
     if (bad_codec != NONE)
         return told(10, bad_codec);
     return bad_range != NONE ? told(11, bad_range) : told(0, 0);

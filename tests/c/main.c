@@ -19,6 +19,7 @@ static const Part parts[] = {
     {"running sums", test_running},
 #ifndef ALONE
     {"opening and records", test_opening},
+    {"kinds", test_kinds},
     {"lookups and keys", test_lookups},
     {"groups", test_groups},
     {"checks", test_checks},

@@ -86,6 +86,7 @@ uint64_t whole_sum(const char *name, Lent lent);
 void test_sums(const char *dir);
 void test_running(const char *dir);
 void test_opening(const char *dir);
+void test_kinds(const char *dir);
 void test_lookups(const char *dir);
 void test_groups(const char *dir);
 void test_checks(const char *dir);

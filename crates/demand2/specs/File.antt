@@ -1,9 +1,9 @@
 -- The writer's file: it opens to what was written, passes the full check, and reads out to the same batch.
-use mathlib.Core.Path.{_≡_, refl, sym, ap, ap₂, subst, _∙_}
-use Prim.Native.Nat.{ℕ, zero, suc, _+_, _-_, _*_, _/_, _%_, _^_, _≤_, _<_}
+use mathlib.Core.Path.{_≡_, refl, sym, ap, ap₂, _∙_}
+use Prim.Native.Nat.{ℕ, suc, _+_, _*_, _/_, _%_, _^_, _≤_, _<_}
 use native.Mathlib.Omega.{arith}
 use native.Mathlib.Decide.{decLe}
-use mathlib.Core.List.{List, [], _∷_, _++_, append-assoc}
+use mathlib.Core.List.{List, [], _∷_, _++_}
 use mathlib.Core.Bool.{Bool, true, false, not, _&&_, _||_, Bool·beq}
 use lib.ListN.{length, getD, length-append}
 use lib.Seq.{take-at}
@@ -18,23 +18,22 @@ use Rattle.refusal.specs.declared.Check.{Check}
 use Rattle.refusal.specs.Check.{_⊳_, refuse}
 use Rattle.refusal.specs.Check.Laws.{fine-both, good-fine, and-both}
 use Rattle.frame.specs.declared.Row.{Row}
-use Rattle.frame.specs.declared.Opened.{Opened}
 use Rattle.frame.specs.declared.Opening.{Opening}
 use Rattle.frame.specs.Kind as kind
-use Rattle.frame.specs.Frame.{all, rowsOf, entryCount, keyCount, edgeCount, bitsOf, has, repeated, sectionOf, kindsGood, flag, flagsOf, widthGood, sizesGood, presenceGood, countsGood, bodyOf, headCheck, footLen, recordFrom, recordOf, framedFrom, framedOf}
+use Rattle.frame.specs.Frame.{all, rowsOf, entryCount, keyCount, edgeCount, bitsOf, has, sectionOf, kindsGood, flag, flagsOf, widthGood, sizesGood, presenceGood, countsGood, bodyOf, headCheck, recordFrom, recordOf, framedFrom, framedOf}
 use Rattle.frame.specs.Frame.Laws.{Table}
 use Rattle.frame.specs.Open.{Known, knownOf, bytesAt, contentCheck, offsetsFrom, fencesGood, fileCheck, opening, openOf}
 use Rattle.frame.specs.Open.Laws.{Frames, frames-made}
 use Rattle.frame.specs.Layout.{Section, Layout, rawSection, headBytes, payload, bodyBytes, trailer, layOut}
-use Rattle.laid_out.specs.Rows.{rowsIn, Small, small-is, leAt-at, count-back, body-end, keys-back, edges-back, bits-back, length-body}
+use Rattle.laid_out.specs.Rows.{rowsIn, Small, small-is, leAt-at, count-back, body-end, keys-back, edges-back, bits-back}
 use Rattle.laid_out.specs.Laid.{length-laid, body-back, size-fine, tail-fine, sum-fine, file-rows, ranges-fine}
 use Rattle.batch.specs.declared.Edge.{Edge}
 use Rattle.batch.specs.Batch.{Heading, batchBytes}
 use Rattle.batch_groups.specs.Groups.{anyDead, Group, groupsOf, flat, Grouped}
 use Rattle.batch_groups.specs.Groups.Laws.{flat-groups, groups-count}
 use Rattle.write_image.specs.Image.{anyDense, keysIn, keyBytes, partnerBytes, widthOf, offsetBytes, logBytes, tombBytes, fencesOf, fenced, bit, flagsBy, lastSections, sectionsBy, layoutBy, layoutOf, fileOf}
-use Rattle.write_image.specs.Image.Laws.{length-keys, length-offsets, length-logBytes, length-tombs, width-most}
-use Rattle.full_check.specs.Full.{sumsFrom, groupsFrom, degreesFrom, denseFrom, deadFrom, dataGood, edgesCheck, fullCheck}
+use Rattle.write_image.specs.Image.Laws.{length-keys, length-offsets, length-logBytes, length-tombs}
+use Rattle.full_check.specs.Full.{sumsFrom, groupsFrom, degreesFrom, denseFrom, dataGood, edgesCheck, fullCheck}
 use Rattle.readout.specs.Edges.{readFrom, edgesIn}
 use Rattle.readout.specs.ReadOut.{headingIn, batchIn}
 use Rattle.demand2.specs.Rows.{width-fits, bit-is}

@@ -1,6 +1,6 @@
 -- Sections without a name, raw, with their checksums, as the writer lays them out: what their table says.
 use mathlib.Core.Path.{_≡_, refl, sym, ap, ap₂, _∙_}
-use Prim.Native.Nat.{ℕ, zero, suc, _+_, _-_, _*_, _^_, _≤_, _<_}
+use Prim.Native.Nat.{ℕ, _+_, _^_, _≤_, _<_}
 use native.Mathlib.Omega.{arith}
 use mathlib.Core.List.{List, [], _∷_, _++_, append-assoc}
 use mathlib.Core.Bool.{Bool, true, false, not, _&&_, _||_}
@@ -14,7 +14,7 @@ use Rattle.refusal.specs.declared.Check.{Check}
 use Rattle.refusal.specs.Check.Laws.{fine-pick, and-both}
 use Rattle.frame.specs.declared.Row.{Row}
 use Rattle.frame.specs.Kind as kind
-use Rattle.frame.specs.Frame.{rangeOf, has, repeated, sectionOf, all, nameGood, onceGood, eachRow, kindGood, codecGood, reservedCheck, codecCheck}
+use Rattle.frame.specs.Frame.{has, repeated, sectionOf, all, nameGood, onceGood, eachRow, kindGood, codecGood, reservedCheck, codecCheck}
 use Rattle.frame.specs.Frame.Laws.{fixed-kinds, fixed-unreserved}
 use Rattle.frame.specs.Open.{bytesAt}
 use Rattle.frame.specs.Layout.{Section, rawSection, payload}

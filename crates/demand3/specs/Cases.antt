@@ -13,7 +13,7 @@ use Rattle.frame.specs.declared.Opening.{Opening}
 use Rattle.frame.specs.Kind as kind
 use Rattle.frame.specs.Frame.{rowAt, rowsFrom, endFrom, rowsOf, endOf, has, repeated, sectionOf, all, kindsGood, tableGood, eachRow, ranges, sizesGood, presenceGood, countsGood, bodyOf, headerIn, atMinor, sizeCheck, headCheck, tailCheck, sumCheck, frameCheck, recordFrom, recordOf, framedFrom, framedOf, shapeCheck, endsCheck, footerCheck, rowsCheck}
 use Rattle.frame.specs.Open.{knownOf, keysFrom, offsetGood, offsetsFrom, fenceGood, fencesFrom, fencesGood, contentCheck, fileCheck, opening, openOf}
-use Rattle.frame.specs.Layout.{Layout, rawSection, headBytes, payload, entry, entries, bodyBytes, trailer, layOut}
+use Rattle.frame.specs.Layout.{rawSection, headBytes, payload, entry, entries, bodyBytes, trailer, layOut}
 use Rattle.frame.specs.Cases.{ids, headingOnly}
 use Rattle.demand3.specs.Strip.{sectionAt, keptOf, stripped, strip}
 
@@ -33,30 +33,32 @@ laterWith minor k = layOut (record {
 abbrev pub laterFile : List ℕ
 laterFile = laterWith 200 0x7001
 
-pub opens-later :
-    (openOf laterFile ≡ Opening.Good (record {
-      keys = record { start = 64; len = 0 };
-      offsets = record { start = 64; len = 3 };
-      partners = record { start = 71; len = 0 };
-      logs = record { start = 71; len = 0 };
-      marked = false;
-      dead = record { start = 0; len = 0 };
-      keycount = 0;
-      edgecount = 0;
-      bits = 24;
-    }))
-    × (strip laterFile ≡ headingOnly)
+-- what opening gives for it, where the section is skipped
+abbrev laterRecord : Opened
+laterRecord = record {
+  keys = record { start = 64; len = 0 };
+  offsets = record { start = 64; len = 3 };
+  partners = record { start = 71; len = 0 };
+  logs = record { start = 71; len = 0 };
+  marked = false;
+  dead = record { start = 0; len = 0 };
+  keycount = 0;
+  edgecount = 0;
+  bits = 24;
+}
+
+pub opens-later : (openOf laterFile ≡ Opening.Good laterRecord) × (strip laterFile ≡ headingOnly)
 unfolding laterWith headingOnly leAt leBytes beAt idAt mul fold xorshift rotl swap rrmxmx secret of1to3 of4to8 of9to16 small pair mixStep inward of17to128 onward of129to240 lane accumulate stir scramble turn runOn startLanes twice merge finish large xxh3 rowAt rowsFrom endFrom rowsOf endOf has repeated sectionOf all kindsGood tableGood eachRow ranges sizesGood presenceGood countsGood bodyOf sizeCheck headCheck tailCheck sumCheck frameCheck recordFrom recordOf framedFrom framedOf knownOf keysFrom offsetGood offsetsFrom fenceGood fencesFrom fencesGood contentCheck fileCheck opening openOf headBytes payload entry entries bodyBytes trailer layOut sectionAt keptOf stripped strip shapeCheck endsCheck footerCheck rowsCheck
 opens-later = (refl, refl)
 
--- with a kind of the reserved range it does not open, whatever its minor version, and no copy leaves that section out; with the kinds
--- beside the range it does
+-- with a kind of the reserved range it does not open, whatever its minor version, and `strip` leaves that section where it is; with the
+-- kinds beside the range and with 0 it opens
 pub opens-never :
     (openOf (laterWith 200 0x00FF) ≡ Opening.Refused (Refusal.Reserved 2))
     × (openOf (laterWith 0 0x0007) ≡ Opening.Refused (Refusal.Reserved 2))
     × (openOf (strip (laterWith 200 0x00FF)) ≡ Opening.Refused (Refusal.Reserved 2))
-    × (strip (laterWith 200 0x0101) ≡ headingOnly)
-    × (strip (laterWith 0 0x0000) ≡ headingOnly)
+    × (openOf (laterWith 200 0x0101) ≡ Opening.Good laterRecord)
+    × (openOf (laterWith 0 0x0000) ≡ Opening.Good laterRecord)
 unfolding laterWith headingOnly leAt leBytes beAt idAt mul fold xorshift rotl swap rrmxmx secret of1to3 of4to8 of9to16 small pair mixStep inward of17to128 onward of129to240 lane accumulate stir scramble turn runOn startLanes twice merge finish large xxh3 rowAt rowsFrom endFrom rowsOf endOf has repeated sectionOf all kindsGood tableGood eachRow ranges sizesGood presenceGood countsGood bodyOf sizeCheck headCheck tailCheck sumCheck frameCheck recordFrom recordOf framedFrom framedOf knownOf keysFrom offsetGood offsetsFrom fenceGood fencesFrom fencesGood contentCheck fileCheck opening openOf headBytes payload entry entries bodyBytes trailer layOut sectionAt keptOf stripped strip shapeCheck endsCheck footerCheck rowsCheck
 opens-never = (refl, refl, refl, refl, refl)
 

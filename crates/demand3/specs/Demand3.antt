@@ -3,7 +3,7 @@
 -- and places included." "Demand 3 now speaks of added sections outside the range only": those of unknown kinds (`kind.unknown`),
 -- which the reserved range is no part of. And the other way: a later writer's file, with such sections and any minor version, opens where that
 -- copy does.
-use mathlib.Core.Path.{_≡_, refl, sym, ap, _∙_}
+use mathlib.Core.Path.{_≡_, sym, ap, _∙_}
 use mathlib.Core.Logic.{_↔_}
 use Prim.Native.Nat.{ℕ}
 use mathlib.Core.List.{List}

@@ -2,10 +2,10 @@
 -- mended". It opens exactly if the file does, and it knows the same.
 use mathlib.Core.Path.{_≡_, refl, sym, ap, ap₂, _∙_}
 use mathlib.Core.Logic.{_↔_, _⊎_}
-use Prim.Native.Nat.{ℕ, _+_, _-_, _^_, _≤_, _<_}
+use Prim.Native.Nat.{ℕ, _+_, _-_, _^_, _≤_}
 use native.Mathlib.Omega.{arith}
 use mathlib.Core.List.{List, [], _∷_}
-use mathlib.Core.Bool.{Bool, true, false, not, _&&_, _||_}
+use mathlib.Core.Bool.{Bool, true, false, not, _||_}
 use lib.ListN.{length, getD}
 use lib.Dec.{eqb}
 use Rattle.base.specs.Pick.{pick}
@@ -14,16 +14,14 @@ use Rattle.codes.specs.Little.{leAt}
 use Rattle.xxh3_spec.specs.Xxh3.{xxh3}
 use Rattle.refusal.specs.declared.Refusal.{Refusal}
 use Rattle.refusal.specs.declared.Check.{Check}
-use Rattle.refusal.specs.Check.{_⊳_}
-use Rattle.refusal.specs.Check.Laws.{fine-parts, fine-both, pick-fine, fine-pick, and-parts, and-both}
+use Rattle.refusal.specs.Check.Laws.{fine-parts, fine-both, fine-pick, and-parts, and-both}
 use Rattle.frame.specs.declared.Row.{Row}
-use Rattle.frame.specs.declared.Range.{Range}
 use Rattle.frame.specs.declared.Opened.{Opened}
 use Rattle.frame.specs.declared.Opening.{Opening}
 use Rattle.frame.specs.Kind as kind
 use Rattle.frame.specs.Frame.{recordFrom, recordOf, framedFrom, framedOf, has, repeated, rangeOf, sectionOf, all, nameGood, kindsGood, eachRow, kindGood, codecGood, ranges, entryCount, rowsOf, endOf, countsGood, keyCount, edgeCount, bitsOf, bodyOf, footLen, flagsOf, sizeCheck, tailCheck, sumCheck, reservedCheck, codecCheck, frameCheck}
-use Rattle.frame.specs.Frame.Laws.{length-rows, Table, Apart, Short, names-short, ranges-parts, ranges-made, SameKnown, skipped, section-skipped, kinds-known, kinds-some, counts-known, each-good, kind-skipped, codec-skipped, name-skipped, ButMinor, flags-minor, head-minor}
-use Rattle.frame.specs.Open.{Known, knownOf, bytesAt, contentCheck, fileCheck, openOf}
+use Rattle.frame.specs.Frame.Laws.{length-rows, Table, Apart, Short, names-short, ranges-parts, ranges-made, SameKnown, skipped, section-skipped, kinds-known, kinds-some, counts-known, each-good, each-parts, kind-skipped, codec-skipped, name-skipped, ButMinor, flags-minor, head-minor}
+use Rattle.frame.specs.Open.{knownOf, bytesAt, contentCheck, fileCheck, openOf}
 use Rattle.frame.specs.Open.Laws.{frames-made, opens-parts, opens-record, opens-fine, size-parts, size-made, tail-parts, tail-magic, tail-made, sum-parts, sum-made}
 use Rattle.lookup.specs.Lookup.{Rooms, lookOf}
 use Rattle.reader.specs.Look.{look-known}
@@ -120,7 +118,7 @@ module _ (f b g c : List ℕ) where
   known-copied : {rs ts : List Row} → Copied f b g c rs ts → SameKnown rs ts
   known-copied d = record { there = λ k h. has-copied k h d; doubled = λ k h. twice-copied k h d; len = λ k h. len-copied k h d }
 
-  -- names and codecs: of the copy, and of the file where the copy's are good
+  -- names, kinds and codecs: of the copy, and of the file where the copy's are good
   names-copied : {rs ts : List Row} → Copied f b g c rs ts → all nameGood rs ≡ true → all nameGood ts ≡ true
   unfolding all
   names-copied none e = refl
@@ -151,8 +149,8 @@ module _ (f b g c : List ℕ) where
     each-copied (kept {r} {t} {rs} {ts} u w d) i j =
         let ih = each-copied d (i + 1) (j + 1) in
         let is : good t ≡ good r = same r t (w .kind) (w .codec) in (
-          λ e. let p = pick-fine (good r) (eachRow good told rs (i + 1)) (told i) e in fine-pick (Check.Bad (told j)) (is ∙ p .0) (ih .0 (p .1)),
-          λ e. let p = pick-fine (good t) (eachRow good told ts (j + 1)) (told j) e in fine-pick (Check.Bad (told i)) (sym is ∙ p .0) (ih .1 (p .1)),
+          λ e. let p = each-parts good told r rs i e in fine-pick (Check.Bad (told j)) (is ∙ p .0) (ih .0 (p .1)),
+          λ e. let p = each-parts good told t ts j e in fine-pick (Check.Bad (told i)) (sym is ∙ p .0) (ih .1 (p .1)),
         )
 
   reserved-copied : {rs ts : List Row} → Copied f b g c rs ts → (reservedCheck rs ≡ Check.Fine) ↔ (reservedCheck ts ≡ Check.Fine)

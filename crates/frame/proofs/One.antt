@@ -1,5 +1,5 @@
 -- Each public contract of the crate leaves one result.
-use mathlib.Core.Path.{_≡_, refl, sym, _∙_}
+use mathlib.Core.Path.{refl, sym, _∙_}
 use Rattle.base.proofs.Determined.{Determined}
 use Rattle.frame.proofs.Row.raw as raw
 use Rattle.frame.proofs.Row.raw.Reads as raw-reads

@@ -1,22 +1,21 @@
--- Two files held to bytes that the second program made: laid out by the definitions, and opened by them.
+-- Two files held to bytes that the second program made, laid out by the definitions and opened by them; and the rules of the section table
+-- at their edges.
 use mathlib.Core.Path.{_≡_, refl}
 use mathlib.Core.List.{List, [], _∷_}
 use mathlib.Core.Bool.{true, false}
 use Prim.Native.Nat.{ℕ}
-use lib.ListN.{length}
 use Rattle.codes.specs.Little.{leAt, leBytes}
 use Rattle.codes.specs.Ids.{beAt, idAt, halvesAt}
 use Rattle.xxh3_spec.specs.Xxh3.{mul, fold, xorshift, rotl, swap, rrmxmx, secret, of1to3, of4to8, of9to16, small, pair, mixStep, inward, of17to128, onward, of129to240, lane, accumulate, stir, scramble, turn, runOn, startLanes, twice, merge, finish, large, xxh3}
 use Rattle.refusal.specs.declared.Refusal.{Refusal}
 use Rattle.refusal.specs.declared.Check.{Check}
 use Rattle.frame.specs.declared.Row.{Row}
-use Rattle.frame.specs.declared.Opened.{Opened}
 use Rattle.frame.specs.declared.Opening.{Opening}
 use Rattle.frame.specs.declared.ends.Header.{Header}
 use Rattle.frame.specs.Kind as kind
 use Rattle.frame.specs.Frame.{rowAt, rowsFrom, endFrom, rowsOf, endOf, has, repeated, sectionOf, all, kindsGood, tableGood, eachRow, ranges, sizesGood, presenceGood, countsGood, bodyOf, headerIn, sizeCheck, headCheck, tailCheck, sumCheck, endsCheck, rowsCheck, footerCheck, shapeCheck, frameCheck, codecCheck, rangeCheck}
 use Rattle.frame.specs.Open.{recordFrom, recordOf, framedFrom, framedOf, knownOf, keysFrom, offsetGood, offsetsFrom, fenceGood, fencesFrom, fencesGood, contentCheck, fileCheck, opening, openOf}
-use Rattle.frame.specs.Layout.{Section, Layout, rawSection, headBytes, payload, entry, entries, bodyBytes, trailer, layOut}
+use Rattle.frame.specs.Layout.{Section, rawSection, headBytes, payload, entry, entries, bodyBytes, trailer, layOut}
 
 -- the three ids of both headers
 abbrev pub ids : List ℕ
@@ -181,16 +180,18 @@ pub in-order :
     -- the first of two; whatever its codec and its name
     (rules 64 (bare 1 ∷ bare 0x00FF ∷ bare 2 ∷ bare 3 ∷ bare 4 ∷ bare 7 ∷ []) ≡ Check.Bad (Refusal.Reserved 1))
     × (rules 64 (bare 1 ∷ bare 2 ∷ bare 3 ∷ emptySection 0x0080 9 (104 ∷ 105 ∷ []) ∷ bare 4 ∷ []) ≡ Check.Bad (Refusal.Reserved 3))
+    × (rules 64 (emptySection 7 0 (104 ∷ []) ∷ bare 1 ∷ bare 2 ∷ bare 3 ∷ bare 4 ∷ []) ≡ Check.Bad (Refusal.Reserved 0))
     -- 10 before it and after it; alone it is told
     × (rules 64 (emptySection 1 1 [] ∷ bare 2 ∷ bare 3 ∷ bare 4 ∷ bare 7 ∷ []) ≡ Check.Bad (Refusal.Reserved 4))
     × (rules 64 (bare 7 ∷ emptySection 1 1 [] ∷ bare 2 ∷ bare 3 ∷ bare 4 ∷ []) ≡ Check.Bad (Refusal.Reserved 0))
     × (rules 64 (bare 0 ∷ emptySection 1 1 [] ∷ bare 2 ∷ bare 3 ∷ bare 4 ∷ []) ≡ Check.Bad (Refusal.Codec 1))
-    -- 11 at the first entry, which ends after the limit
+    -- 11 at the first entry, which ends after the limit; 10 comes before it
     × (rules 63 (bare 1 ∷ bare 2 ∷ bare 3 ∷ bare 4 ∷ bare 7 ∷ []) ≡ Check.Bad (Refusal.Reserved 4))
     × (rules 63 (bare 1 ∷ bare 2 ∷ bare 3 ∷ bare 4 ∷ bare 0x0101 ∷ []) ≡ Check.Bad (Refusal.Range 0))
+    × (rules 63 (bare 1 ∷ bare 2 ∷ bare 3 ∷ emptySection 4 1 [] ∷ []) ≡ Check.Bad (Refusal.Codec 3))
     -- 9: a kind is missing; one is doubled after it; one that is read has a name
     × (rules 64 (bare 7 ∷ bare 1 ∷ bare 2 ∷ bare 3 ∷ []) ≡ Check.Bad Refusal.Table)
     × (rules 64 (bare 7 ∷ bare 1 ∷ bare 2 ∷ bare 3 ∷ bare 4 ∷ bare 4 ∷ []) ≡ Check.Bad Refusal.Table)
     × (rules 64 (bare 7 ∷ bare 1 ∷ bare 2 ∷ bare 3 ∷ emptySection 4 0 (104 ∷ []) ∷ []) ≡ Check.Bad Refusal.Table)
 unfolding leAt leBytes entry entries bodyBytes rowAt rowsFrom endFrom rowsOf endOf has repeated all kindsGood tableGood eachRow ranges rowsCheck
-in-order = (refl, refl, refl, refl, refl, refl, refl, refl, refl, refl)
+in-order = (refl, refl, refl, refl, refl, refl, refl, refl, refl, refl, refl, refl)

@@ -1,6 +1,6 @@
 -- Rules 1 to 12 and 36 of opening. They see the file's size, its first bytes h and its last bytes t, and no more; for a whole
 -- file f both are f. Every definition is total: past the end of a list there are zeros.
-use Prim.Native.Nat.{ℕ, zero, suc, _+_, _-_, _*_, _/_, _%_, _^_}
+use Prim.Native.Nat.{ℕ, zero, suc, _+_, _-_, _/_, _%_, _^_}
 use mathlib.Core.List.{List, [], _∷_}
 use mathlib.Core.Bool.{Bool, true, false, not, _&&_, _||_, Bool·beq}
 use lib.ListN.{length, getD}

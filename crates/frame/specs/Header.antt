@@ -1,47 +1,42 @@
 -- Another major version and an unassigned flag bit: when opening gives 3 and 5, exactly.
 use mathlib.Core.Path.{_≡_, refl, sym, ap, _∙_}
 use mathlib.Core.Logic.{_↔_}
-use Prim.Native.Nat.{ℕ, zero, suc, _+_, _-_, _*_, _/_, _%_, _^_, _≤_, _<_}
+use Prim.Native.Nat.{ℕ, zero, suc, _+_, _*_, _/_, _%_, _^_, _≤_, _<_}
 use native.Mathlib.Nat.{div-one, pow-suc, mul-comm, div-div-eq-div-mul, div-eq-of-lt, pow-le-pow-right, zero-lt-suc}
 use native.Mathlib.Decide.{ℕ-discrete, decLt}
 use native.Mathlib.Omega.{arith}
-use mathlib.Core.List.{List, [], _∷_}
-use mathlib.Core.Bool.{Bool, true, false, not, _&&_, _||_}
+use mathlib.Core.List.{List, [], _∷_, _++_}
+use mathlib.Core.Bool.{true, not}
 use lib.ListN.{length, getD}
-use lib.Dec.{ltb, eqb}
 use borrow.Author.Tests.{ltb-true, ltb-false, lt-ltb, eqb-true, eqb-false, eq-eqb, ne-eqb, not-true, not-false}
 use Rattle.base.specs.Bytes.{Bytes}
 use Rattle.codes.specs.Little.{leAt}
 use Rattle.codes.specs.Little.Laws.{leAt-lt}
-use Rattle.xxh3_spec.specs.Xxh3.{xxh3}
 use Rattle.refusal.specs.declared.Refusal.{Refusal}
 use Rattle.refusal.specs.declared.Check.{Check}
 use Rattle.refusal.specs.Refusal.{numberOf}
 use Rattle.refusal.specs.Check.{_⊳_, refuse}
-use Rattle.refusal.specs.Check.Laws.{fine-parts, by-first, by-second, refuse-bad, refuse-fine, refuse-own, listed, none-listed, Numbers, numbers-refuse, numbers-then, numbers-more, never}
-use Rattle.frame.specs.declared.Row.{Row}
+use Rattle.refusal.specs.Check.Laws.{fine-parts, by-first, by-second, refuse-bad, refuse-fine, refuse-own, listed, none-listed, Numbers, numbers-refuse, numbers-then, numbers-more, not-given}
 use Rattle.frame.specs.Kind as kind
 use Rattle.frame.specs.Frame.{flag, flagsOf, sizeCheck, headCheck, reservedCheck}
 use Rattle.frame.specs.Open.{fileCheck}
 use Rattle.frame.specs.Open.Laws.{size-parts, size-made}
-use Rattle.frame.specs.Numbers.{otherMagic, otherMajor, otherSize, moreFlags, headNumbers, footNumbers, lateNumbers, size-numbers, head-numbers, foot-numbers, reserved-numbers, late-numbers, rows, foot, late, chain}
+use Rattle.frame.specs.Given.{otherMagic, otherMajor, otherSize, moreFlags, headNumbers, footNumbers, remainingNumbers, size-numbers, foot-numbers, reserved-numbers, remaining-numbers, rows, foot, remaining, chain}
+
+abbrev afterNumbers : List ℕ
+afterNumbers = footNumbers ++ (36 ∷ remainingNumbers)
 
 module _ (f : List ℕ) where
-  afterNumbers : List ℕ
-  afterNumbers = 6 ∷ 7 ∷ 8 ∷ 9 ∷ 36 ∷ 10 ∷ 11 ∷ 12 ∷ 13 ∷ 14 ∷ 15 ∷ []
-
-  after-numbers : Numbers afterNumbers (foot f ⊳ reservedCheck (rows f) ⊳ late f)
-  unfolding afterNumbers
+  after-numbers : Numbers afterNumbers (foot f ⊳ reservedCheck (rows f) ⊳ remaining f)
   after-numbers =
       numbers-then afterNumbers _ _ (numbers-more footNumbers afterNumbers refl (foot-numbers f))
-      (numbers-then afterNumbers _ _ (numbers-more (36 ∷ []) afterNumbers refl (reserved-numbers f)) (numbers-more lateNumbers afterNumbers refl (late-numbers f)))
+      (numbers-then afterNumbers _ _ (numbers-more (36 ∷ []) afterNumbers refl (reserved-numbers f)) (numbers-more remainingNumbers afterNumbers refl (remaining-numbers f)))
 
   -- the header's refusal is opening's exactly if the size is right
   head-first : (r : Refusal) → listed (numberOf r) headNumbers ≡ true → (fileCheck f ≡ Check.Bad r) ↔ ((sizeCheck (length f) ≡ Check.Fine) × (headCheck f ≡ Check.Bad r))
-  unfolding afterNumbers
   head-first r h =
-      let a = by-second (sizeCheck (length f)) _ r (never (1 ∷ []) (size-numbers (length f)) r (none-listed headNumbers (1 ∷ []) (numberOf r) refl h)) in
-      let b = by-first (headCheck f) _ r (never afterNumbers after-numbers r (none-listed headNumbers afterNumbers (numberOf r) refl h)) in
+      let a = by-second (sizeCheck (length f)) _ r (not-given (1 ∷ []) (size-numbers (length f)) r (none-listed headNumbers (1 ∷ []) (numberOf r) refl h)) in
+      let b = by-first (headCheck f) _ r (not-given afterNumbers after-numbers r (none-listed headNumbers afterNumbers (numberOf r) refl h)) in
       (λ e. let x = a .0 (sym (chain f) ∙ e) in (x .0, b .0 (x .1)), λ x. chain f ∙ a .1 (x .0, b .1 (x .1)))
 
 -- ---- the header's tests in numbers
@@ -135,7 +130,7 @@ module _ (f : List ℕ) where
       let a = by-second magicRule (majorRule ⊳ (sizeRule ⊳ flagsRule)) Refusal.Major (refuse-own Refusal.Magic Refusal.Major (otherMagic f) (λ e. omega arith)) in
       let rest : List ℕ = 4 ∷ 5 ∷ [] in
       let later = numbers-then rest sizeRule flagsRule (numbers-refuse rest Refusal.HeaderSize (otherSize f) refl) (numbers-refuse rest Refusal.Flags (moreFlags f) refl) in
-      let b = by-first majorRule (sizeRule ⊳ flagsRule) Refusal.Major (never rest later Refusal.Major refl) in (
+      let b = by-first majorRule (sizeRule ⊳ flagsRule) Refusal.Major (not-given rest later Refusal.Major refl) in (
         λ e.
             let x = first .0 e in
             let y = a .0 (x .1) in

@@ -1,7 +1,7 @@
 pub mod Kind
 pub mod Frame
 pub mod Open
-pub mod Numbers
+pub mod Given
 pub mod Header
 pub mod Reserved
 pub mod Layout

@@ -1,7 +1,7 @@
 -- Sections of the reserved range: when opening gives 36, exactly, and that no file with such a section opens.
 use mathlib.Core.Path.{_≡_, refl, sym, ap, subst, _∙_}
 use mathlib.Core.Logic.{_↔_, _⊎_, inl, inr, ⊎-elim}
-use Prim.Native.Nat.{ℕ, zero, suc, _+_, _≤_, _<_}
+use Prim.Native.Nat.{ℕ, zero, suc, _+_, _<_}
 use native.Mathlib.Nat.{zero-add}
 use native.Mathlib.Decide.{decLt}
 use native.Mathlib.Omega.{arith}
@@ -12,13 +12,13 @@ use Rattle.refusal.specs.declared.Refusal.{Refusal}
 use Rattle.refusal.specs.declared.Check.{Check}
 use Rattle.refusal.specs.Refusal.{numberOf}
 use Rattle.refusal.specs.Check.{_⊳_}
-use Rattle.refusal.specs.Check.Laws.{fine-parts, fine-both, bad-then, then-assoc, by-first, by-second, good-parts, good-fine, listed, Numbers, numbers-then, numbers-more, never}
+use Rattle.refusal.specs.Check.Laws.{fine-parts, fine-both, bad-then, then-assoc, by-first, by-second, good-parts, good-fine, listed, Numbers, numbers-then, numbers-more, not-given}
 use Rattle.frame.specs.declared.Row.{Row}
 use Rattle.frame.specs.Kind as kind
 use Rattle.frame.specs.Frame.{rowsOf, bodyOf, eachRow, kindGood, reservedCheck, sizeCheck, headCheck, tailCheck, sumCheck}
-use Rattle.frame.specs.Frame.Laws.{Table, table-parts, table-made, reserved-kinds, each-good, each-bad}
+use Rattle.frame.specs.Frame.Laws.{Table, table-parts, table-made, ReservedKind, reserved-kinds, each-good, each-bad}
 use Rattle.frame.specs.Open.{fileCheck}
-use Rattle.frame.specs.Numbers.{headNumbers, footNumbers, lateNumbers, size-numbers, head-numbers, foot-numbers, late-numbers, rows, foot, late, chain}
+use Rattle.frame.specs.Given.{headNumbers, footNumbers, remainingNumbers, earlyNumbers, size-numbers, head-numbers, foot-numbers, remaining-numbers, rows, foot, remaining, chain}
 
 -- the kind of entry j; 0 where there is none
 unfoldable pub kindAt : List Row → ℕ → ℕ
@@ -26,35 +26,31 @@ kindAt [] j = 0
 kindAt (r ∷ rs) zero = r .kind
 kindAt (r ∷ rs) (suc j) = kindAt rs j
 
--- "0x0007 to 0x00FF"
-abbrev pub Reserved : ℕ → Type 0
-Reserved k = (0x0007 ≤ k) × (k ≤ 0x00FF)
-
 -- entry j is "the first such entry"
 pub record FirstReserved (rs : List Row) (j : ℕ) : Type 0 where
-  pub here : Reserved (kindAt rs j)
-  pub before : (i : ℕ) → i < j → Reserved (kindAt rs i) → ⊥
+  pub here : ReservedKind (kindAt rs j)
+  pub before : (i : ℕ) → i < j → ReservedKind (kindAt rs i) → ⊥
 
-abbrev told : List Row → ℕ → Check
-told = eachRow kindGood Refusal.Reserved
+abbrev rule : List Row → ℕ → Check
+rule = eachRow kindGood Refusal.Reserved
 
-kind-bad : (r : Row) → Reserved (r .kind) → kindGood r ≡ false
+kind-bad : (r : Row) → ReservedKind (r .kind) → kindGood r ≡ false
 kind-bad r h = ap not (reserved-kinds (r .kind) .1 h)
 
-kind-good : (r : Row) → kindGood r ≡ true → Reserved (r .kind) → ⊥
+kind-good : (r : Row) → kindGood r ≡ true → ReservedKind (r .kind) → ⊥
 kind-good r g h = let q : _≡_ {A = ℕ} 0 1 = cc (g, kind-bad r h) in omega arith
 
-kind-found : (r : Row) → kindGood r ≡ false → Reserved (r .kind)
+kind-found : (r : Row) → kindGood r ≡ false → ReservedKind (r .kind)
 kind-found r e = reserved-kinds (r .kind) .0 (go (kind.reserved (r .kind)) e)
   where
     go : (x : Bool) → not x ≡ false → x ≡ true
     go true e = refl
     go false e = let q : _≡_ {A = ℕ} 0 1 = cc in absurd (omega arith)
 
--- rows the first of which is entry k: there is no such entry and they are fine, or there is a first and it is told
+-- rows the first of which is entry k: there is no such entry and they are fine, or there is a first and it is rule
 abbrev Scanned : List Row → ℕ → Type 0
 Scanned rs k =
-    (((i : ℕ) → Reserved (kindAt rs i) → ⊥) × (told rs k ≡ Check.Fine)) ⊎ ((j : ℕ) × FirstReserved rs j × (told rs k ≡ Check.Bad (Refusal.Reserved (k + j))))
+    (((i : ℕ) → ReservedKind (kindAt rs i) → ⊥) × (rule rs k ≡ Check.Fine)) ⊎ ((j : ℕ) × FirstReserved rs j × (rule rs k ≡ Check.Bad (Refusal.Reserved (k + j))))
 
 scan : (rs : List Row) (k : ℕ) → Scanned rs k
 unfolding kindAt eachRow
@@ -64,17 +60,17 @@ scan (r ∷ rs) k = go (kindGood r) refl (scan rs (k + 1))
     at : {i j : ℕ} → i ≡ j → Check.Bad (Refusal.Reserved i) ≡ Check.Bad (Refusal.Reserved j)
     at e = ap (λ (i : ℕ). Check.Bad (Refusal.Reserved i)) e
 
-    none : kindGood r ≡ true → ((i : ℕ) → Reserved (kindAt rs i) → ⊥) → (i : ℕ) → Reserved (kindAt (r ∷ rs) i) → ⊥
+    none : kindGood r ≡ true → ((i : ℕ) → ReservedKind (kindAt rs i) → ⊥) → (i : ℕ) → ReservedKind (kindAt (r ∷ rs) i) → ⊥
     none g n zero h = kind-good r g h
     none g n (suc i) h = n i h
 
-    first : kindGood r ≡ true → (j : ℕ) → FirstReserved rs j → (i : ℕ) → i < suc j → Reserved (kindAt (r ∷ rs) i) → ⊥
+    first : kindGood r ≡ true → (j : ℕ) → FirstReserved rs j → (i : ℕ) → i < suc j → ReservedKind (kindAt (r ∷ rs) i) → ⊥
     first g j t zero l h = kind-good r g h
     first g j t (suc i) l h = t .before i (omega arith) h
 
     go : (t : Bool) → kindGood r ≡ t → Scanned rs (k + 1) → Scanned (r ∷ rs) k
     go true g s =
-        let on : told (r ∷ rs) k ≡ told rs (k + 1) = each-good kindGood Refusal.Reserved r rs k g in
+        let on : rule (r ∷ rs) k ≡ rule rs (k + 1) = each-good kindGood Refusal.Reserved r rs k g in
         ⊎-elim (λ x. inl (none g (x .0), on ∙ x .1)) (λ x. inr (suc (x .0), record { here = x .1 .here; before = first g (x .0) (x .1) }, on ∙ x .2 ∙ at (omega arith))) s
     go false g s = inr (0, record { here = kind-found r g; before = λ i l. absurd (omega arith) }, each-bad kindGood Refusal.Reserved r rs k g ∙ at (omega arith))
 
@@ -89,28 +85,19 @@ first-once rs i j s t =
       ]
     ]
 
--- rule 36: entry j is told exactly if it is the first; the rule is fine exactly if there is none
+-- rule 36: entry j is rule exactly if it is the first; the rule is fine exactly if there is none
 module _ (rs : List Row) where
-  rule-told : (j : ℕ) → (reservedCheck rs ≡ Check.Bad (Refusal.Reserved j)) ↔ FirstReserved rs j
-  rule-told j = (
+  rule-rule : (j : ℕ) → (reservedCheck rs ≡ Check.Bad (Refusal.Reserved j)) ↔ FirstReserved rs j
+  rule-rule j = (
     λ e. ⊎-elim (λ x. let z : _≡_ {A = ℕ} 0 1 = cc (x .1, e) in absurd (omega arith)) (λ x. let same : 0 + x .0 ≡ j = cc (x .2, e) in subst (FirstReserved rs) (sym (zero-add (x .0)) ∙ same) (x .1)) (scan rs 0),
     λ t.
         ⊎-elim (λ x. absurd (x .0 j (t .here)))
         (λ x. x .2 ∙ ap (λ (i : ℕ). Check.Bad (Refusal.Reserved i)) (zero-add (x .0) ∙ first-once rs (x .0) j (x .1) t)) (scan rs 0),
   )
 
-  pub rule-fine : reservedCheck rs ≡ Check.Fine → (i : ℕ) → Reserved (kindAt rs i) → ⊥
-  rule-fine e = ⊎-elim (λ x. x .0) (λ x. let z : _≡_ {A = ℕ} 0 1 = cc (x .2, e) in absurd (omega arith)) (scan rs 0)
-
   -- a first, of any
-  some-first : (i : ℕ) → Reserved (kindAt rs i) → (j : ℕ) × (j ≤ i) × FirstReserved rs j
-  some-first i h = ⊎-elim (λ x. absurd (x .0 i h)) (λ x. go (x .0) (x .1)) (scan rs 0)
-    where
-      go : (j : ℕ) → FirstReserved rs j → (j : ℕ) × (j ≤ i) × FirstReserved rs j
-      go j t = elim (decLt i j) [
-        | yes l ↦ absurd (t .before i l h)
-        | no l ↦ (j, omega arith, t)
-      ]
+  some-first : (i : ℕ) → ReservedKind (kindAt rs i) → (j : ℕ) × FirstReserved rs j
+  some-first i h = ⊎-elim (λ x. absurd (x .0 i h)) (λ x. (x .0, x .1)) (scan rs 0)
 
 -- ---- a file
 
@@ -126,10 +113,6 @@ pub record Tabled (f : List ℕ) : Type 0 where
 pub record ReservedAt (f : List ℕ) (j : ℕ) : Type 0 where
   pub tabled : Tabled f
   pub first : FirstReserved (rowsOf (bodyOf f)) j
-
--- the numbers of rules 1 to 9
-abbrev pub earlyNumbers : List ℕ
-earlyNumbers = 1 ∷ 2 ∷ 3 ∷ 4 ∷ 5 ∷ 6 ∷ 7 ∷ 8 ∷ 9 ∷ []
 
 module _ (f : List ℕ) where
   early : Check
@@ -154,25 +137,28 @@ module _ (f : List ℕ) where
       numbers-then earlyNumbers _ _ (numbers-more (1 ∷ []) earlyNumbers refl (size-numbers (length f)))
       (numbers-then earlyNumbers _ _ (numbers-more headNumbers earlyNumbers refl (head-numbers f)) (numbers-more footNumbers earlyNumbers refl (foot-numbers f)))
 
-  in-order : fileCheck f ≡ early ⊳ reservedCheck (rows f) ⊳ late f
+  parts-order : fileCheck f ≡ early ⊳ reservedCheck (rows f) ⊳ remaining f
   unfolding early
-  in-order =
-      chain f ∙ sym (then-assoc (sizeCheck (length f)) (headCheck f ⊳ foot f) _ ∙ ap (λ (c : Check). sizeCheck (length f) ⊳ c) (then-assoc (headCheck f) (foot f) (reservedCheck (rows f) ⊳ late f)))
+  parts-order =
+      chain f ∙ sym (then-assoc (sizeCheck (length f)) (headCheck f ⊳ foot f) _ ∙ ap (λ (c : Check). sizeCheck (length f) ⊳ c) (then-assoc (headCheck f) (foot f) (reservedCheck (rows f) ⊳ remaining f)))
 
   -- 36 at j, exactly
   pub reserved-exactly : (j : ℕ) → (fileCheck f ≡ Check.Bad (Refusal.Reserved j)) ↔ ReservedAt f j
   reserved-exactly j =
-      let a = by-second early _ (Refusal.Reserved j) (never earlyNumbers early-numbers (Refusal.Reserved j) refl) in
-      let b = by-first (reservedCheck (rows f)) (late f) (Refusal.Reserved j) (never lateNumbers (late-numbers f) (Refusal.Reserved j) refl) in (
-        λ e. let x = a .0 (sym in-order ∙ e) in record { tabled = tabled-parts (x .0); first = rule-told (rows f) j .0 (b .0 (x .1)) },
-        λ t. in-order ∙ a .1 (tabled-made (t .tabled), b .1 (rule-told (rows f) j .1 (t .first))),
+      let a = by-second early _ (Refusal.Reserved j) (not-given earlyNumbers early-numbers (Refusal.Reserved j) refl) in
+      let b = by-first (reservedCheck (rows f)) (remaining f) (Refusal.Reserved j) (not-given remainingNumbers (remaining-numbers f) (Refusal.Reserved j) refl) in (
+        λ e. let x = a .0 (sym parts-order ∙ e) in record { tabled = tabled-parts (x .0); first = rule-rule (rows f) j .0 (b .0 (x .1)) },
+        λ t. parts-order ∙ a .1 (tabled-made (t .tabled), b .1 (rule-rule (rows f) j .1 (t .first))),
       )
 
   -- a file with a section of the range is refused: by one of rules 1 to 9, or by 36 at the first such section
-  pub reserved-refused : (i : ℕ) → Reserved (kindAt (rowsOf (bodyOf f)) i)
-      → (r : Refusal) × (fileCheck f ≡ Check.Bad r) × ((listed (numberOf r) earlyNumbers ≡ true) ⊎ ((j : ℕ) × (j ≤ i) × (r ≡ Refusal.Reserved j)))
+  pub reserved-refused : (i : ℕ) → ReservedKind (kindAt (rowsOf (bodyOf f)) i)
+      → (r : Refusal) × (fileCheck f ≡ Check.Bad r) × ((listed (numberOf r) earlyNumbers ≡ true) ⊎ ((j : ℕ) × ReservedAt f j × (r ≡ Refusal.Reserved j)))
   reserved-refused i h = go early refl
     where
-      go : (c : Check) → early ≡ c → (r : Refusal) × (fileCheck f ≡ Check.Bad r) × ((listed (numberOf r) earlyNumbers ≡ true) ⊎ ((j : ℕ) × (j ≤ i) × (r ≡ Refusal.Reserved j)))
-      go (Check.Bad r) e = (r, in-order ∙ bad-then _ e, inl (early-numbers r e))
-      go Check.Fine e = let (j, l, t) = some-first (rows f) i h in (Refusal.Reserved j, reserved-exactly j .1 (record { tabled = tabled-parts e; first = t }), inr (j, l, refl))
+      go : (c : Check) → early ≡ c → (r : Refusal) × (fileCheck f ≡ Check.Bad r) × ((listed (numberOf r) earlyNumbers ≡ true) ⊎ ((j : ℕ) × ReservedAt f j × (r ≡ Refusal.Reserved j)))
+      go (Check.Bad r) e = (r, parts-order ∙ bad-then _ e, inl (early-numbers r e))
+      go Check.Fine e =
+          let (j, t) = some-first (rows f) i h in
+          let at : ReservedAt f j = record { tabled = tabled-parts e; first = t } in
+          (Refusal.Reserved j, reserved-exactly j .1 at, inr (j, at, refl))

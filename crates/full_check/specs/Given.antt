@@ -10,10 +10,10 @@ use Rattle.refusal.specs.declared.Refusal.{Refusal}
 use Rattle.refusal.specs.declared.Check.{Check}
 use Rattle.refusal.specs.Refusal.{numberOf}
 use Rattle.refusal.specs.Check.{_⊳_, refuse}
-use Rattle.refusal.specs.Check.Laws.{bad-then, fine-then, by-first, by-second, listed, none-listed, Numbers, numbers-fine, numbers-bad, numbers-refuse, numbers-then, numbers-pick, numbers-more, never}
+use Rattle.refusal.specs.Check.Laws.{bad-then, fine-then, by-first, by-second, listed, none-listed, Numbers, numbers-fine, numbers-bad, numbers-refuse, numbers-then, numbers-pick, numbers-more, not-given}
 use Rattle.frame.specs.declared.Row.{Row}
 use Rattle.frame.specs.Frame.{rowsOf, flagsOf, bodyOf, recordOf}
-use Rattle.frame.specs.Numbers.{openingNumbers, opening-numbers}
+use Rattle.frame.specs.Given.{openingNumbers, opening-numbers}
 use Rattle.frame.specs.Open.{Known, knownOf, bytesAt, fileCheck}
 use Rattle.degrees.specs.Degrees.{groupAt}
 use Rattle.group.specs.Group.{Decoded, good, bad, isGood, groupOf}
@@ -127,7 +127,7 @@ module _ (f : List ℕ) where
   -- a refusal of opening is the full check's
   pub full-opening : (r : Refusal) → listed (numberOf r) openingNumbers ≡ true → (fullCheck f ≡ Check.Bad r) ↔ (fileCheck f ≡ Check.Bad r)
   unfolding fullCheck
-  full-opening r h = by-first (fileCheck f) (sums ⊳ edges) r (never fullNumbers rest-numbers r (none-listed openingNumbers fullNumbers (numberOf r) refl h))
+  full-opening r h = by-first (fileCheck f) (sums ⊳ edges) r (not-given fullNumbers rest-numbers r (none-listed openingNumbers fullNumbers (numberOf r) refl h))
 
   -- opening and 22 pass, and of all groups group i is the first with a fault, of which f is the first
   pub record FaultFirst (i : ℕ) (fault : Fault) : Type 0 where

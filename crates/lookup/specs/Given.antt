@@ -1,5 +1,5 @@
 -- Which refusals a lookup gives after opening, and when it tells a fault of the group, 14 at it or 19, exactly.
-use mathlib.Core.Path.{_≡_, refl, sym, ap, _∙_}
+use mathlib.Core.Path.{_≡_, refl, ap, _∙_}
 use mathlib.Core.Logic.{_↔_, _⊎_, inl, inr, ⊎-elim}
 use Prim.Native.Nat.{ℕ, _+_, _/_, _≤_, _<_}
 use native.Mathlib.Decide.{decLt}
@@ -7,14 +7,14 @@ use native.Mathlib.Omega.{arith}
 use mathlib.Core.List.{List, [], _∷_}
 use mathlib.Core.Bool.{Bool, true, false, not, _&&_, _||_}
 use lib.ListN.{length}
-use lib.Dec.{ltb, eqb}
-use borrow.Author.Tests.{ltb-false, lt-ltb, le-ltb, eq-eqb, not-true}
+use lib.Dec.{ltb}
+use borrow.Author.Tests.{ltb-false, lt-ltb, le-ltb, not-true}
 use Rattle.base.specs.Over.{part}
 use Rattle.refusal.specs.declared.Refusal.{Refusal}
 use Rattle.refusal.specs.declared.Check.{Check}
 use Rattle.refusal.specs.Refusal.{numberOf}
 use Rattle.refusal.specs.Check.{_⊳_, refuse}
-use Rattle.refusal.specs.Check.Laws.{fine-parts, fine-both, bad-then, fine-then, by-first, by-second, refuse-bad, refuse-fine, refuse-own, either-parts, and-parts, listed, Numbers, numbers-fine, numbers-bad, numbers-refuse, numbers-then, numbers-more, never}
+use Rattle.refusal.specs.Check.Laws.{fine-parts, fine-both, bad-then, fine-then, by-first, by-second, refuse-bad, refuse-fine, refuse-own, either-parts, and-parts, listed, Numbers, numbers-fine, numbers-bad, numbers-refuse, numbers-then, numbers-more, not-given}
 use Rattle.frame.specs.Open.{Known, offsetAt}
 use Rattle.index.specs.declared.keys.Found.{Found}
 use Rattle.index.specs.Find.{findIn}
@@ -212,8 +212,8 @@ module _ (full : Bool) (rooms : Rooms) (k : Known) where
         told : (j : ℕ) → lookCheck full rooms k j (length (partnersAt full rooms k j)) ≡ Check.Bad (Refusal.Offset i) → (misses j ≡ true) × (j ≡ i)
         told j e =
             let r : Refusal = Refusal.Offset i in
-            let a = by-first (refuse (Refusal.Offset j) (misses j) ⊳ groupCheck j (groupOf (group j))) _ r (never (19 ∷ 20 ∷ []) (late-numbers j (length (partnersAt full rooms k j))) r refl) .0 e in
-            let b = by-first (refuse (Refusal.Offset j) (misses j)) (groupCheck j (groupOf (group j))) r (never faultNumbers (group-numbers j (groupOf (group j))) r refl) .0 a in
+            let a = by-first (refuse (Refusal.Offset j) (misses j) ⊳ groupCheck j (groupOf (group j))) _ r (not-given (19 ∷ 20 ∷ []) (late-numbers j (length (partnersAt full rooms k j))) r refl) .0 e in
+            let b = by-first (refuse (Refusal.Offset j) (misses j)) (groupCheck j (groupOf (group j))) r (not-given faultNumbers (group-numbers j (groupOf (group j))) r refl) .0 a in
             of-rule j (misses j) b
 
         found : ((j : ℕ) × (c : ℕ) × (findIn (k .keys) (k .keycount) key ≡ Found.At j c) × ((misses j ≡ true) × (j ≡ i))) → MisplacedIn k key i
@@ -235,7 +235,7 @@ module _ (full : Bool) (rooms : Rooms) (k : Known) where
         of-rule j false e = let z : _≡_ {A = ℕ} 0 1 = cc in absurd (omega arith)
 
         not-group : (j : ℕ) (w : Decoded) → groupCheck j w ≡ Check.Bad (Refusal.Degrees i) → ⊥
-        not-group j w = never faultNumbers (group-numbers j w) (Refusal.Degrees i) refl
+        not-group j w = not-given faultNumbers (group-numbers j w) (Refusal.Degrees i) refl
 
         told : (j : ℕ) → lookCheck full rooms k j (length (partnersAt full rooms k j)) ≡ Check.Bad (Refusal.Degrees i) → Here j
         told j e =

@@ -1,4 +1,4 @@
-// Rules 8 to 12, with 36, of a file's last bytes, and rules 1 to 12 of a file.
+// Rules 8 to 12, with 36, of a file's last bytes, and rules 1 to 12, with 36, of a file.
 ghost use mathlib.Core.Path.{_≡_};
 ghost use mathlib.Core.Bool.{not};
 ghost use Prim.Native.Nat.{_-_, _≤_};

@@ -1,6 +1,6 @@
 -- "Say what is wrong with a group": each number of a group's faults is given by every call on the file exactly where that fault is the
 -- first in the order of checks, at the byte inside the group, with the group beside it.
-use mathlib.Core.Path.{_≡_, refl, sym, ap, _∙_}
+use mathlib.Core.Path.{_≡_, refl, sym, _∙_}
 use mathlib.Core.Logic.{_↔_, Iff·trans}
 use Prim.Native.Nat.{ℕ, _+_, _/_, _<_}
 use native.Mathlib.Omega.{arith}
@@ -10,13 +10,12 @@ use Rattle.refusal.specs.declared.Refusal.{Refusal}
 use Rattle.refusal.specs.declared.Check.{Check}
 use Rattle.refusal.specs.Refusal.{numberOf, isGone}
 use Rattle.refusal.specs.Refusal.Laws.{not-gone}
-use Rattle.refusal.specs.Check.Laws.{listed}
 use Rattle.frame.specs.declared.Opened.{Opened}
 use Rattle.frame.specs.declared.Opening.{Opening}
 use Rattle.frame.specs.Frame.{rowsOf, bodyOf, recordOf}
 use Rattle.frame.specs.Open.{Known, keyAt, knownOf, bytesAt, recordGood, fileCheck, openOf}
 use Rattle.frame.specs.Open.Laws.{opens-fine, opens-refused}
-use Rattle.frame.specs.Numbers.{openingNumbers, opening-numbers}
+use Rattle.frame.specs.Given.{openingNumbers, opening-numbers}
 use Rattle.index.specs.declared.keys.Found.{Found}
 use Rattle.index.specs.Find.{findIn}
 use Rattle.index.specs.Find.Laws.{find-sound, find-complete}

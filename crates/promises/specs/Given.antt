@@ -12,7 +12,7 @@ use Rattle.refusal.specs.Refusal.Laws.{told-once}
 use Rattle.frame.specs.declared.Opening.{Opening}
 use Rattle.refusal.specs.Check.Laws.{listed}
 use Rattle.frame.specs.Open.{fileCheck, openOf}
-use Rattle.frame.specs.Numbers.{openingNumbers}
+use Rattle.frame.specs.Given.{openingNumbers}
 use Rattle.frame.specs.Open.Laws.{opens-refused}
 use Rattle.lookup.specs.Lookup.{Rooms, refused, lookOf}
 use Rattle.lookup.specs.Given.{lookNumbers}
@@ -75,7 +75,7 @@ checked-is f r = (checked-refused f r, checked-bad f r)
 not-room : (r : Refusal) → listed (numberOf r) openingNumbers ≡ true → numberOf r ≡ 20 → ⊥
 not-room r o e = let z : _≡_ {A = ℕ} 0 1 = cc in omega arith
 
--- a refusal of the frame or of the keys is every call's: its number is opening's, and no lookup's after it
+-- a refusal of opening whose number no lookup gives after it, so every one but 14, is every call's
 pub every : (f : List ℕ) (r : Refusal) → listed (numberOf r) openingNumbers ≡ true → listed (numberOf r) lookNumbers ≡ false → {A : Type 0} → (fileCheck f ≡ Check.Bad r) ↔ A → Every f (numberOf r) (placeOf r) (besideOf r) A
 every f r o l is =
     let full = Iff·trans (full-opening f r o) is in record {

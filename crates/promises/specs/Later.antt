@@ -1,8 +1,8 @@
 -- Demand 3, what is not skipped: another major version, an unassigned flag bit, a section of a reserved kind and an unknown tag are
 -- refused by their own numbers, by every call that looks at them, exactly where they are the first fault in the order of checks.
-use mathlib.Core.Path.{_≡_, refl, ap, _∙_}
+use mathlib.Core.Path.{_≡_, refl, ap}
 use mathlib.Core.Logic.{_⊎_, ⊎-elim}
-use Prim.Native.Nat.{ℕ, _≤_}
+use Prim.Native.Nat.{ℕ}
 use native.Mathlib.Omega.{arith}
 use mathlib.Core.List.{List}
 use mathlib.Core.Bool.{true, false}
@@ -13,11 +13,12 @@ use Rattle.refusal.specs.Check.Laws.{listed, none-listed, all-listed}
 use Rattle.frame.specs.declared.Opened.{Opened}
 use Rattle.frame.specs.declared.Opening.{Opening}
 use Rattle.frame.specs.Frame.{rowsOf, bodyOf}
+use Rattle.frame.specs.Frame.Laws.{ReservedKind}
 use Rattle.frame.specs.Open.{openOf}
 use Rattle.frame.specs.Open.Laws.{opens-refused}
-use Rattle.frame.specs.Numbers.{openingNumbers}
+use Rattle.frame.specs.Given.{earlyNumbers, openingNumbers}
 use Rattle.frame.specs.Header.{OtherMajor, UnassignedFlag, major-exactly, flags-exactly}
-use Rattle.frame.specs.Reserved.{kindAt, Reserved, ReservedAt, earlyNumbers, reserved-exactly, reserved-refused}
+use Rattle.frame.specs.Reserved.{kindAt, ReservedAt, reserved-exactly, reserved-refused}
 use Rattle.group.specs.declared.fault.Flaw.{Flaw}
 use Rattle.lookup.specs.Given.{lookNumbers}
 use Rattle.promises.specs.Given.{Every, every}
@@ -39,15 +40,16 @@ unassigned-flag f by = every f Refusal.Flags refl refl (flags-exactly f by)
 pub reserved-kind : (f : List ℕ) (j : ℕ) → Every f 36 j 0 (ReservedAt f j)
 reserved-kind f j = every f (Refusal.Reserved j) refl refl (reserved-exactly f j)
 
--- "an old reader must stop there": entry i is of such a kind, and no call on the file answers, whatever the minor version. Each gives
--- the same refusal: one of 1 to 9, or 36 at the first such entry
-pub record Stops (f : List ℕ) (i : ℕ) : Type 0 where
+-- "an old reader must stop there": none of these calls answers, and each gives the same refusal, one of 1 to 9, or 36 at the first
+-- such entry
+pub record Stops (f : List ℕ) : Type 0 where
   pub refusal : Refusal
-  pub told : (listed (numberOf refusal) earlyNumbers ≡ true) ⊎ ((j : ℕ) × (j ≤ i) × (refusal ≡ Refusal.Reserved j))
+  pub told : (listed (numberOf refusal) earlyNumbers ≡ true) ⊎ ((j : ℕ) × ReservedAt f j × (refusal ≡ Refusal.Reserved j))
   pub each : Every f (numberOf refusal) (placeOf refusal) (besideOf refusal) (Unit {0})
   pub closed : (o : Opened) → openOf f ≡ Opening.Good o → ⊥
 
-pub stops : (f : List ℕ) (i : ℕ) → Reserved (kindAt (rowsOf (bodyOf f)) i) → Stops f i
+-- of every file with such an entry, whatever its minor version
+pub stops : (f : List ℕ) (i : ℕ) → ReservedKind (kindAt (rowsOf (bodyOf f)) i) → Stops f
 stops f i h =
     let (r, e, t) = reserved-refused f i h in
     let of-opening : listed (numberOf r) openingNumbers ≡ true = ⊎-elim (all-listed earlyNumbers openingNumbers (numberOf r) refl) (λ x. ap (λ (q : Refusal). listed (numberOf q) openingNumbers) (x .2)) t in

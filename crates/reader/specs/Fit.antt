@@ -1,6 +1,6 @@
 -- What rules 1 to 12 and 36 give rules 13 to 15: sections that lie within the file, and lengths that fit the counts.
 use mathlib.Core.Path.{_≡_, refl, sym, ap, _∙_}
-use Prim.Native.Nat.{ℕ, _+_, _-_, _*_, _/_, _≤_}
+use Prim.Native.Nat.{ℕ, _+_, _-_, _/_, _≤_}
 use native.Mathlib.Omega.{arith}
 use mathlib.Core.List.{List}
 use mathlib.Core.Bool.{Bool, true, false, not, _&&_}
@@ -15,7 +15,7 @@ use Rattle.frame.specs.declared.Opening.{Opening}
 use Rattle.frame.specs.Frame.{frameCheck}
 use Rattle.frame.specs.Kind as kind
 use Rattle.frame.specs.Open.{recordFrom, recordOf, framedFrom, framedOf, framing, bytesAt, knownOf, keysFrom, offsetsFrom, fencesGood, contentCheck, fileCheck, opening, openOf}
-use Rattle.frame.specs.Open.Laws.{Frames, frames-parts, Sized, frames-sized, frames-width, frames-within, width-bytes, good-framing, refused-framing}
+use Rattle.frame.specs.Open.Laws.{Frames, frames-parts, frames-sized, frames-width, frames-within, width-bytes, good-framing, refused-framing}
 
 pub record Fit (size : ℕ) (x : Framed) : Type 0 where
   pub keys : x .opened .keys .start + x .opened .keys .len ≤ size

@@ -8,10 +8,10 @@ use mathlib.Core.Bool.{Bool, true, false}
 use Rattle.refusal.specs.declared.Refusal.{Refusal}
 use Rattle.refusal.specs.declared.Check.{Check}
 use Rattle.refusal.specs.Refusal.{numberOf}
-use Rattle.refusal.specs.Check.Laws.{listed, numbers-bad, never}
+use Rattle.refusal.specs.Check.Laws.{listed, numbers-bad, not-given}
 use Rattle.frame.specs.declared.Opened.{Opened}
 use Rattle.frame.specs.declared.Opening.{Opening}
-use Rattle.frame.specs.Numbers.{openingNumbers, opening-numbers}
+use Rattle.frame.specs.Given.{openingNumbers, opening-numbers}
 use Rattle.frame.specs.Open.{knownOf, recordOf, recordGood, fileCheck, openOf}
 use Rattle.frame.specs.Open.Laws.{opens-fine, opens-record, opens-refused}
 use Rattle.group.specs.declared.fault.Fault.{Fault}
@@ -81,7 +81,7 @@ module _ (full : Bool) (rooms : Rooms) (key : ℕ) (f : List ℕ) where
   -- 19 of a file, and by a record; 14 by a record
   pub look-of-unsummed : (i : ℕ) → (lookOf full rooms key f ≡ refused (Refusal.Degrees i)) ↔ ((fileCheck f ≡ Check.Fine) × ((full ≡ true) × UnsummedIn (knownOf f (recordOf f)) key i))
   look-of-unsummed i =
-      Iff·trans (look-of-told (Refusal.Degrees i) (never openingNumbers (opening-numbers f) (Refusal.Degrees i) refl)) (both (look-unsummed full rooms (knownOf f (recordOf f)) key i))
+      Iff·trans (look-of-told (Refusal.Degrees i) (not-given openingNumbers (opening-numbers f) (Refusal.Degrees i) refl)) (both (look-unsummed full rooms (knownOf f (recordOf f)) key i))
 
   pub look-with-unsummed : (o : Opened) (i : ℕ) → (lookWith full rooms key f o ≡ refused (Refusal.Degrees i)) ↔ ((recordGood f o ≡ true) × ((full ≡ true) × UnsummedIn (knownOf f o) key i))
   look-with-unsummed o i =

@@ -1,7 +1,6 @@
 -- Two files that the second program made, checked in full and read out by the definitions; and damaged ones.
 use mathlib.Core.Path.{_≡_, refl}
-use Prim.Native.Nat.{ℕ}
-use mathlib.Core.List.{List, [], _∷_, _++_}
+use mathlib.Core.List.{[], _∷_, _++_}
 use lib.ListN.{set}
 use Rattle.codes.specs.Little.{leAt, leBytes}
 use Rattle.codes.specs.Ids.{beAt, beBytes, idAt, idBytes, halvesAt}

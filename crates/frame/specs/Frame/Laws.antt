@@ -11,7 +11,7 @@ use lib.ListN.{length, getD}
 use lib.Dec.{leb, eqb}
 use borrow.Author.Tests.{eqb-true, eqb-false, leb-true, eq-eqb, ne-eqb, le-leb, lt-leb, lt-ltb, ltb-true}
 use Rattle.base.specs.Pick.{pick}
-use Rattle.codes.specs.Little.{leAt, leBytes}
+use Rattle.codes.specs.Little.{leBytes}
 use Rattle.codes.specs.Little.Laws.{leAt-same}
 use Rattle.codes.specs.Ids.Laws.{halves-same}
 use Rattle.refusal.specs.declared.Refusal.{Refusal}
@@ -21,7 +21,7 @@ use Rattle.frame.specs.declared.Row.{Row}
 use Rattle.frame.specs.declared.Range.{Range}
 use Rattle.frame.specs.Kind as kind
 use Rattle.frame.specs.Kind.Laws.{numberAt, slot-found}
-use Rattle.frame.specs.Frame.{rowAt, nextAt, rowsFrom, endFrom, entryCount, rowsOf, endOf, keyCount, edgeCount, bitsOf, has, repeated, sectionOf, rangeOf, nowhere, rangeGood, ranges, all, nameGood, onceGood, kindsGood, fills, tableGood, eachRow, kindGood, codecGood, widthGood, sizesGood, presenceGood, countsGood, flagsOf, directionOf, headerIn, atMinor, headCheck, recordFrom, framedFrom}
+use Rattle.frame.specs.Frame.{rowAt, nextAt, rowsFrom, endFrom, entryCount, rowsOf, endOf, keyCount, edgeCount, bitsOf, has, repeated, sectionOf, rangeOf, rangeGood, ranges, all, nameGood, onceGood, kindsGood, fills, tableGood, eachRow, kindGood, codecGood, sizesGood, presenceGood, countsGood, flagsOf, directionOf, headerIn, atMinor, headCheck, recordFrom, framedFrom}
 
 -- the magic's number is that of its bytes
 pub magic-is : leBytes 8 kind.magic ≡ kind.magicBytes
@@ -191,8 +191,11 @@ fixed-kinds k = (
   λ h. fixed-low k (h .0) (h .1),
 )
 
--- the reserved range
-pub reserved-kinds : (k : ℕ) → (kind.reserved k ≡ true) ↔ ((0x0007 ≤ k) × (k ≤ 0x00FF))
+-- the reserved range: "0x0007 to 0x00FF"
+abbrev pub ReservedKind : ℕ → Type 0
+ReservedKind k = (0x0007 ≤ k) × (k ≤ 0x00FF)
+
+pub reserved-kinds : (k : ℕ) → (kind.reserved k ≡ true) ↔ ReservedKind k
 reserved-kinds k = (
   λ e. let p = and-parts (leb 7 k) (leb k 255) e in (leb-true 7 k (p .0), leb-true k 255 (p .1)),
   λ h. and-both (le-leb 7 k (h .0)) (le-leb k 255 (h .1)),
@@ -265,6 +268,10 @@ unfolding has
 kinds-some [] e = let h = kinds-keys [] e in let z : _≡_ {A = ℕ} 0 1 = cc in absurd (omega arith)
 kinds-some (r ∷ rs) e = omega arith
 
+-- an entry of a kind that is not read may have any name of at most 63 bytes, a reserved one too
+pub name-unread : (r : Row) → kind.fixed (r .kind) ≡ false → r .namelen ≤ 63 → nameGood r ≡ true
+name-unread r e h = rw (le-leb (r .namelen) 63 h, e)
+
 -- names have at most 63 bytes
 unfoldable pub Short : List Row → Type 0
 Short [] = Unit {0}
@@ -302,7 +309,7 @@ module _ (r : Row) (rs : List Row) (u : kind.unknown (r .kind) ≡ true) where
   codec-skipped = ap (λ (x : Bool). not x || eqb (r .codec) 0) (unknown-parts (r .kind) u .0)
 
   pub name-skipped : r .namelen ≤ 63 → nameGood r ≡ true
-  name-skipped h = rw (le-leb (r .namelen) 63 h, unknown-parts (r .kind) u .0)
+  name-skipped = name-unread r (unknown-parts (r .kind) u .0)
 
 -- ---- "minor u8, any"
 

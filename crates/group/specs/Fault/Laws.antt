@@ -8,7 +8,7 @@ use Rattle.codes.specs.declared.varint.Unread.{Unread}
 use Rattle.refusal.specs.declared.Refusal.{Refusal}
 use Rattle.refusal.specs.declared.Check.{Check}
 use Rattle.refusal.specs.Refusal.{numberOf, placeOf, besideOf}
-use Rattle.refusal.specs.Check.Laws.{listed, noneIn, none-listed, Numbers, never}
+use Rattle.refusal.specs.Check.Laws.{listed, noneIn, none-listed, Numbers, not-given}
 use Rattle.group.specs.declared.fault.Flaw.{Flaw}
 use Rattle.group.specs.declared.fault.Fault.{Fault}
 use Rattle.group.specs.Fault.{faultAt, flawOf, refusalOf, numberFor}
@@ -66,7 +66,7 @@ module _ (i : ℕ) (f : Fault) where
   fault-unlisted ns e = none-listed faultNumbers ns (numberOf (refusalOf i f)) e fault-listed
 
   pub fault-apart : (ns : List ℕ) {c : Check} → Numbers ns c → noneIn faultNumbers ns ≡ true → c ≡ Check.Bad (refusalOf i f) → ⊥
-  fault-apart ns n e = never ns n (refusalOf i f) (fault-unlisted ns e)
+  fault-apart ns n e = not-given ns n (refusalOf i f) (fault-unlisted ns e)
 
 -- a refusal tells one fault of one group
 pub fault-once : (i j : ℕ) (f g : Fault) → refusalOf i f ≡ refusalOf j g → (f ≡ g) × (i ≡ j)

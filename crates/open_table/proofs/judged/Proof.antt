@@ -1,5 +1,5 @@
 -- `table::judged` meets its contract.
-use mathlib.Core.Path.{_≡_, sym, ap, _∙_}
+use mathlib.Core.Path.{sym, ap, _∙_}
 use borrow.Author.Tests.{not-true, not-false}
 use Rattle.frame.specs.declared.Framing.{Framing}
 use Rattle.open_table.specs.Pass.Laws.{judged-missing, judged-reserved, judged-codec, judged-range, judged-good}

@@ -1,9 +1,8 @@
 -- `table::rows_framing` meets its contract. Invariant: what is noted of the entries so far, with what is still to come, is what the whole table says.
-use mathlib.Core.Path.{_≡_, refl, sym, ap, _∙_}
-use Prim.Native.Nat.{ℕ, _-_}
+use mathlib.Core.Path.{sym, _∙_}
+use Prim.Native.Nat.{_-_}
 use borrow.Author.Tests.{not-true, not-false}
 use mathlib.Core.Logic.{⊎-elim}
-use Rattle.open_table.specs.Pass.{ranged, coded}
 use Rattle.open_table.specs.Pass.Laws.{Passing, pass-few, pass-many, passing-start, passing-cut, passing-long, passing-skipped, passing-read, passing-stale, passing-unfilled, passing-ended}
 use Rattle.open_table.proofs.rows_framing.Statement.{statement}
 use Rattle.open_table.proofs.rows_framing.Tie as tie

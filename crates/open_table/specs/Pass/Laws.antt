@@ -1,6 +1,6 @@
 -- What the pass notes is what rules 9 to 11 and 36 ask.
 use mathlib.Core.Path.{_≡_, refl, sym, ap, ap₂, _∙_}
-use Prim.Native.Nat.{ℕ, zero, suc, _+_, _-_, _*_, _≤_, _<_}
+use Prim.Native.Nat.{ℕ, suc, _+_, _-_, _*_, _≤_, _<_}
 use native.Mathlib.Decide.{decLe, ℕ-discrete}
 use native.Mathlib.Nat.{add-zero, zero-add, sub-zero}
 use native.Mathlib.Omega.{arith}
@@ -15,7 +15,7 @@ use Rattle.codes.specs.Little.{leAt}
 use Rattle.refusal.specs.declared.Refusal.{Refusal}
 use Rattle.refusal.specs.declared.Check.{Check}
 use Rattle.refusal.specs.Check.{_⊳_, refuse}
-use Rattle.refusal.specs.Check.Laws.{then-assoc, and-parts}
+use Rattle.refusal.specs.Check.Laws.{and-parts}
 use Rattle.frame.specs.declared.Row.{Row}
 use Rattle.frame.specs.declared.Range.{Range}
 use Rattle.frame.specs.declared.Framed.{Framed}

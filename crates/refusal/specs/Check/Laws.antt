@@ -168,5 +168,5 @@ pub numbers-more : (ns ms : List ℕ) → allIn ns ms ≡ true → {c : Check} �
 numbers-more ns ms h n r e = all-listed ns ms (numberOf r) h (n r e)
 
 -- another number is never given
-pub never : (ns : List ℕ) {c : Check} → Numbers ns c → (r : Refusal) → listed (numberOf r) ns ≡ false → c ≡ Check.Bad r → ⊥
-never ns n r h e = let z : _≡_ {A = ℕ} 0 1 = cc (n r e, h) in omega arith
+pub not-given : (ns : List ℕ) {c : Check} → Numbers ns c → (r : Refusal) → listed (numberOf r) ns ≡ false → c ≡ Check.Bad r → ⊥
+not-given ns n r h e = let z : _≡_ {A = ℕ} 0 1 = cc (n r e, h) in omega arith

@@ -124,6 +124,8 @@ fn entries(file: &[u8]) -> Vec<Entry> {
 struct Case {
     entries: Vec<Entry>,
     minor: u8,
+    /// The lowest byte of the flags.
+    flags: u8,
     /// What is told if skipped kinds stand in place of the reserved ones.
     otherwise: Option<Refusal>,
 }
@@ -140,6 +142,7 @@ impl Case {
         Case {
             entries,
             minor: file[9],
+            flags: file[12],
             otherwise: told(&skipping),
         }
     }
@@ -246,7 +249,20 @@ fn place_sorts() -> Vec<Sort> {
             }));
         }
     }
+    sorts.extend(range_sorts());
     sorts
+}
+
+/// Kinds between the ends of the range.
+fn range_sorts() -> Vec<Sort> {
+    let kinds = [15, 16, 31, 32, 63, 64, 127, 128, 254];
+    let of_kind = |kind: u16| {
+        sort(format!("kind {kind:#06x}"), move |case, intended| {
+            let place = case.only(kind);
+            case.otherwise.is_none() && place.is_some_and(|place| intended == told_at(place))
+        })
+    };
+    kinds.map(of_kind).into()
 }
 
 /// Each kind at each place, with a fault of each number in an entry before it
@@ -299,8 +315,14 @@ fn form_sorts() -> Vec<Sort> {
     add("at minor 1", |case, _| case.minor == 1);
     add("at minor 200", |case, _| case.minor == 200);
     add("at minor 255", |case, _| case.minor == 255);
-    add("beside tombstones and fences", |case, _| {
-        (case.count(5), case.count(6)) == (1, 1)
+    add("in place of tombstones", |case, _| {
+        case.flags & 2 != 0 && (case.count(5), case.count(6)) == (0, 1)
+    });
+    add("in place of fences", |case, _| {
+        (case.count(5), case.count(6), case.count(256)) == (1, 0, 1)
+    });
+    add("in place of a property stream", |case, _| {
+        case.flags & 1 != 0 && (case.count(5), case.count(256)) == (1, 0)
     });
     add("as entry 63 of 64", |case, _| {
         case.reserved() == [63] && case.entries.len() == 64
@@ -330,26 +352,34 @@ fn several_sorts() -> Vec<Sort> {
     sorts
 }
 
-/// A reserved entry, and faults that are told after it. Those under 11 can be its
-/// own.
+/// A reserved entry, and faults that are told after it: each number; and at each
+/// place its own range, the counts, and no fault beside all kinds that are read.
 fn later_sorts() -> Vec<Sort> {
+    let number_of = |told: Option<Refusal>| told.map(|refusal| refusal.number);
     let mut sorts = Vec::new();
     for number in 10..=15 {
         sorts.push(sort(format!("36 and {number}"), move |case, intended| {
-            let number_of = |told: Option<Refusal>| told.map(|refusal| refusal.number);
             number_of(intended) == Some(36) && number_of(case.otherwise) == Some(number)
         }));
     }
     for (wanted, word) in SPOTS.into_iter().enumerate() {
-        let what = format!("a reserved {word} entry of a wrong range");
-        sorts.push(sort(what, move |case, intended| {
-            let reserved = case.reserved();
-            let [place] = reserved[..] else {
-                return false;
-            };
-            let own = case.entry_at_fault(11) == Some(place);
-            spot(case, place) == wanted && own && intended == told_at(place)
-        }));
+        let mut add = |what: &str, is: fn(&Case, usize) -> bool| {
+            let what = format!("a reserved {word} entry and {what}");
+            sorts.push(sort(what, move |case, intended| {
+                let reserved = case.reserved();
+                let [place] = reserved[..] else {
+                    return false;
+                };
+                spot(case, place) == wanted && intended == told_at(place) && is(case, place)
+            }));
+        };
+        add("its range", |case, place| {
+            case.entry_at_fault(11) == Some(place)
+        });
+        add("the counts", |case, _| case.entry_at_fault(12).is_some());
+        add("tombstones and fences", |case, _| {
+            case.otherwise.is_none() && (case.count(5), case.count(6)) == (1, 1)
+        });
     }
     sorts
 }

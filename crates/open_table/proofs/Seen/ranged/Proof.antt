@@ -1,5 +1,5 @@
 -- `table::Seen::ranged` meets its contract.
-use mathlib.Core.Path.{_≡_, sym, ap, _∙_}
+use mathlib.Core.Path.{sym, ap, _∙_}
 use Prim.Native.Nat.{_+_}
 use mathlib.Core.Bool.{Bool, not}
 use Rattle.open_table.specs.Pass.{firstBad, ranged}

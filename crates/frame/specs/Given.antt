@@ -1,8 +1,8 @@
--- Which numbers opening gives: the order of checks in parts, and the numbers of each.
+-- Which refusals opening gives: the order of checks in parts, and the numbers of each.
 use mathlib.Core.Path.{_≡_, refl, sym, _∙_}
 use Prim.Native.Nat.{ℕ, zero, suc, _+_, _-_, _/_}
-use mathlib.Core.List.{List, [], _∷_}
-use mathlib.Core.Bool.{Bool, true, false, not, _&&_, _||_}
+use mathlib.Core.List.{List, [], _∷_, _++_}
+use mathlib.Core.Bool.{Bool, true, not, _&&_, _||_}
 use lib.ListN.{length, getD}
 use lib.Dec.{ltb, eqb}
 use Rattle.codes.specs.Little.{leAt}
@@ -10,7 +10,7 @@ use Rattle.xxh3_spec.specs.Xxh3.{xxh3}
 use Rattle.refusal.specs.declared.Refusal.{Refusal}
 use Rattle.refusal.specs.declared.Check.{Check}
 use Rattle.refusal.specs.Refusal.{numberOf}
-use Rattle.refusal.specs.Check.{_⊳_, refuse}
+use Rattle.refusal.specs.Check.{_⊳_}
 use Rattle.refusal.specs.Check.Laws.{then-assoc, listed, Numbers, numbers-fine, numbers-bad, numbers-refuse, numbers-then, numbers-pick, numbers-more}
 use Rattle.frame.specs.declared.Row.{Row}
 use Rattle.frame.specs.Kind as kind
@@ -50,12 +50,15 @@ headNumbers = 2 ∷ 3 ∷ 4 ∷ 5 ∷ []
 abbrev pub footNumbers : List ℕ
 footNumbers = 6 ∷ 7 ∷ 8 ∷ 9 ∷ []
 
-abbrev pub lateNumbers : List ℕ
-lateNumbers = 10 ∷ 11 ∷ 12 ∷ 13 ∷ 14 ∷ 15 ∷ []
+abbrev pub remainingNumbers : List ℕ
+remainingNumbers = 10 ∷ 11 ∷ 12 ∷ 13 ∷ 14 ∷ 15 ∷ []
 
--- all that opening gives
+-- of rules 1 to 9, and all that opening gives
+abbrev pub earlyNumbers : List ℕ
+earlyNumbers = 1 ∷ (headNumbers ++ footNumbers)
+
 abbrev pub openingNumbers : List ℕ
-openingNumbers = 1 ∷ 2 ∷ 3 ∷ 4 ∷ 5 ∷ 6 ∷ 7 ∷ 8 ∷ 9 ∷ 36 ∷ 10 ∷ 11 ∷ 12 ∷ 13 ∷ 14 ∷ 15 ∷ []
+openingNumbers = earlyNumbers ++ (36 ∷ remainingNumbers)
 
 pub size-numbers : (n : ℕ) → Numbers (1 ∷ []) (sizeCheck n)
 unfolding sizeCheck
@@ -66,30 +69,30 @@ unfolding eachRow
 each-numbers ns good told h [] k = numbers-fine ns
 each-numbers ns good told h (r ∷ rs) k = numbers-pick ns (good r) _ _ (each-numbers ns good told h rs (k + 1)) (numbers-bad ns (told k) (h k))
 
-ranges-numbers : (limit : ℕ) (rs : List Row) (floor k : ℕ) → Numbers lateNumbers (ranges limit rs floor k)
+ranges-numbers : (limit : ℕ) (rs : List Row) (floor k : ℕ) → Numbers remainingNumbers (ranges limit rs floor k)
 unfolding ranges
-ranges-numbers limit [] floor k = numbers-fine lateNumbers
+ranges-numbers limit [] floor k = numbers-fine remainingNumbers
 ranges-numbers limit (r ∷ rs) floor k =
-    numbers-pick lateNumbers (rangeGood limit floor r) _ _ (ranges-numbers limit rs (r .start + r .len) (k + 1)) (numbers-bad lateNumbers (Refusal.Range k) refl)
+    numbers-pick remainingNumbers (rangeGood limit floor r) _ _ (ranges-numbers limit rs (r .start + r .len) (k + 1)) (numbers-bad remainingNumbers (Refusal.Range k) refl)
 
-keys-numbers : (d : ℕ) (s : List ℕ) (k : ℕ) → Numbers lateNumbers (keysFrom d s k)
+keys-numbers : (d : ℕ) (s : List ℕ) (k : ℕ) → Numbers remainingNumbers (keysFrom d s k)
 unfolding keysFrom
-keys-numbers zero s k = numbers-fine lateNumbers
+keys-numbers zero s k = numbers-fine remainingNumbers
 keys-numbers (suc d) s k =
-    numbers-pick lateNumbers (ltb (keyAt s (k - 1)) (keyAt s k)) _ _ (keys-numbers d s (k + 1)) (numbers-bad lateNumbers (Refusal.Key k) refl)
+    numbers-pick remainingNumbers (ltb (keyAt s (k - 1)) (keyAt s k)) _ _ (keys-numbers d s (k + 1)) (numbers-bad remainingNumbers (Refusal.Key k) refl)
 
-offsets-numbers : (d : ℕ) (o : List ℕ) (w n len i : ℕ) → Numbers lateNumbers (offsetsFrom d o w n len i)
+offsets-numbers : (d : ℕ) (o : List ℕ) (w n len i : ℕ) → Numbers remainingNumbers (offsetsFrom d o w n len i)
 unfolding offsetsFrom
-offsets-numbers zero o w n len i = numbers-fine lateNumbers
+offsets-numbers zero o w n len i = numbers-fine remainingNumbers
 offsets-numbers (suc d) o w n len i =
-    numbers-pick lateNumbers (offsetGood o w n len i) _ _ (offsets-numbers d o w n len (i + 1)) (numbers-bad lateNumbers (Refusal.Offset i) refl)
+    numbers-pick remainingNumbers (offsetGood o w n len i) _ _ (offsets-numbers d o w n len (i + 1)) (numbers-bad remainingNumbers (Refusal.Offset i) refl)
 
-content-numbers : (k : Known) (fenced : Bool) (fences : List ℕ) → Numbers lateNumbers (contentCheck k fenced fences)
+content-numbers : (k : Known) (fenced : Bool) (fences : List ℕ) → Numbers remainingNumbers (contentCheck k fenced fences)
 unfolding contentCheck
 content-numbers k fenced fences =
-    numbers-then lateNumbers _ _ (keys-numbers (k .keycount - 1) (k .keys) 1)
-    (numbers-then lateNumbers _ _ (offsets-numbers (k .keycount + 1) (k .offsets) (k .bits / 8) (k .keycount) (length (k .partners)) 0)
-    (numbers-refuse lateNumbers Refusal.Fences (fenced && not (fencesGood fences (k .keys) (k .keycount))) refl))
+    numbers-then remainingNumbers _ _ (keys-numbers (k .keycount - 1) (k .keys) 1)
+    (numbers-then remainingNumbers _ _ (offsets-numbers (k .keycount + 1) (k .offsets) (k .bits / 8) (k .keycount) (length (k .partners)) 0)
+    (numbers-refuse remainingNumbers Refusal.Fences (fenced && not (fencesGood fences (k .keys) (k .keycount))) refl))
 
 -- ---- the order of checks in parts: size, header, 6 to 9, 36, and the rest
 
@@ -103,8 +106,8 @@ module _ (f : List ℕ) where
   unfoldable pub foot : Check
   foot = tailCheck (length f) f ⊳ sumCheck f ⊳ tableCheck (bodyOf f)
 
-  unfoldable pub late : Check
-  late = codecCheck rows ⊳ rangeCheck (length f - footLen f) rows ⊳ countsCheck (flagsOf f) (framedOf f) ⊳ contents
+  unfoldable pub remaining : Check
+  remaining = codecCheck rows ⊳ rangeCheck (length f - footLen f) rows ⊳ countsCheck (flagsOf f) (framedOf f) ⊳ contents
 
   pub head-numbers : Numbers headNumbers (headCheck f)
   unfolding headCheck
@@ -123,12 +126,12 @@ module _ (f : List ℕ) where
   pub reserved-numbers : Numbers (36 ∷ []) (reservedCheck rows)
   reserved-numbers = each-numbers (36 ∷ []) kindGood Refusal.Reserved (λ k. refl) rows 0
 
-  pub late-numbers : Numbers lateNumbers late
-  unfolding late contents
-  late-numbers =
-      numbers-then lateNumbers _ _ (each-numbers lateNumbers codecGood Refusal.Codec (λ k. refl) rows 0)
-      (numbers-then lateNumbers _ _ (ranges-numbers (length f - footLen f) rows kind.headerSize 0)
-      (numbers-then lateNumbers _ _ (numbers-refuse lateNumbers Refusal.Counts (not (countsGood (flagsOf f) (framedOf f))) refl)
+  pub remaining-numbers : Numbers remainingNumbers remaining
+  unfolding remaining contents
+  remaining-numbers =
+      numbers-then remainingNumbers _ _ (each-numbers remainingNumbers codecGood Refusal.Codec (λ k. refl) rows 0)
+      (numbers-then remainingNumbers _ _ (ranges-numbers (length f - footLen f) rows kind.headerSize 0)
+      (numbers-then remainingNumbers _ _ (numbers-refuse remainingNumbers Refusal.Counts (not (countsGood (flagsOf f) (framedOf f))) refl)
       (content-numbers (knownOf f (recordOf f)) (framedOf f .fenced) (bytesAt f (framedOf f .fences)))))
 
 -- parts of the order, one after the other
@@ -143,8 +146,8 @@ flat Check.Fine Check.Fine Check.Fine Check.Fine Check.Fine Check.Fine (Check.Ba
 flat Check.Fine Check.Fine Check.Fine Check.Fine Check.Fine Check.Fine Check.Fine y z w = then-assoc y z w
 
 module _ (f : List ℕ) where
-  pub chain : fileCheck f ≡ sizeCheck (length f) ⊳ headCheck f ⊳ foot f ⊳ reservedCheck (rows f) ⊳ late f
-  unfolding fileCheck frameCheck shapeCheck endsCheck footerCheck rowsCheck foot late contents
+  pub chain : fileCheck f ≡ sizeCheck (length f) ⊳ headCheck f ⊳ foot f ⊳ reservedCheck (rows f) ⊳ remaining f
+  unfolding fileCheck frameCheck shapeCheck endsCheck footerCheck rowsCheck foot remaining contents
   chain =
       flat (sizeCheck (length f)) (headCheck f) (tailCheck (length f) f) (sumCheck f) (tableCheck (bodyOf f)) (reservedCheck (rows f)) (codecCheck (rows f))
       (rangeCheck (length f - footLen f) (rows f)) (countsCheck (flagsOf f) (framedOf f)) (contents f)
@@ -155,5 +158,5 @@ module _ (f : List ℕ) where
       numbers-then openingNumbers _ _ (numbers-more (1 ∷ []) openingNumbers refl (size-numbers (length f)))
       (numbers-then openingNumbers _ _ (numbers-more headNumbers openingNumbers refl (head-numbers f))
       (numbers-then openingNumbers _ _ (numbers-more footNumbers openingNumbers refl (foot-numbers f))
-      (numbers-then openingNumbers _ _ (numbers-more (36 ∷ []) openingNumbers refl (reserved-numbers f)) (numbers-more lateNumbers openingNumbers refl (late-numbers f)))))
+      (numbers-then openingNumbers _ _ (numbers-more (36 ∷ []) openingNumbers refl (reserved-numbers f)) (numbers-more remainingNumbers openingNumbers refl (remaining-numbers f)))))
       r (sym chain ∙ e)
