@@ -230,6 +230,8 @@ static Sound sound_file(const char *dir, const char *name) {
 static void hold_text(void) {
     if (EDGE_SST_RESERVED != 36 || strcmp(edge_sst_text(36), "a section of a reserved kind") != 0)
         differ("the name or the text of 36");
+    if (EDGE_SST_KIND_RESERVED_FIRST != 0x0007 || EDGE_SST_KIND_RESERVED_LAST != 0x00FF)
+        differ("the ends of the reserved range");
     if (edge_sst_has_beside(EDGE_SST_RESERVED))
         differ("36 has a second place");
 }

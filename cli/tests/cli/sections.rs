@@ -218,7 +218,7 @@ fn names_that_are_no_text() {
 }
 
 /// Mends the footer's checksum.
-fn mend(file: &mut [u8]) {
+pub fn mend(file: &mut [u8]) {
     let length = file.len();
     let footer = u32::from_le_bytes(file[length - 12..length - 8].try_into().unwrap());
     let body = &file[length - footer as usize..length - 20];

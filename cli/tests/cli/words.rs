@@ -3,6 +3,7 @@
 use crate::corpora::{inputs, refusals, Named, Told};
 use crate::json::Json;
 use crate::run::{folder, run_on, sample, second};
+use crate::sections::mend;
 
 /// What `check` says of these bytes after the file's name.
 #[track_caller]
@@ -90,6 +91,7 @@ fn places_of_files_that_do_not_open() {
     for (number, text) in [
         (10, "a section of kind 1 to 6 is not raw, entry"),
         (11, "section range, entry"),
+        (36, "a section of a reserved kind, entry"),
         (13, "key not above the one before, key"),
         (14, "offset, offset"),
     ] {
@@ -98,6 +100,46 @@ fn places_of_files_that_do_not_open() {
             assert_eq!(said(&bytes), format!("{number}: {text} {place}"));
         }
     }
+}
+
+/// The board with a reserved kind at entry 2, which was skipped, and a sound footer.
+fn reserved() -> Vec<u8> {
+    let mut board = sample("board.edges");
+    let later = board.windows(5).rposition(|bytes| bytes == b"later");
+    let entry = later.expect("the name of entry 2") - 28;
+    assert_eq!(board[entry..entry + 2], [0x77, 0x07]);
+    board[entry..entry + 2].copy_from_slice(&[0x07, 0x00]);
+    mend(&mut board);
+    board
+}
+
+/// A file with a section of a reserved kind is refused by every command, and no output is
+/// written.
+#[test]
+fn a_reserved_kind_is_told_by_every_command() {
+    let folder = folder("words_reserved");
+    folder.put("later.edges", &reserved());
+    let line = "later.edges: 36: a section of a reserved kind, entry 2\n";
+    let ran = folder.run(&["check", "later.edges"]);
+    assert_eq!((ran.status, ran.text(), ran.err.as_str()), (1, line, ""));
+    let key = "018f6e2a7c1070000000000000000020";
+    for arguments in [
+        &["print", "later.edges"][..],
+        &["lookup", "later.edges", key],
+        &["lookup", "-p", "later.edges", key],
+        &["sections", "later.edges"],
+        &["summary", "later.edges"],
+        &["read-out", "later.edges", "-o", "later.batch"],
+    ] {
+        folder.run(arguments).fails(1, line);
+    }
+    assert_eq!(folder.names(), ["later.edges"]);
+    let ran = folder.run(&["check", "--json", "later.edges"]);
+    let told = Json::parse(ran.text().trim_end());
+    let refused = told.at("refused");
+    assert_eq!((ran.status, refused.at("number").number()), (1, 36));
+    assert_eq!(refused.at("place").number(), 2);
+    assert_eq!(refused.at("where").text(), "entry 2");
 }
 
 /// What is wrong with a group is told with its key, which is at 64 + 16 i where the keys

@@ -12,14 +12,14 @@ use Rattle.frame.specs.declared.Row.{Row}
 use Rattle.frame.specs.declared.Range.{Range}
 use Rattle.frame.specs.declared.Framed.{Framed}
 use Rattle.frame.specs.Kind as kind
-use Rattle.frame.specs.Frame.{nowhere, keyCount, edgeCount, bitsOf, kindGood, rangeGood}
+use Rattle.frame.specs.Frame.{nowhere, keyCount, edgeCount, bitsOf, rangeGood}
 use Rattle.open_table.specs.declared.Seen.{Seen}
 pub mod Laws
 
 -- ---- the first bad entry, as a number; mostSections: none
 
 unfoldable pub firstBad : ℕ → Bool → ℕ → ℕ
-firstBad bad good k = pick (ltb bad kind.mostSections) bad (pick good kind.mostSections k)
+firstBad bad good k = pick good bad (pick (ltb bad kind.mostSections) bad k)
 
 -- the refusal that it is
 unfoldable pub toldBad : (ℕ → Refusal) → ℕ → Check
@@ -34,14 +34,24 @@ unseen = record { reserved = kind.mostSections; codec = kind.mostSections; range
 unfoldable pub coded : ℕ → Seen → ℕ → Seen
 coded k s codec = record { reserved = s .reserved; codec = firstBad (s .codec) (eqb codec 0) k; range = s .range; floor = s .floor; streams = s .streams }
 
--- with the kind and the range of entry k, which is r
+-- with the kind of entry k, where it is not read
+unfoldable pub unread : ℕ → Seen → ℕ → Seen
+unread k s q = record {
+  reserved = firstBad (s .reserved) (not (kind.reserved q)) k;
+  codec = s .codec;
+  range = s .range;
+  floor = s .floor;
+  streams = s .streams || eqb q kind.properties;
+}
+
+-- with the range of entry k, which is r
 unfoldable pub ranged : ℕ → ℕ → Seen → Row → Seen
 ranged limit k s r = record {
-  reserved = firstBad (s .reserved) (kindGood r) k;
+  reserved = s .reserved;
   codec = s .codec;
   range = firstBad (s .range) (rangeGood limit (s .floor) r) k;
   floor = pick (rangeGood limit (s .floor) r) (r .start + r .len) (s .floor);
-  streams = s .streams || eqb (r .kind) kind.properties;
+  streams = s .streams;
 }
 
 -- ---- each kind by its slot

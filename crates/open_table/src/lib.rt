@@ -8,9 +8,9 @@ ghost use lib.ListN.{length};
 ghost use Rattle.refusal.specs.declared.Refusal.{Refusal};
 ghost use Rattle.frame.specs.declared.Framing.{Framing};
 ghost use Rattle.frame.specs.Kind as kind;
-ghost use Rattle.frame.specs.Frame.{rowAt, rowsOf, rangeGood, framedFrom, rowsCheck};
+ghost use Rattle.frame.specs.Frame.{rowAt, rowsOf, rangeOf, rangeGood, framedFrom, rowsCheck};
 ghost use Rattle.frame.specs.Open.{framing};
-ghost use Rattle.open_table.specs.Pass.{firstBad, unseen, coded, ranged, requiredSeen, framedSeen, passed};
+ghost use Rattle.open_table.specs.Pass.{firstBad, unseen, coded, unread, ranged, requiredSeen, framedSeen, passed};
 use base::either;
 use codes::little::le16;
 use codes::little::le64;
@@ -63,6 +63,16 @@ pub fn row_at(b: &[u8], i: usize) -> Row
     }
 }
 
+// Where its section lies.
+fn range_of(r: Row) -> Range
+    ensures { λ x. ⌜ x ≡ rangeOf r ⌝ }
+{
+    Range {
+        start: r.start,
+        len: r.len,
+    }
+}
+
 // Rule 11 for one entry; the sum of start and length may pass 2^64.
 fn range_good(limit: u64, floor: u64, r: Row) -> bool
     ensures { λ ok. ⌜ ok ≡ rangeGood limit floor r ⌝ }
@@ -80,11 +90,11 @@ fn range_good(limit: u64, floor: u64, r: Row) -> bool
 fn first_bad(bad: u64, good: bool, k: u64) -> u64
     ensures { λ r. ⌜ r ≡ firstBad bad good k ⌝ }
 {
-    if bad < Bounds::SECTIONS {
+    if good {
         return bad;
     }
-    if good {
-        return Bounds::SECTIONS;
+    if bad < Bounds::SECTIONS {
+        return bad;
     }
     k
 }
@@ -125,27 +135,38 @@ impl Seen {
         }
     }
 
-    // With the kind and the range of entry k, which is r.
+    // With the kind of entry k, where it is not read: it may be reserved, or that of a property stream.
+    fn unread(self, k: u64, kind: u16) -> Seen
+        ensures { λ s. ⌜ s ≡ unread k self kind ⌝ }
+    {
+        Seen {
+            reserved: first_bad(self.reserved, !Reserved::holds(kind), k),
+            codec: self.codec,
+            range: self.range,
+            floor: self.floor,
+            streams: either(self.streams, kind == Properties::KIND),
+        }
+    }
+
+    // With the range of entry k, which is r.
     fn ranged(self, limit: u64, k: u64, r: Row) -> Seen
         ensures { λ s. ⌜ s ≡ ranged limit k self r ⌝ }
     {
-        let reserved = first_bad(self.reserved, !Reserved::holds(r.kind), k);
-        let streams = either(self.streams, r.kind == Properties::KIND);
         if range_good(limit, self.floor, r) {
             return Seen {
-                reserved,
+                reserved: self.reserved,
                 codec: self.codec,
                 range: first_bad(self.range, true, k),
                 floor: r.start + r.len,
-                streams,
+                streams: self.streams,
             };
         }
         Seen {
-            reserved,
+            reserved: self.reserved,
             codec: self.codec,
             range: first_bad(self.range, false, k),
             floor: self.floor,
-            streams,
+            streams: self.streams,
         }
     }
 }
@@ -263,11 +284,10 @@ pub fn rows_framing(b: &[u8], limit: u64) -> Framing
                 return refused(Refusal::Table);
             }
             met[slot] = true;
-            places[slot] = Range {
-                start: r.start,
-                len: r.len,
-            };
+            places[slot] = range_of(r);
             seen = seen.coded(k, r.codec);
+        } else {
+            seen = seen.unread(k, r.kind);
         }
         seen = seen.ranged(limit, k, r);
         i = i + Row::ENTRY + r.namelen as usize;

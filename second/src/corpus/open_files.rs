@@ -53,11 +53,11 @@ pub fn small() -> Vec<OpenFile> {
     heads::add(&mut files);
     checksums::add(&mut files);
     table::add(&mut files);
-    reserved::add(&mut files);
     ranges::add(&mut files);
     counts::add(&mut files);
     keys_and_offsets::add(&mut files);
     fences::add(&mut files);
+    reserved::add(&mut files);
     pairs::add(&mut files);
     changed::add(&mut files);
     files.0

@@ -87,6 +87,9 @@ returns-5 c =
 array-write-met : tie.Need-array-write-met Inv-loop μ-loop
 array-write-met c = search needs
 
+range-of-requires : tie.Need-range-of-requires Inv-loop μ-loop
+range-of-requires c κs = search needs
+
 mul-places : tie.Need-mul-places Inv-loop μ-loop
 mul-places c = search needs
 
@@ -95,6 +98,9 @@ array-set-from-places c = search needs
 
 coded-requires : tie.Need-coded-requires Inv-loop μ-loop
 coded-requires c κs = search needs
+
+unread-requires : tie.Need-unread-requires Inv-loop μ-loop
+unread-requires c κs = search needs
 
 ranged-requires : tie.Need-ranged-requires Inv-loop μ-loop
 ranged-requires c κs = search needs
@@ -121,7 +127,7 @@ loop-again c =
     let m = c .before .before .before .before .before .before .before .before .before .before .before .before .before .le16 .result in
     let h = c .before .before .before .before .before .before .before .before .before .before .before .before .before .le16 .ensures .0 in
     let most = c .before .before .before .before .before .before .before .before .before .before .before .if2 .left in
-    ⊎-elim (λ w. rw (c .before .ranged .ensures, w .4, w .5, w .6, w .3 .ensures) (passing-read (a .b .now) (a .limit) m (l .k) (l .i) (l .seen) (l .met) (l .places) (l .inv) (omega arith) (omega arith) (c .before .before .before .before .before .before .row-at .result) (c .before .before .before .before .before .before .row-at .ensures) (omega arith) (c .before .before .before .slot .result) (c .before .before .before .slot .ensures) (omega (arith, w .0 .taken)) (sym (w .1 .ensures) ∙ not-false _ (w .2 .left)))) (λ w. rw (c .before .ranged .ensures, w .1, w .2, w .3) (passing-skipped (a .b .now) (a .limit) m (l .k) (l .i) (l .seen) (l .met) (l .places) (l .inv) (omega arith) (omega arith) (c .before .before .before .before .before .before .row-at .result) (c .before .before .before .before .before .before .row-at .ensures) (omega arith) (omega arith))) (c .before .before .if5 .came)
+    ⊎-elim (λ w. rw (c .before .ranged .ensures, w .5, w .6, w .7, w .4 .ensures, w .3 .ensures) (passing-read (a .b .now) (a .limit) m (l .k) (l .i) (l .seen) (l .met) (l .places) (l .inv) (omega arith) (omega arith) (c .before .before .before .before .before .before .row-at .result) (c .before .before .before .before .before .before .row-at .ensures) (omega arith) (c .before .before .before .slot .result) (c .before .before .before .slot .ensures) (omega (arith, w .0 .taken)) (sym (w .1 .ensures) ∙ not-false _ (w .2 .left)))) (λ w. rw (c .before .ranged .ensures, w .2, w .3, w .4, w .1 .ensures) (passing-skipped (a .b .now) (a .limit) m (l .k) (l .i) (l .seen) (l .met) (l .places) (l .inv) (omega arith) (omega arith) (c .before .before .before .before .before .before .row-at .result) (c .before .before .before .before .before .before .row-at .ensures) (omega arith) (omega arith))) (c .before .before .if5 .came)
 
 add-if7 : tie.Need-add-if7 Inv-loop μ-loop
 add-if7 c = search needs
@@ -173,9 +179,11 @@ rows-framing-spec =
     refused-requires-5
     returns-5
     array-write-met
+    range-of-requires
     mul-places
     array-set-from-places
     coded-requires
+    unread-requires
     ranged-requires
     add-i
     cast-i

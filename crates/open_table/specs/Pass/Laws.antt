@@ -23,10 +23,10 @@ use Rattle.frame.specs.declared.Framing.{Framing}
 use Rattle.frame.specs.Kind as kind
 use Rattle.frame.specs.Kind.Laws.{numberIn, numberAt, slot-found, slot-of}
 use Rattle.frame.specs.Frame.{rowAt, rowsFrom, endFrom, entryCount, rowsOf, endOf, rangeOf, nowhere, has, repeated, sectionOf, all, nameGood, onceGood, kindsGood, fills, tableGood, eachRow, kindGood, codecGood, rangeGood, ranges, keyCount, edgeCount, bitsOf, recordFrom, framedFrom, tableCheck, reservedCheck, codecCheck, rangeCheck, rowsCheck}
-use Rattle.frame.specs.Frame.Laws.{each-good, rows-on, end-on, row-room, rows-none, end-none}
+use Rattle.frame.specs.Frame.Laws.{fixed-unreserved, each-good, rows-on, end-on, row-room, rows-none, end-none}
 use Rattle.frame.specs.Open.{framing}
 use Rattle.open_table.specs.declared.Seen.{Seen}
-use Rattle.open_table.specs.Pass.{firstBad, toldBad, unseen, coded, ranged, metAt, placeAt, neededFrom, requiredSeen, framedSeen, passed}
+use Rattle.open_table.specs.Pass.{firstBad, toldBad, unseen, coded, unread, ranged, metAt, placeAt, neededFrom, requiredSeen, framedSeen, passed}
 
 and-no : (a : Bool) {b : Bool} → b ≡ false → (a && b) ≡ false
 and-no true e = e
@@ -50,14 +50,14 @@ then-fine (Check.Bad r) = refl
 first-told : (r : ℕ → Refusal) (bad k : ℕ) → k < kind.mostSections → (good : Bool) (rest : Check)
     → toldBad r bad ⊳ pick good rest (Check.Bad (r k)) ≡ toldBad r (firstBad bad good k) ⊳ rest
 unfolding toldBad firstBad
-first-told r bad k small good rest = go (ltb bad kind.mostSections) refl good
+first-told r bad k small true rest = refl
+first-told r bad k small false rest = go (ltb bad kind.mostSections) refl
   where
-    go : (t : Bool) → ltb bad kind.mostSections ≡ t → (good : Bool)
-        → pick t (Check.Bad (r bad)) Check.Fine ⊳ pick good rest (Check.Bad (r k))
-        ≡ pick (ltb (pick t bad (pick good kind.mostSections k)) kind.mostSections) (Check.Bad (r (pick t bad (pick good kind.mostSections k)))) Check.Fine ⊳ rest
-    go true e good = rw e
-    go false e true = refl
-    go false e false = rw (lt-ltb k kind.mostSections small)
+    go : (t : Bool) → ltb bad kind.mostSections ≡ t
+        → pick t (Check.Bad (r bad)) Check.Fine ⊳ Check.Bad (r k)
+        ≡ pick (ltb (pick t bad k) kind.mostSections) (Check.Bad (r (pick t bad k))) Check.Fine ⊳ rest
+    go true e = rw e
+    go false e = rw (lt-ltb k kind.mostSections small)
 
 -- ---- one kind
 
@@ -137,10 +137,6 @@ module _ (limit : ℕ) (rows : List Row) where
         go true = first-told Refusal.Range (s .range) k small true (ranges limit rest (r .start + r .len) (k + 1))
         go false = first-told Refusal.Range (s .range) k small false (ranges limit rest (s .floor) (k + 1))
 
-    streams-on : has kind.properties rows ≡ (s .streams || has kind.properties (r ∷ rest)) → has kind.properties rows ≡ (ranged limit k s r .streams || has kind.properties rest)
-    unfolding has ranged
-    streams-on e = e ∙ sym (or-assoc (s .streams) (eqb (r .kind) kind.properties) (has kind.properties rest))
-
     names-on : nameGood r ≡ true → all nameGood rows ≡ all nameGood (r ∷ rest) → all nameGood rows ≡ all nameGood rest
     unfolding all
     names-on g e = e ∙ ap (λ (t : Bool). t && all nameGood rest) g
@@ -153,15 +149,20 @@ module _ (limit : ℕ) (rows : List Row) where
         e ∙ ap (λ (t : Bool). toldBad told bad ⊳ pick t (eachRow good told rest (k + 1)) (Check.Bad (told k))) is
         ∙ first-told told bad k small g (eachRow good told rest (k + 1))
 
-    reserved-on : reservedCheck rows ≡ toldBad Refusal.Reserved (s .reserved) ⊳ eachRow kindGood Refusal.Reserved (r ∷ rest) k
-        → reservedCheck rows ≡ toldBad Refusal.Reserved (ranged limit k s r .reserved) ⊳ eachRow kindGood Refusal.Reserved rest (k + 1)
-    unfolding ranged
-    reserved-on e = each-on kindGood Refusal.Reserved (s .reserved) (kindGood r) refl e
+    -- an entry that is good by itself
+    each-past : (good : Row → Bool) (told : ℕ → Refusal) (c : Check) → good r ≡ true → eachRow good told rows 0 ≡ c ⊳ eachRow good told (r ∷ rest) k → eachRow good told rows 0 ≡ c ⊳ eachRow good told rest (k + 1)
+    each-past good told c g e = e ∙ ap (λ (x : Check). c ⊳ x) (each-good good told r rest k g)
 
     -- r is of a kind that is read, and not met before
     module _ (slot : ℕ) (at : kind.slotOf (r .kind) ≡ slot) (read : slot < length kind.kinds) where
       kind-is : numberAt slot ≡ r .kind
       kind-is = rw (← at) (slot-found (r .kind) kind.kinds (omega arith))
+
+      fixed-is : kind.fixed (r .kind) ≡ true
+      fixed-is = lt-ltb (kind.slotOf (r .kind)) (length kind.kinds) (omega arith)
+
+      no-stream : eqb (r .kind) kind.properties ≡ false
+      no-stream = ne-eqb (r .kind) kind.properties (λ e. let d = ap kind.slotOf e in omega arith)
 
       pub codec-read : codecGood r ≡ eqb (r .codec) 0
       codec-read = rw (lt-ltb (kind.slotOf (r .kind)) (length kind.kinds) (omega arith))
@@ -179,13 +180,13 @@ module _ (limit : ℕ) (rows : List Row) where
 
       pub noted-read : (met : List Bool) (places : List Range) → nameGood r ≡ true → metAt met slot ≡ false → slot < length met → slot < length places → Noted limit rows (r ∷ rest) k s met places
           → Noted limit rows rest (k + 1) (ranged limit k (coded k s (r .codec)) r) (set met slot true) (set places slot (rangeOf r))
-      unfolding coded ranged
+      unfolding coded ranged has
       noted-read met places g f p q n = record {
         names = names-on g (n .names);
-        reserved-are = reserved-on (n .reserved-are);
+        reserved-are = each-past kindGood Refusal.Reserved (toldBad Refusal.Reserved (s .reserved)) (ap not (fixed-unreserved (r .kind) fixed-is)) (n .reserved-are);
         codecs-are = each-on codecGood Refusal.Codec (s .codec) (eqb (r .codec) 0) codec-read (n .codecs-are);
         ranges-are = ranges-on (n .ranges-are);
-        streams-are = streams-on (n .streams-are);
+        streams-are = n .streams-are ∙ ap (λ (t : Bool). s .streams || (t || has kind.properties rest)) no-stream;
         kinds-are = λ i h. kind-on met places (rw f at (n .kinds-are slot read)) p q i h (n .kinds-are i h);
       }
 
@@ -197,14 +198,15 @@ module _ (limit : ℕ) (rows : List Row) where
       codec-skipped : codecGood r ≡ true
       codec-skipped = rw (le-ltb (kind.slotOf (r .kind)) (length kind.kinds) past)
 
-      pub noted-skipped : {met : List Bool} {places : List Range} → nameGood r ≡ true → Noted limit rows (r ∷ rest) k s met places → Noted limit rows rest (k + 1) (ranged limit k s r) met places
-      unfolding ranged
+      pub noted-skipped : {met : List Bool} {places : List Range} → nameGood r ≡ true → Noted limit rows (r ∷ rest) k s met places
+          → Noted limit rows rest (k + 1) (ranged limit k (unread k s (r .kind)) r) met places
+      unfolding unread ranged has
       noted-skipped g n = record {
         names = names-on g (n .names);
-        reserved-are = reserved-on (n .reserved-are);
-        codecs-are = n .codecs-are ∙ ap (λ (c : Check). toldBad Refusal.Codec (s .codec) ⊳ c) (each-good codecGood Refusal.Codec r rest k codec-skipped);
+        reserved-are = each-on kindGood Refusal.Reserved (s .reserved) (kindGood r) refl (n .reserved-are);
+        codecs-are = each-past codecGood Refusal.Codec (toldBad Refusal.Codec (s .codec)) codec-skipped (n .codecs-are);
         ranges-are = ranges-on (n .ranges-are);
-        streams-are = streams-on (n .streams-are);
+        streams-are = n .streams-are ∙ sym (or-assoc (s .streams) (eqb (r .kind) kind.properties) (has kind.properties rest));
         kinds-are = λ i h. met-other (numberAt i) rows r rest (ne-eqb (r .kind) (numberAt i) (λ z. let e = slot-of i h in let d = ap kind.slotOf z in omega arith)) (n .kinds-are i h);
       }
 
@@ -439,7 +441,7 @@ module _ (b : List ℕ) (limit count : ℕ) where
             let near = n .near in
             record { upto = omega arith; near = omega arith; ends = sym (end-on b count i k lt r e) ∙ n .ends; met-of = p ∙ n .met-of; places-of = q ∙ n .places-of; noted = m }
 
-        pub passing-skipped : length kind.kinds ≤ kind.slotOf (r .kind) → Passing (k + 1) (i + kind.entrySize + r .namelen) (ranged limit k s r) met places
+        pub passing-skipped : length kind.kinds ≤ kind.slotOf (r .kind) → Passing (k + 1) (i + kind.entrySize + r .namelen) (ranged limit k (unread k s (r .kind)) r) met places
         passing-skipped past = passing-on refl refl (noted-skipped limit (rowsFrom count b 2) r rest k (omega arith) s past (name-skipped r short past) here)
 
         module _ (slot : ℕ) (at : slot ≡ kind.slotOf (r .kind)) (read : slot < length kind.kinds) where
