@@ -139,8 +139,17 @@ impl Seen {
     fn unread(self, k: u64, kind: u16) -> Seen
         ensures { λ s. ⌜ s ≡ unread k self kind ⌝ }
     {
+        if Reserved::holds(kind) {
+            return Seen {
+                reserved: first_bad(self.reserved, false, k),
+                codec: self.codec,
+                range: self.range,
+                floor: self.floor,
+                streams: self.streams,
+            };
+        }
         Seen {
-            reserved: first_bad(self.reserved, !Reserved::holds(kind), k),
+            reserved: self.reserved,
             codec: self.codec,
             range: self.range,
             floor: self.floor,

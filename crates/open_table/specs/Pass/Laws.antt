@@ -23,7 +23,7 @@ use Rattle.frame.specs.declared.Framing.{Framing}
 use Rattle.frame.specs.Kind as kind
 use Rattle.frame.specs.Kind.Laws.{numberIn, numberAt, slot-found, slot-of}
 use Rattle.frame.specs.Frame.{rowAt, rowsFrom, endFrom, entryCount, rowsOf, endOf, rangeOf, nowhere, has, repeated, sectionOf, all, nameGood, onceGood, kindsGood, fills, tableGood, eachRow, kindGood, codecGood, rangeGood, ranges, keyCount, edgeCount, bitsOf, recordFrom, framedFrom, tableCheck, reservedCheck, codecCheck, rangeCheck, rowsCheck}
-use Rattle.frame.specs.Frame.Laws.{fixed-unreserved, each-good, rows-on, end-on, row-room, rows-none, end-none}
+use Rattle.frame.specs.Frame.Laws.{fixed-unreserved, reserved-kinds, each-good, rows-on, end-on, row-room, rows-none, end-none}
 use Rattle.frame.specs.Open.{framing}
 use Rattle.open_table.specs.declared.Seen.{Seen}
 use Rattle.open_table.specs.Pass.{firstBad, toldBad, unseen, coded, unread, ranged, metAt, placeAt, neededFrom, requiredSeen, framedSeen, passed}
@@ -288,6 +288,21 @@ module _ (limit : ℕ) (rows : List Row) where
           fences = sym (fences .2) j;
           streams = sym (n .streams-are ∙ or-false (s .streams)) j;
         }
+
+-- ---- the kind of an entry that is not read
+
+module _ (k : ℕ) (s : Seen) (q : ℕ) where
+  pub unread-reserved : kind.reserved q ≡ true
+      → record { reserved = firstBad (s .reserved) false k; codec = s .codec; range = s .range; floor = s .floor; streams = s .streams } ≡ unread k s q
+  unfolding unread
+  unread-reserved e =
+      let h = reserved-kinds q .0 e in
+      rw (e, ne-eqb q kind.properties (λ z. omega arith), or-false (s .streams))
+
+  pub unread-other : kind.reserved q ≡ false
+      → record { reserved = s .reserved; codec = s .codec; range = s .range; floor = s .floor; streams = s .streams || eqb q kind.properties } ≡ unread k s q
+  unfolding unread firstBad
+  unread-other e = rw e
 
 -- ---- the tests of an entry, by their cases
 
