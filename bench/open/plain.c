@@ -1,4 +1,4 @@
-/* Opening in plain C: rules 1 to 15 in their order, and the header. For little-endian machines. */
+/* Opening in plain C: rules 1 to 15 and 36 in their order, and the header. For little-endian machines. */
 #include "../common/sum.h"
 
 #include "../common/format.h"

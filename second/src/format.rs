@@ -32,7 +32,7 @@ pub mod kind {
 
     /// The kinds that are read: always raw and without a name.
     pub const READ: RangeInclusive<u16> = KEYS..=FENCES;
-    /// Kept for sections that change what the others mean: no file has one.
+    /// Kept for sections that change what the others mean: no file with one opens.
     pub const RESERVED: RangeInclusive<u16> = 0x0007..=0x00FF;
 }
 

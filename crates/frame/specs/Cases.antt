@@ -1,9 +1,10 @@
 -- Two files held to bytes that the second program made, laid out by the definitions and opened by them; and the rules of the section table
 -- at their edges.
 use mathlib.Core.Path.{_≡_, refl}
-use mathlib.Core.List.{List, [], _∷_}
+use mathlib.Core.List.{List, [], _∷_, _++_}
 use mathlib.Core.Bool.{true, false}
 use Prim.Native.Nat.{ℕ}
+use lib.ListN.{replicate}
 use Rattle.codes.specs.Little.{leAt, leBytes}
 use Rattle.codes.specs.Ids.{beAt, idAt, halvesAt}
 use Rattle.xxh3_spec.specs.Xxh3.{mul, fold, xorshift, rotl, swap, rrmxmx, secret, of1to3, of4to8, of9to16, small, pair, mixStep, inward, of17to128, onward, of129to240, lane, accumulate, stir, scramble, turn, runOn, startLanes, twice, merge, finish, large, xxh3}
@@ -15,6 +16,7 @@ use Rattle.frame.specs.declared.ends.Header.{Header}
 use Rattle.frame.specs.Kind as kind
 use Rattle.frame.specs.Frame.{rowAt, rowsFrom, endFrom, rowsOf, endOf, has, repeated, sectionOf, all, kindsGood, tableGood, eachRow, ranges, sizesGood, presenceGood, countsGood, bodyOf, headerIn, sizeCheck, headCheck, tailCheck, sumCheck, endsCheck, rowsCheck, footerCheck, shapeCheck, frameCheck, codecCheck, rangeCheck}
 use Rattle.frame.specs.Open.{recordFrom, recordOf, framedFrom, framedOf, knownOf, keysFrom, offsetGood, offsetsFrom, fenceGood, fencesFrom, fencesGood, contentCheck, fileCheck, opening, openOf}
+use Rattle.frame.specs.Reserved.{kindAt}
 use Rattle.frame.specs.Layout.{Section, rawSection, headBytes, payload, entry, entries, bodyBytes, trailer, layOut}
 
 -- the three ids of both headers
@@ -156,6 +158,14 @@ emptySection k codec name = record { kind = k; codec = codec; sum = 0; name = na
 abbrev bare : ℕ → Section
 bare k = emptySection k 0 []
 
+-- the kinds of a table's entries, and none after the last
+abbrev three : List Section
+three = emptySection 0x0101 9 (104 ∷ 105 ∷ []) ∷ bare 1 ∷ bare 0x00FF ∷ []
+
+pub kinds-at : (kindAt (rowsOf (bodyBytes three 0 0 24)) 0 ≡ 0x0101) × (kindAt (rowsOf (bodyBytes three 0 0 24)) 1 ≡ 1) × (kindAt (rowsOf (bodyBytes three 0 0 24)) 2 ≡ 0x00FF) × (kindAt (rowsOf (bodyBytes three 0 0 24)) 3 ≡ 0)
+unfolding leAt leBytes entry entries bodyBytes rowAt rowsFrom rowsOf kindAt
+kinds-at = (refl, refl, refl, refl)
+
 abbrev rules : ℕ → List Section → Check
 rules limit ss = rowsCheck limit (bodyBytes ss 0 0 24)
 
@@ -177,8 +187,9 @@ unfolding leAt leBytes entry entries bodyBytes rowAt rowsFrom endFrom rowsOf end
 one-more = (refl, refl, refl, refl, refl, refl, refl, refl, refl, refl, refl, refl, refl, refl, refl)
 
 pub in-order :
-    -- the first of two; whatever its codec and its name
+    -- the first of two, also of one kind; every entry counts; whatever its codec and its name
     (rules 64 (bare 1 ∷ bare 0x00FF ∷ bare 2 ∷ bare 3 ∷ bare 4 ∷ bare 7 ∷ []) ≡ Check.Bad (Refusal.Reserved 1))
+    × (rules 64 (bare 0 ∷ bare 1 ∷ bare 2 ∷ bare 0x0100 ∷ bare 3 ∷ bare 4 ∷ bare 5 ∷ bare 0xFFFF ∷ bare 6 ∷ bare 7 ∷ bare 7 ∷ []) ≡ Check.Bad (Refusal.Reserved 9))
     × (rules 64 (bare 1 ∷ bare 2 ∷ bare 3 ∷ emptySection 0x0080 9 (104 ∷ 105 ∷ []) ∷ bare 4 ∷ []) ≡ Check.Bad (Refusal.Reserved 3))
     × (rules 64 (emptySection 7 0 (104 ∷ []) ∷ bare 1 ∷ bare 2 ∷ bare 3 ∷ bare 4 ∷ []) ≡ Check.Bad (Refusal.Reserved 0))
     -- 10 before it and after it; alone it is told
@@ -189,9 +200,12 @@ pub in-order :
     × (rules 63 (bare 1 ∷ bare 2 ∷ bare 3 ∷ bare 4 ∷ bare 7 ∷ []) ≡ Check.Bad (Refusal.Reserved 4))
     × (rules 63 (bare 1 ∷ bare 2 ∷ bare 3 ∷ bare 4 ∷ bare 0x0101 ∷ []) ≡ Check.Bad (Refusal.Range 0))
     × (rules 63 (bare 1 ∷ bare 2 ∷ bare 3 ∷ emptySection 4 1 [] ∷ []) ≡ Check.Bad (Refusal.Codec 3))
-    -- 9: a kind is missing; one is doubled after it; one that is read has a name
+    -- 9: a kind is missing; one is doubled after it; one that is read has a name; its own name is too long; the body is not filled
     × (rules 64 (bare 7 ∷ bare 1 ∷ bare 2 ∷ bare 3 ∷ []) ≡ Check.Bad Refusal.Table)
     × (rules 64 (bare 7 ∷ bare 1 ∷ bare 2 ∷ bare 3 ∷ bare 4 ∷ bare 4 ∷ []) ≡ Check.Bad Refusal.Table)
     × (rules 64 (bare 7 ∷ bare 1 ∷ bare 2 ∷ bare 3 ∷ emptySection 4 0 (104 ∷ []) ∷ []) ≡ Check.Bad Refusal.Table)
+    × (rules 64 (emptySection 7 0 (replicate 64 104) ∷ bare 1 ∷ bare 2 ∷ bare 3 ∷ bare 4 ∷ []) ≡ Check.Bad Refusal.Table)
+    × (rules 64 (emptySection 7 0 (replicate 63 104) ∷ bare 1 ∷ bare 2 ∷ bare 3 ∷ bare 4 ∷ []) ≡ Check.Bad (Refusal.Reserved 0))
+    × (rowsCheck 64 (bodyBytes (bare 7 ∷ bare 1 ∷ bare 2 ∷ bare 3 ∷ bare 4 ∷ []) 0 0 24 ++ (0 ∷ [])) ≡ Check.Bad Refusal.Table)
 unfolding leAt leBytes entry entries bodyBytes rowAt rowsFrom endFrom rowsOf endOf has repeated all kindsGood tableGood eachRow ranges rowsCheck
-in-order = (refl, refl, refl, refl, refl, refl, refl, refl, refl, refl, refl, refl)
+in-order = (refl, refl, refl, refl, refl, refl, refl, refl, refl, refl, refl, refl, refl, refl, refl, refl)

@@ -8,6 +8,7 @@ use native.Mathlib.Omega.{arith}
 use mathlib.Core.List.{List, [], _∷_}
 use mathlib.Core.Bool.{Bool, true, false, not}
 use lib.ListN.{length}
+use Rattle.codes.specs.Little.{leAt}
 use Rattle.refusal.specs.declared.Refusal.{Refusal}
 use Rattle.refusal.specs.declared.Check.{Check}
 use Rattle.refusal.specs.Refusal.{numberOf}
@@ -15,7 +16,7 @@ use Rattle.refusal.specs.Check.{_⊳_}
 use Rattle.refusal.specs.Check.Laws.{fine-parts, fine-both, bad-then, then-assoc, by-first, by-second, good-parts, good-fine, listed, Numbers, numbers-then, numbers-more, not-given}
 use Rattle.frame.specs.declared.Row.{Row}
 use Rattle.frame.specs.Kind as kind
-use Rattle.frame.specs.Frame.{rowsOf, bodyOf, eachRow, kindGood, reservedCheck, sizeCheck, headCheck, tailCheck, sumCheck}
+use Rattle.frame.specs.Frame.{rowAt, nextAt, rowsFrom, endFrom, rowsOf, bodyOf, eachRow, kindGood, reservedCheck, sizeCheck, headCheck, tailCheck, sumCheck}
 use Rattle.frame.specs.Frame.Laws.{Table, table-parts, table-made, ReservedKind, reserved-kinds, each-good, each-bad}
 use Rattle.frame.specs.Open.{fileCheck}
 use Rattle.frame.specs.Given.{headNumbers, footNumbers, remainingNumbers, earlyNumbers, size-numbers, head-numbers, foot-numbers, remaining-numbers, rows, foot, remaining, chain}
@@ -25,6 +26,13 @@ unfoldable pub kindAt : List Row → ℕ → ℕ
 kindAt [] j = 0
 kindAt (r ∷ rs) zero = r .kind
 kindAt (r ∷ rs) (suc j) = kindAt rs j
+
+-- it is the two bytes where the entry begins, which is where the j entries before it end
+pub kind-bytes : (b : List ℕ) (d i j : ℕ) → j < d → kindAt (rowsFrom d b i) j ≡ leAt b (endFrom j b i) 2
+unfolding kindAt rowsFrom endFrom rowAt
+kind-bytes b zero i j h = absurd (omega arith)
+kind-bytes b (suc d) i zero h = refl
+kind-bytes b (suc d) i (suc j) h = kind-bytes b d (nextAt b i) j (omega arith)
 
 -- entry j is "the first such entry"
 pub record FirstReserved (rs : List Row) (j : ℕ) : Type 0 where
@@ -47,7 +55,7 @@ kind-found r e = reserved-kinds (r .kind) .0 (go (kind.reserved (r .kind)) e)
     go true e = refl
     go false e = let q : _≡_ {A = ℕ} 0 1 = cc in absurd (omega arith)
 
--- rows the first of which is entry k: there is no such entry and they are fine, or there is a first and it is rule
+-- rows the first of which is entry k: there is no such entry and they are fine, or there is a first and it is told
 abbrev Scanned : List Row → ℕ → Type 0
 Scanned rs k =
     (((i : ℕ) → ReservedKind (kindAt rs i) → ⊥) × (rule rs k ≡ Check.Fine)) ⊎ ((j : ℕ) × FirstReserved rs j × (rule rs k ≡ Check.Bad (Refusal.Reserved (k + j))))
@@ -85,10 +93,10 @@ first-once rs i j s t =
       ]
     ]
 
--- rule 36: entry j is rule exactly if it is the first; the rule is fine exactly if there is none
+-- rule 36: entry j is told exactly if it is the first
 module _ (rs : List Row) where
-  rule-rule : (j : ℕ) → (reservedCheck rs ≡ Check.Bad (Refusal.Reserved j)) ↔ FirstReserved rs j
-  rule-rule j = (
+  rule-told : (j : ℕ) → (reservedCheck rs ≡ Check.Bad (Refusal.Reserved j)) ↔ FirstReserved rs j
+  rule-told j = (
     λ e. ⊎-elim (λ x. let z : _≡_ {A = ℕ} 0 1 = cc (x .1, e) in absurd (omega arith)) (λ x. let same : 0 + x .0 ≡ j = cc (x .2, e) in subst (FirstReserved rs) (sym (zero-add (x .0)) ∙ same) (x .1)) (scan rs 0),
     λ t.
         ⊎-elim (λ x. absurd (x .0 j (t .here)))
@@ -147,8 +155,8 @@ module _ (f : List ℕ) where
   reserved-exactly j =
       let a = by-second early _ (Refusal.Reserved j) (not-given earlyNumbers early-numbers (Refusal.Reserved j) refl) in
       let b = by-first (reservedCheck (rows f)) (remaining f) (Refusal.Reserved j) (not-given remainingNumbers (remaining-numbers f) (Refusal.Reserved j) refl) in (
-        λ e. let x = a .0 (sym parts-order ∙ e) in record { tabled = tabled-parts (x .0); first = rule-rule (rows f) j .0 (b .0 (x .1)) },
-        λ t. parts-order ∙ a .1 (tabled-made (t .tabled), b .1 (rule-rule (rows f) j .1 (t .first))),
+        λ e. let x = a .0 (sym parts-order ∙ e) in record { tabled = tabled-parts (x .0); first = rule-told (rows f) j .0 (b .0 (x .1)) },
+        λ t. parts-order ∙ a .1 (tabled-made (t .tabled), b .1 (rule-told (rows f) j .1 (t .first))),
       )
 
   -- a file with a section of the range is refused: by one of rules 1 to 9, or by 36 at the first such section

@@ -165,7 +165,7 @@ impl Seen {
             return Seen {
                 reserved: self.reserved,
                 codec: self.codec,
-                range: first_bad(self.range, true, k),
+                range: self.range,
                 floor: r.start + r.len,
                 streams: self.streams,
             };

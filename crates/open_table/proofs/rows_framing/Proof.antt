@@ -3,7 +3,7 @@ use mathlib.Core.Path.{sym, _∙_}
 use Prim.Native.Nat.{_-_}
 use borrow.Author.Tests.{not-true, not-false}
 use mathlib.Core.Logic.{⊎-elim}
-use Rattle.open_table.specs.Pass.Laws.{Passing, pass-few, pass-many, passing-start, passing-cut, passing-long, passing-skipped, passing-read, passing-stale, passing-unfilled, passing-ended}
+use Rattle.open_table.specs.Pass.Laws.{Passing, pass-few, pass-many, passing-start, passing-cut, passing-long, passing-unread, passing-read, passing-stale, passing-unfilled, passing-ended}
 use Rattle.open_table.proofs.rows_framing.Statement.{statement}
 use Rattle.open_table.proofs.rows_framing.Tie as tie
 use borrow.Author.Needs.{needs}
@@ -127,7 +127,7 @@ loop-again c =
     let m = c .before .before .before .before .before .before .before .before .before .before .before .before .before .le16 .result in
     let h = c .before .before .before .before .before .before .before .before .before .before .before .before .before .le16 .ensures .0 in
     let most = c .before .before .before .before .before .before .before .before .before .before .before .if2 .left in
-    ⊎-elim (λ w. rw (c .before .ranged .ensures, w .5, w .6, w .7, w .4 .ensures, w .3 .ensures) (passing-read (a .b .now) (a .limit) m (l .k) (l .i) (l .seen) (l .met) (l .places) (l .inv) (omega arith) (omega arith) (c .before .before .before .before .before .before .row-at .result) (c .before .before .before .before .before .before .row-at .ensures) (omega arith) (c .before .before .before .slot .result) (c .before .before .before .slot .ensures) (omega (arith, w .0 .taken)) (sym (w .1 .ensures) ∙ not-false _ (w .2 .left)))) (λ w. rw (c .before .ranged .ensures, w .2, w .3, w .4, w .1 .ensures) (passing-skipped (a .b .now) (a .limit) m (l .k) (l .i) (l .seen) (l .met) (l .places) (l .inv) (omega arith) (omega arith) (c .before .before .before .before .before .before .row-at .result) (c .before .before .before .before .before .before .row-at .ensures) (omega arith) (omega arith))) (c .before .before .if5 .came)
+    ⊎-elim (λ w. rw (c .before .ranged .ensures, w .5, w .6, w .7, w .4 .ensures, w .3 .ensures) (passing-read (a .b .now) (a .limit) m (l .k) (l .i) (l .seen) (l .met) (l .places) (l .inv) (omega arith) (omega arith) (c .before .before .before .before .before .before .row-at .result) (c .before .before .before .before .before .before .row-at .ensures) (omega arith) (c .before .before .before .slot .result) (c .before .before .before .slot .ensures) (omega (arith, w .0 .taken)) (sym (w .1 .ensures) ∙ not-false _ (w .2 .left)))) (λ w. rw (c .before .ranged .ensures, w .2, w .3, w .4, w .1 .ensures) (passing-unread (a .b .now) (a .limit) m (l .k) (l .i) (l .seen) (l .met) (l .places) (l .inv) (omega arith) (omega arith) (c .before .before .before .before .before .before .row-at .result) (c .before .before .before .before .before .before .row-at .ensures) (omega arith) (omega arith))) (c .before .before .if5 .came)
 
 add-if7 : tie.Need-add-if7 Inv-loop μ-loop
 add-if7 c = search needs

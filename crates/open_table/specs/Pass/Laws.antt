@@ -23,7 +23,7 @@ use Rattle.frame.specs.declared.Framing.{Framing}
 use Rattle.frame.specs.Kind as kind
 use Rattle.frame.specs.Kind.Laws.{numberIn, numberAt, slot-found, slot-of}
 use Rattle.frame.specs.Frame.{rowAt, rowsFrom, endFrom, entryCount, rowsOf, endOf, rangeOf, nowhere, has, repeated, sectionOf, all, nameGood, onceGood, kindsGood, fills, tableGood, eachRow, kindGood, codecGood, rangeGood, ranges, keyCount, edgeCount, bitsOf, recordFrom, framedFrom, tableCheck, reservedCheck, codecCheck, rangeCheck, rowsCheck}
-use Rattle.frame.specs.Frame.Laws.{fixed-unreserved, reserved-kinds, each-good, rows-on, end-on, row-room, rows-none, end-none}
+use Rattle.frame.specs.Frame.Laws.{fixed-unreserved, reserved-kinds, name-unread, each-good, rows-on, end-on, row-room, rows-none, end-none}
 use Rattle.frame.specs.Open.{framing}
 use Rattle.open_table.specs.declared.Seen.{Seen}
 use Rattle.open_table.specs.Pass.{firstBad, toldBad, unseen, coded, unread, ranged, metAt, placeAt, neededFrom, requiredSeen, framedSeen, passed}
@@ -195,16 +195,16 @@ module _ (limit : ℕ) (rows : List Row) where
 
     -- r is of another kind
     module _ (past : length kind.kinds ≤ kind.slotOf (r .kind)) where
-      codec-skipped : codecGood r ≡ true
-      codec-skipped = rw (le-ltb (kind.slotOf (r .kind)) (length kind.kinds) past)
+      codec-unread : codecGood r ≡ true
+      codec-unread = rw (le-ltb (kind.slotOf (r .kind)) (length kind.kinds) past)
 
-      pub noted-skipped : {met : List Bool} {places : List Range} → nameGood r ≡ true → Noted limit rows (r ∷ rest) k s met places
+      pub noted-unread : {met : List Bool} {places : List Range} → nameGood r ≡ true → Noted limit rows (r ∷ rest) k s met places
           → Noted limit rows rest (k + 1) (ranged limit k (unread k s (r .kind)) r) met places
       unfolding unread ranged has
-      noted-skipped g n = record {
+      noted-unread g n = record {
         names = names-on g (n .names);
         reserved-are = each-on kindGood Refusal.Reserved (s .reserved) (kindGood r) refl (n .reserved-are);
-        codecs-are = each-past codecGood Refusal.Codec (toldBad Refusal.Codec (s .codec)) codec-skipped (n .codecs-are);
+        codecs-are = each-past codecGood Refusal.Codec (toldBad Refusal.Codec (s .codec)) codec-unread (n .codecs-are);
         ranges-are = ranges-on (n .ranges-are);
         streams-are = n .streams-are ∙ sym (or-assoc (s .streams) (eqb (r .kind) kind.properties) (has kind.properties rest));
         kinds-are = λ i h. met-other (numberAt i) rows r rest (ne-eqb (r .kind) (numberAt i) (λ z. let e = slot-of i h in let d = ap kind.slotOf z in omega arith)) (n .kinds-are i h);
@@ -313,9 +313,6 @@ module _ (r : Row) where
   module _ (short : r .namelen ≤ kind.longestName) where
     pub name-read : kind.slotOf (r .kind) < length kind.kinds → nameGood r ≡ eqb (r .namelen) 0
     name-read e = rw (lt-ltb (kind.slotOf (r .kind)) (length kind.kinds) e, le-leb (r .namelen) kind.longestName short)
-
-    pub name-skipped : length kind.kinds ≤ kind.slotOf (r .kind) → nameGood r ≡ true
-    name-skipped e = rw (le-ltb (kind.slotOf (r .kind)) (length kind.kinds) e, le-leb (r .namelen) kind.longestName short)
 
   module _ (limit floor : ℕ) where
     pub range-below : r .start < floor → rangeGood limit floor r ≡ false
@@ -456,8 +453,8 @@ module _ (b : List ℕ) (limit count : ℕ) where
             let near = n .near in
             record { upto = omega arith; near = omega arith; ends = sym (end-on b count i k lt r e) ∙ n .ends; met-of = p ∙ n .met-of; places-of = q ∙ n .places-of; noted = m }
 
-        pub passing-skipped : length kind.kinds ≤ kind.slotOf (r .kind) → Passing (k + 1) (i + kind.entrySize + r .namelen) (ranged limit k (unread k s (r .kind)) r) met places
-        passing-skipped past = passing-on refl refl (noted-skipped limit (rowsFrom count b 2) r rest k (omega arith) s past (name-skipped r short past) here)
+        pub passing-unread : length kind.kinds ≤ kind.slotOf (r .kind) → Passing (k + 1) (i + kind.entrySize + r .namelen) (ranged limit k (unread k s (r .kind)) r) met places
+        passing-unread past = passing-on refl refl (noted-unread limit (rowsFrom count b 2) r rest k (omega arith) s past (name-unread r (le-ltb (kind.slotOf (r .kind)) (length kind.kinds) past) short) here)
 
         module _ (slot : ℕ) (at : slot ≡ kind.slotOf (r .kind)) (read : slot < length kind.kinds) where
           named : nameGood r ≡ eqb (r .namelen) 0

@@ -3,7 +3,7 @@
 
 use crate::check::Tally;
 use crate::corpus::open_files::{OpenFile, Verdict};
-use crate::format::{ENTRY, TRAILER};
+use crate::format::{COUNTS, ENTRY, TRAILER};
 use crate::layout::{mend, Header, Layout, Section};
 use crate::numbers::read_le;
 use crate::open::open;
@@ -98,15 +98,16 @@ impl Entry {
 }
 
 /// The entries of a file that passes checks 1 to 8: as many as the section count
-/// says, or as there is room for.
-fn entries(file: &[u8]) -> Vec<Entry> {
+/// says, or as there is room for. And the bytes of the body behind them, if all
+/// are there.
+fn entries(file: &[u8]) -> (Vec<Entry>, Option<&[u8]>) {
     let end = file.len() - TRAILER;
     let begin = file.len() - read_le(&file[end + 8..end + 12]) as usize;
     let mut at = begin + 2;
     let mut entries = Vec::new();
     for _ in 0..read_le(&file[begin..at]) {
         let Some(entry) = file[..end].get(at..at + ENTRY) else {
-            break;
+            return (entries, None);
         };
         entries.push(Entry {
             at,
@@ -117,12 +118,14 @@ fn entries(file: &[u8]) -> Vec<Entry> {
         });
         at += ENTRY + usize::from(entry[3]);
     }
-    entries
+    (entries, file[..end].get(at..))
 }
 
 /// A file by its table.
 struct Case {
     entries: Vec<Entry>,
+    /// The bytes of the body behind the entries, if all are there.
+    rest: Option<Vec<u8>>,
     minor: u8,
     /// The lowest byte of the flags.
     flags: u8,
@@ -132,7 +135,7 @@ struct Case {
 
 impl Case {
     fn of(file: &[u8]) -> Self {
-        let entries = entries(file);
+        let (entries, rest) = entries(file);
         let mut skipping = file.to_vec();
         for entry in entries.iter().filter(|entry| entry.is_reserved()) {
             // The upper byte of the kind: 0x0107 to 0x01FF are skipped.
@@ -141,6 +144,7 @@ impl Case {
         mend(&mut skipping);
         Case {
             entries,
+            rest: rest.map(<[u8]>::to_vec),
             minor: file[9],
             flags: file[12],
             otherwise: told(&skipping),
@@ -189,6 +193,21 @@ impl Case {
     fn count(&self, kind: u16) -> usize {
         let same = |entry: &&Entry| entry.kind == kind;
         self.entries.iter().filter(same).count()
+    }
+
+    /// Does each entry keep the rules under 9?
+    fn entries_are_right(&self) -> bool {
+        let is_right = |entry: &Entry| {
+            let once = self.count(entry.kind) == 1;
+            entry.name_length < 64 && (!entry.is_read() || once && entry.name_length == 0)
+        };
+        let needed = (1..5).all(|kind| self.count(kind) == 1);
+        needed && self.entries.len() < 65 && self.entries.iter().all(is_right)
+    }
+
+    /// Is what follows the entries all that can be wrong under 9, and such?
+    fn followed_by(&self, is: fn(&[u8]) -> bool) -> bool {
+        self.entries_are_right() && self.rest.as_deref().is_some_and(is)
     }
 
     /// Is an entry's name too long, among those that this picks by its place and
@@ -330,7 +349,8 @@ fn form_sorts() -> Vec<Sort> {
     sorts
 }
 
-/// Two and three of them, the first being the smallest kind, and the largest.
+/// Two and three of them, the first being the smallest kind, and the largest;
+/// and two of one kind.
 fn several_sorts() -> Vec<Sort> {
     let mut sorts = Vec::new();
     for count in [2, 3] {
@@ -346,6 +366,27 @@ fn several_sorts() -> Vec<Sort> {
                     && intended == told_at(places[0])
                     && kinds.len() == count
                     && first == Some(kinds[end])
+            }));
+        }
+    }
+    sorts.extend(twice_sorts());
+    sorts
+}
+
+/// Two of one kind, with other entries between them and without.
+fn twice_sorts() -> Vec<Sort> {
+    let mut sorts = Vec::new();
+    for kind in [0x0007, 0x00FF] {
+        for (word, side_by_side) in [("side by side", true), ("apart", false)] {
+            let what = format!("two of one kind, {kind:#06x}, {word}");
+            sorts.push(sort(what, move |case, intended| {
+                let [first, second] = case.reserved()[..] else {
+                    return false;
+                };
+                case.count(kind) == 2
+                    && case.otherwise.is_none()
+                    && intended == told_at(first)
+                    && side_by_side == (first + 1 == second)
             }));
         }
     }
@@ -410,5 +451,15 @@ fn table_sorts() -> Vec<Sort> {
     });
     add("nothing else", |case| case.entries.len() == 1);
     add("64 others", |case| case.entries.len() == 65);
+    // The offset bits, 24, are the last byte of the counts.
+    add("a body not filled, a byte before the counts", |case| {
+        case.followed_by(|rest| rest.len() == COUNTS + 1 && rest[COUNTS] == 24)
+    });
+    add("a body not filled, a byte after the counts", |case| {
+        case.followed_by(|rest| rest.len() == COUNTS + 1 && rest[COUNTS - 1] == 24)
+    });
+    add("a body not filled, a byte too few", |case| {
+        case.followed_by(|rest| rest.len() == COUNTS - 1)
+    });
     sorts
 }

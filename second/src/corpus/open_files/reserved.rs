@@ -20,6 +20,7 @@ pub fn add(files: &mut Files) {
     alone(files);
     more_of_the_range(files);
     several(files);
+    one_kind_twice(files);
     forms(files);
     minors(files);
     many_sections(files);
@@ -89,6 +90,22 @@ fn several(files: &mut Files) {
         });
         let name = format!("reserved-at-{word}");
         files.refused(name, layout, told_at(entries[0].0));
+    }
+}
+
+/// Only a kind that is read is there at most once.
+fn one_kind_twice(files: &mut Files) {
+    for kind in [0x0007, 0x00FF] {
+        for places in [[0, 1], [0, 5], [2, 3], [4, 5]] {
+            let layout = one_edge().with(|l| {
+                for place in places {
+                    l.sections.insert(place, Section::new(kind, *b"new"));
+                }
+            });
+            let [first, second] = places;
+            let name = format!("kind-{kind}-twice-at-{first}-and-{second}");
+            files.refused(name, layout, told_at(first));
+        }
     }
 }
 
@@ -264,8 +281,18 @@ fn table_first(files: &mut Files) {
             add("count-said-4", &|l| l.section_count = Some(4));
             add("count-said-6", &|l| l.section_count = Some(6));
             add("body-longer", &|l| l.body_rest = vec![0]);
+            add("body-shorter", &|l| l.body_cut = 1);
+            add("byte-before-counts", &byte_before_counts);
         }
     }
+}
+
+/// A byte between the entries and the counts: a name in the last entry, whose
+/// length says none.
+fn byte_before_counts(layout: &mut Layout) {
+    let last = layout.sections.last_mut().expect("a section");
+    last.name = vec![0];
+    last.stated.name_length = Some(0);
 }
 
 /// The range of the reserved section itself is asked later.
