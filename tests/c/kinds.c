@@ -1,28 +1,36 @@
 /* Sound files with the kind of one section changed: every call that opens a file refuses
- * exactly the reserved kinds, 0x0007 to 0x00FF, with 36 at the entry. */
+ * exactly the reserved kinds, 0x0007 to 0x00FF, with 36 at the entry. Where the file still
+ * opens, every call answers as before, but for the kind in the section list. */
 #include <inttypes.h>
 #include <stdio.h>
 #include <string.h>
 
 #include "test.h"
 
-enum { TRAILER = 20, TABLE_HEAD = 2, ENTRY = 28, ROW = 56, PARTNERS = 4, ROOM = 4096 };
+enum { TRAILER = 20, TABLE_HEAD = 2, ENTRY = 28, PARTNERS = 4, ROOM = 4096 };
 
-/* A file that passes, and what it answers about its first key. */
+/* A file that passes, and what the calls answer about it and about its first key. */
 typedef struct {
     const char *name;
     Bytes file;
     EdgeSstOpened opened;
+    EdgeSstHeader header;
+    EdgeSstSummary summary;
+    EdgeSstDone done;
+    uint8_t batch[ROOM];
     uint8_t key[ID];
     EdgeSstLooked looked;
     uint8_t partners[PARTNERS * ID], marks[PARTNERS];
     uint64_t logs[PARTNERS];
 } Sound;
 
-/* The file with a kind changed, and what every call that opens it is to tell. */
+/* The file with the kind of an entry changed, and what every call that opens it is to
+ * tell. */
 typedef struct {
     char name[LINE];
     Bytes file;
+    size_t entry;
+    uint64_t kind;
     EdgeSstTold told;
 } Changed;
 
@@ -33,62 +41,108 @@ static EdgeSstTold tell(uint64_t number, uint64_t place) {
     return told;
 }
 
-/* Every answer begins with its refusal; after that of a refused call there are zeros. */
-static void hold(const Changed *c, const char *call, const void *answer, size_t n) {
+/* What a call gives, n bytes, begins with its refusal; after that of a refused call there are
+ * zeros. A call that is not refused gives exactly the answer. */
+static void hold(const Changed *c, const char *call, const void *got, const void *answer, size_t n) {
     static const uint8_t zeros[sizeof(EdgeSstSummary)];
-    EdgeSstTold got;
-    memcpy(&got, answer, sizeof got);
+    EdgeSstTold told;
+    memcpy(&told, got, sizeof told);
     calls++;
-    if (memcmp(&got, &c->told, sizeof got) != 0)
+    if (memcmp(&told, &c->told, sizeof told) != 0)
         differ("%s: %s tells %" PRIu64 " at %" PRIu64 " beside %" PRIu64 ", expected %" PRIu64 " at %" PRIu64, c->name,
-               call, got.number, got.place, got.beside, c->told.number, c->told.place);
-    if (got.number != 0 && memcmp((const uint8_t *)answer + sizeof got, zeros, n - sizeof got) != 0)
+               call, told.number, told.place, told.beside, c->told.number, c->told.place);
+    else if (told.number == 0 && memcmp(got, answer, n) != 0)
+        differ("%s: %s gives another answer", c->name, call);
+    if (told.number != 0 && memcmp((const uint8_t *)got + sizeof told, zeros, n - sizeof told) != 0)
         differ("%s: %s refuses, and tells more than that", c->name, call);
 }
 
-/* An output of a refused call is as it was. */
-static void hold_lent(const Changed *c, const char *what, Lent lent, Fill fill) {
-    if (c->told.number != 0)
-        hold_output(c->name, what, lent, fill, NULL, 0);
-    else
-        hold_guards(c->name, what, lent);
+/* An output of a refused call is as it was; that of another begins with the answer. */
+static void hold_lent(const Changed *c, const char *what, Lent lent, Fill fill, const void *answer, uint64_t n) {
+    hold_output(c->name, what, lent, fill, c->told.number == 0 ? answer : NULL, (size_t)n);
     take_back(lent);
 }
 
-static void ask_frame(const Changed *c) {
-    EdgeSstOpened opened = edge_sst_open(c->file.p, c->file.n);
-    EdgeSstHeader header = edge_sst_header(c->file.p, c->file.n);
-    Lent rows = lend(EDGE_SST_MOST_SECTIONS * ROW, AS_NUMBERS);
-    EdgeSstListed listed = edge_sst_sections(c->file.p, c->file.n, (uint64_t *)rows.bytes, rows.n / 8);
-    hold(c, "open", &opened, sizeof opened);
-    hold(c, "header", &header, sizeof header);
-    hold(c, "sections", &listed, sizeof listed);
-    hold_lent(c, "rows", rows, AS_NUMBERS);
+static uint64_t number_at(const uint8_t *p, size_t n) {
+    Bytes at;
+    at.p = p;
+    at.n = n;
+    return take_number(&at, n);
 }
 
-static void ask_desk(const Changed *c) {
+/* Where the footer begins, how many entries its table has, and where this one begins. */
+static size_t footer_of(Bytes file) { return file.n - (size_t)number_at(file.p + file.n - 12, 4); }
+
+static size_t entries_of(Bytes file) { return (size_t)number_at(file.p + footer_of(file), TABLE_HEAD); }
+
+static size_t entry_of(Bytes file, size_t entry) {
+    size_t at = footer_of(file) + TABLE_HEAD;
+    while (entry-- > 0)
+        at += ENTRY + file.p[at + 3];
+    return at;
+}
+
+/* The row of this entry, as its bytes say. */
+static EdgeSstRow row_of(Bytes file, size_t entry) {
+    size_t at = entry_of(file, entry);
+    const uint8_t *p = file.p + at;
+    EdgeSstRow row;
+    row.kind = number_at(p, 2);
+    row.codec = p[2];
+    row.nameat = at + ENTRY;
+    row.namelen = p[3];
+    row.start = number_at(p + 4, 8);
+    row.len = number_at(p + 12, 8);
+    row.sum = number_at(p + 20, 8);
+    return row;
+}
+
+/* The rows are those of the sound file, with the new kind. */
+static void ask_rows(const Changed *c, const Sound *s) {
+    EdgeSstRow rows[EDGE_SST_MOST_SECTIONS];
+    EdgeSstListed answer = {0, 0, 0, 0}, got;
+    Lent lent = lend(sizeof rows, AS_NUMBERS);
+    size_t i;
+    answer.rows = entries_of(s->file);
+    for (i = 0; i < answer.rows; i++)
+        rows[i] = row_of(s->file, i);
+    rows[c->entry].kind = c->kind;
+    got = edge_sst_sections(c->file.p, c->file.n, (uint64_t *)lent.bytes, lent.n / 8);
+    hold(c, "sections", &got, &answer, sizeof got);
+    hold_lent(c, "rows", lent, AS_NUMBERS, rows, sizeof rows[0] * answer.rows);
+}
+
+static void ask_frame(const Changed *c, const Sound *s) {
+    EdgeSstOpened opened = edge_sst_open(c->file.p, c->file.n);
+    EdgeSstHeader header = edge_sst_header(c->file.p, c->file.n);
+    hold(c, "open", &opened, &s->opened, sizeof opened);
+    hold(c, "header", &header, &s->header, sizeof header);
+}
+
+static void ask_desk(const Changed *c, const Sound *s) {
     EdgeSstTold checked = edge_sst_check(c->file.p, c->file.n);
     EdgeSstSummary summary = ask_summary(c->name, c->file);
-    Lent batch = lend(ROOM, AS_BYTES);
+    Lent batch = lend(sizeof s->batch, AS_BYTES);
     EdgeSstDone done = edge_sst_read_out(c->file.p, c->file.n, batch.bytes, batch.n);
-    hold(c, "check", &checked, sizeof checked);
-    hold(c, "summary", &summary, sizeof summary);
-    hold(c, "read-out", &done, sizeof done);
-    hold_lent(c, "batch", batch, AS_BYTES);
+    hold(c, "check", &checked, &c->told, sizeof checked);
+    hold(c, "summary", &summary, &s->summary, sizeof summary);
+    hold(c, "read-out", &done, &s->done, sizeof done);
+    hold_lent(c, "batch", batch, AS_BYTES, s->batch, s->done.bytes);
 }
 
 static void ask_keys(const Changed *c, const Sound *s) {
+    uint64_t d = s->looked.degree;
     Lent alone = lend(sizeof s->partners, AS_BYTES), partners = lend(sizeof s->partners, AS_BYTES);
     Lent logs = lend(sizeof s->logs, AS_NUMBERS), marks = lend(sizeof s->marks, AS_MARKS);
     EdgeSstLooked some = edge_sst_partners(c->file.p, c->file.n, s->key, alone.bytes, alone.n);
     EdgeSstLooked all = edge_sst_lookup(c->file.p, c->file.n, s->key, partners.bytes, partners.n,
                                         (uint64_t *)logs.bytes, PARTNERS, marks.bytes, marks.n);
-    hold(c, "partners", &some, sizeof some);
-    hold(c, "lookup", &all, sizeof all);
-    hold_lent(c, "partners alone", alone, AS_BYTES);
-    hold_lent(c, "partners", partners, AS_BYTES);
-    hold_lent(c, "log numbers", logs, AS_NUMBERS);
-    hold_lent(c, "marks", marks, AS_MARKS);
+    hold(c, "partners", &some, &s->looked, sizeof some);
+    hold(c, "lookup", &all, &s->looked, sizeof all);
+    hold_lent(c, "partners alone", alone, AS_BYTES, s->partners, ID * d);
+    hold_lent(c, "partners", partners, AS_BYTES, s->partners, ID * d);
+    hold_lent(c, "log numbers", logs, AS_NUMBERS, s->logs, 8 * d);
+    hold_lent(c, "marks", marks, AS_MARKS, s->marks, d);
 }
 
 /* The lookups by the record of the sound file answer as they did: they do not look at
@@ -109,23 +163,6 @@ static void ask_by_record(const Changed *c, const Sound *s) {
     take_back(partners);
     take_back(logs);
     take_back(marks);
-}
-
-static uint64_t number_at(const uint8_t *p, size_t n) {
-    Bytes at;
-    at.p = p;
-    at.n = n;
-    return take_number(&at, n);
-}
-
-/* Where the footer begins, and where this entry of the table does. */
-static size_t footer_of(Bytes file) { return file.n - (size_t)number_at(file.p + file.n - 12, 4); }
-
-static size_t entry_of(Bytes file, size_t entry) {
-    size_t at = footer_of(file) + TABLE_HEAD;
-    while (entry-- > 0)
-        at += ENTRY + file.p[at + 3];
-    return at;
 }
 
 /* Puts the kind into the entry and mends the sum of the footer. */
@@ -150,9 +187,12 @@ static void with_kind(const Sound *s, size_t entry, uint64_t kind, EdgeSstTold t
     snprintf(c.name, sizeof c.name, "%s, kind %" PRIu64 " at entry %lu", s->name, kind, (unsigned long)entry);
     c.file.p = p;
     c.file.n = s->file.n;
+    c.entry = entry;
+    c.kind = kind;
     c.told = told;
-    ask_frame(&c);
-    ask_desk(&c);
+    ask_frame(&c, s);
+    ask_rows(&c, s);
+    ask_desk(&c, s);
     ask_keys(&c, s);
     ask_by_record(&c, s);
     give_back(c.file);
@@ -188,8 +228,7 @@ static void each_kind(const Sound *s, size_t entry) {
  * told first. */
 static void each_entry(const Sound *s) {
     static const uint64_t kinds[] = {0x0007, 0x0008, 0x0080, 0x00FF};
-    uint64_t entries = number_at(s->file.p + footer_of(s->file), TABLE_HEAD);
-    size_t entry, i;
+    size_t entries = entries_of(s->file), entry, i;
     for (entry = 0; entry < entries; entry++) {
         uint64_t was = number_at(s->file.p + entry_of(s->file, entry), 2);
         int needed = was >= EDGE_SST_KIND_KEYS && was <= EDGE_SST_KIND_LOG_NUMBERS;
@@ -218,10 +257,13 @@ static Sound sound_file(const char *dir, const char *name) {
     s.name = name;
     s.file = find_file(dir, name);
     s.opened = edge_sst_open(s.file.p, s.file.n);
+    s.header = edge_sst_header(s.file.p, s.file.n);
+    s.summary = ask_summary(name, s.file);
+    s.done = edge_sst_read_out(s.file.p, s.file.n, s.batch, sizeof s.batch);
     memcpy(s.key, s.file.p + s.opened.keystart, ID);
     s.looked = edge_sst_lookup(s.file.p, s.file.n, s.key, s.partners, sizeof s.partners, s.logs, PARTNERS, s.marks,
                                sizeof s.marks);
-    calls += 3;
+    calls += 5;
     if (edge_sst_check(s.file.p, s.file.n).number != 0 || s.looked.found != 1 || s.looked.degree > PARTNERS)
         differ("%s: it does not pass, or its first key is not found", name);
     return s;
