@@ -2,8 +2,8 @@
 -- at their edges.
 use mathlib.Core.Path.{_≡_, refl}
 use mathlib.Core.List.{List, [], _∷_, _++_}
-use mathlib.Core.Bool.{true, false}
-use Prim.Native.Nat.{ℕ}
+use mathlib.Core.Bool.{true, false, not}
+use Prim.Native.Nat.{ℕ, zero, suc}
 use lib.ListN.{replicate}
 use Rattle.codes.specs.Little.{leAt, leBytes}
 use Rattle.codes.specs.Ids.{beAt, idAt, halvesAt}
@@ -16,6 +16,7 @@ use Rattle.frame.specs.declared.ends.Header.{Header}
 use Rattle.frame.specs.Kind as kind
 use Rattle.frame.specs.Frame.{rowAt, rowsFrom, endFrom, rowsOf, endOf, has, repeated, sectionOf, all, kindsGood, tableGood, eachRow, ranges, sizesGood, presenceGood, countsGood, bodyOf, headerIn, sizeCheck, headCheck, tailCheck, sumCheck, endsCheck, rowsCheck, footerCheck, shapeCheck, frameCheck, codecCheck, rangeCheck}
 use Rattle.frame.specs.Open.{recordFrom, recordOf, framedFrom, framedOf, knownOf, keysFrom, offsetGood, offsetsFrom, fenceGood, fencesFrom, fencesGood, contentCheck, fileCheck, opening, openOf}
+use Rattle.frame.specs.Given.{earlyNumbers, openingNumbers}
 use Rattle.frame.specs.Reserved.{kindAt}
 use Rattle.frame.specs.Layout.{Section, rawSection, headBytes, payload, entry, entries, bodyBytes, trailer, layOut}
 
@@ -148,6 +149,27 @@ pub range-ends :
     × (kind.unknown 0 ≡ true) × (kind.unknown 1 ≡ false) × (kind.unknown 6 ≡ false) × (kind.unknown 7 ≡ false) × (kind.unknown 0x00FF ≡ false) × (kind.unknown 0x0100 ≡ false) × (kind.unknown 0x0101 ≡ true)
     × (kind.unknown 0x01FF ≡ true) × (kind.unknown 0x0200 ≡ true) × (kind.unknown 0xFFFF ≡ true)
 range-ends = (refl, refl, refl, refl, refl, refl, refl, refl, refl, refl, refl, refl, refl, refl, refl, refl, refl)
+
+-- d kinds from k on
+abbrev upFrom : ℕ → ℕ → List ℕ
+upFrom zero k = []
+upFrom (suc d) k = k ∷ upFrom d (suc k)
+
+-- every kind up to 0x0500: the range has no hole, and nothing beside it is of it
+pub range-whole :
+    (all kind.reserved (upFrom 249 7) ≡ true)
+    × (all (λ k. not (kind.reserved k)) (upFrom 7 0) ≡ true)
+    × (all (λ k. not (kind.reserved k)) (upFrom 1024 256) ≡ true)
+    × (all (λ k. not (kind.unknown k)) (upFrom 256 1) ≡ true)
+    × (all kind.unknown (upFrom 1024 257) ≡ true)
+unfolding all
+range-whole = (refl, refl, refl, refl, refl)
+
+-- the numbers of opening, in the order of checks
+pub numbers :
+    (earlyNumbers ≡ 1 ∷ 2 ∷ 3 ∷ 4 ∷ 5 ∷ 6 ∷ 7 ∷ 8 ∷ 9 ∷ [])
+    × (openingNumbers ≡ 1 ∷ 2 ∷ 3 ∷ 4 ∷ 5 ∷ 6 ∷ 7 ∷ 8 ∷ 9 ∷ 36 ∷ 10 ∷ 11 ∷ 12 ∷ 13 ∷ 14 ∷ 15 ∷ [])
+numbers = (refl, refl)
 
 -- ---- rules 9, 36, 10 and 11 of a table: 36 at the first entry of the range, after 9 and before 10 of any entry
 

@@ -8,6 +8,8 @@ use native.Mathlib.Omega.{arith}
 use mathlib.Core.List.{List, [], _∷_}
 use mathlib.Core.Bool.{Bool, true, false, not}
 use lib.ListN.{length}
+use lib.Dec.{eqb}
+use borrow.Author.Tests.{ne-eqb}
 use Rattle.codes.specs.Little.{leAt}
 use Rattle.refusal.specs.declared.Refusal.{Refusal}
 use Rattle.refusal.specs.declared.Check.{Check}
@@ -16,8 +18,8 @@ use Rattle.refusal.specs.Check.{_⊳_}
 use Rattle.refusal.specs.Check.Laws.{fine-parts, fine-both, bad-then, then-assoc, by-first, by-second, good-parts, good-fine, listed, Numbers, numbers-then, numbers-more, not-given}
 use Rattle.frame.specs.declared.Row.{Row}
 use Rattle.frame.specs.Kind as kind
-use Rattle.frame.specs.Frame.{rowAt, nextAt, rowsFrom, endFrom, rowsOf, bodyOf, eachRow, kindGood, reservedCheck, sizeCheck, headCheck, tailCheck, sumCheck}
-use Rattle.frame.specs.Frame.Laws.{Table, table-parts, table-made, ReservedKind, reserved-kinds, each-good, each-bad}
+use Rattle.frame.specs.Frame.{rowAt, nextAt, rowsFrom, endFrom, entryCount, rowsOf, endOf, bodyOf, has, repeated, all, nameGood, eachRow, kindGood, reservedCheck, sizeCheck, headCheck, tailCheck, sumCheck}
+use Rattle.frame.specs.Frame.Laws.{kinds-alike, Table, table-parts, table-made, ReservedKind, reserved-kinds, each-good, each-bad}
 use Rattle.frame.specs.Open.{fileCheck}
 use Rattle.frame.specs.Given.{headNumbers, footNumbers, remainingNumbers, earlyNumbers, size-numbers, head-numbers, foot-numbers, remaining-numbers, rows, foot, remaining, chain}
 
@@ -33,6 +35,10 @@ unfolding kindAt rowsFrom endFrom rowAt
 kind-bytes b zero i j h = absurd (omega arith)
 kind-bytes b (suc d) i zero h = refl
 kind-bytes b (suc d) i (suc j) h = kind-bytes b d (nextAt b i) j (omega arith)
+
+pub kind-table : (b : List ℕ) (j : ℕ) → j < entryCount b → kindAt (rowsOf b) j ≡ leAt b (endFrom j b 2) 2
+unfolding rowsOf
+kind-table b j h = kind-bytes b (entryCount b) 2 j h
 
 -- entry j is "the first such entry"
 pub record FirstReserved (rs : List Row) (j : ℕ) : Type 0 where
@@ -106,6 +112,47 @@ module _ (rs : List Row) where
   -- a first, of any
   some-first : (i : ℕ) → ReservedKind (kindAt rs i) → (j : ℕ) × FirstReserved rs j
   some-first i h = ⊎-elim (λ x. absurd (x .0 i h)) (λ x. (x .0, x .1)) (scan rs 0)
+
+-- ---- rule 9 does not see which kind an entry has that is not read: a reserved one is asked for 36 alone
+
+-- two tables of equal names, that have the same kinds but where both are not read
+pub data ButUnread : List Row → List Row → Type 0 where
+  none : ButUnread [] []
+  same : {r t : Row} {rs ts : List Row} → t .kind ≡ r .kind → t .namelen ≡ r .namelen → ButUnread rs ts → ButUnread (r ∷ rs) (t ∷ ts)
+  other : {r t : Row} {rs ts : List Row} → kind.fixed (r .kind) ≡ false → kind.fixed (t .kind) ≡ false → t .namelen ≡ r .namelen → ButUnread rs ts → ButUnread (r ∷ rs) (t ∷ ts)
+
+module _ (k : ℕ) (h : kind.fixed k ≡ true) where
+  unlike : (r : Row) → kind.fixed (r .kind) ≡ false → eqb (r .kind) k ≡ false
+  unlike r e = ne-eqb (r .kind) k (λ q. let v : kind.fixed k ≡ false = (rw q at e) in let w : true ≡ false = sym h ∙ v in let z : _≡_ {A = ℕ} 0 1 = cc in omega arith)
+
+  has-same : {rs ts : List Row} → ButUnread rs ts → has k ts ≡ has k rs
+  unfolding has
+  has-same none = refl
+  has-same (same e l d) = rw (e, has-same d)
+  has-same (other {r} {t} u v l d) = rw (unlike r u, unlike t v, has-same d)
+
+  twice-same : {rs ts : List Row} → ButUnread rs ts → repeated k ts ≡ repeated k rs
+  unfolding repeated
+  twice-same none = refl
+  twice-same (same e l d) = rw (e, has-same d, twice-same d)
+  twice-same (other {r} {t} u v l d) = rw (unlike r u, unlike t v, twice-same d)
+
+names-same : {rs ts : List Row} → ButUnread rs ts → all nameGood ts ≡ all nameGood rs
+unfolding all
+names-same none = refl
+names-same (same e l d) = rw (e, l, names-same d)
+names-same (other u v l d) = rw (u, v, l, names-same d)
+
+pub table-unread : (b c : List ℕ) → Table b → entryCount c ≡ entryCount b → endOf c + kind.countsSize ≡ length c → ButUnread (rowsOf b) (rowsOf c) → Table c
+table-unread b c t n e d =
+    let some = t .some in
+    let most = t .most in record {
+      some = omega arith;
+      most = omega arith;
+      filled = e;
+      names = names-same d ∙ t .names;
+      kinds = kinds-alike (rowsOf b) (rowsOf c) (λ k h. (has-same k h d, twice-same k h d)) ∙ t .kinds;
+    }
 
 -- ---- a file
 
