@@ -25,7 +25,7 @@
  *
  * The refusals of each call, in the order in which they are asked:
  *
- *   edge_sst_open             1 to 9, 36, 10 to 15
+ *   edge_sst_open             1 to 9, 36, 10 to 15, 37
  *   edge_sst_header           those of edge_sst_open
  *   edge_sst_sections, list   those of edge_sst_open, 20
  *   edge_sst_partners         those of edge_sst_open, the group's, 20
@@ -57,10 +57,15 @@
  *                             cut. 32: the spare bytes. Of each its first byte, or the
  *                             group's length where none of it is left; a split partner
  *                             begins with its upper half
- *   19                        the group asked for, not the earlier one at fault
+ *   19                        the group asked for, not the earlier one at fault. By a
+ *                             record with a start index: its two entries there do not
+ *                             differ by its degree, or the later one is above the edge
+ *                             count. Without one: an earlier degree is unreadable or 0,
+ *                             or the edges pass the edge count
  *   20                        what is needed. Lookups: the degree, whichever output is
  *                             short. Section list: rows. Read-out and writer: bytes
  *   24, 25                    the first byte of the record in the batch
+ *   37                        the entry of the start index, of key count plus one
  *   all others                0 */
 #ifndef EDGE_SST_H
 #define EDGE_SST_H
@@ -81,11 +86,11 @@ extern "C" {
  * and rows lie back to back, an archive goes with the header of its own version and no
  * other. */
 #define EDGE_SST_VERSION_MAJOR 0
-#define EDGE_SST_VERSION_MINOR 4
+#define EDGE_SST_VERSION_MINOR 5
 #define EDGE_SST_VERSION_PATCH 0
 #define EDGE_SST_VERSION \
     (10000 * EDGE_SST_VERSION_MAJOR + 100 * EDGE_SST_VERSION_MINOR + EDGE_SST_VERSION_PATCH)
-#define EDGE_SST_VERSION_TEXT "0.4.0"
+#define EDGE_SST_VERSION_TEXT "0.5.0"
 
 /* Bytes of a key and of a partner. They compare as 16 bytes from the first. */
 #define EDGE_SST_KEY_BYTES 16
@@ -129,6 +134,7 @@ extern "C" {
 #define EDGE_SST_KIND_TOMBSTONES 5
 #define EDGE_SST_KIND_FENCES 6
 #define EDGE_SST_KIND_PROPERTIES 0x0100
+#define EDGE_SST_KIND_START_INDEX 0x0200
 #define EDGE_SST_KIND_RESERVED_FIRST 0x0007
 #define EDGE_SST_KIND_RESERVED_LAST 0x00FF
 
@@ -172,6 +178,7 @@ enum {
     EDGE_SST_VARINT_LONG,
     EDGE_SST_VARINT_LARGE,
     EDGE_SST_RESERVED,
+    EDGE_SST_START,
     /* numbers: to here */
 };
 
@@ -189,7 +196,7 @@ static inline const char *edge_sst_text(uint64_t number) {
         "footer length",
         "footer checksum",
         "section table",
-        "a section of kind 1 to 6 is not raw",
+        "a section of kind 1 to 6 or 0x0200 is not raw",
         "section range",
         "counts, lengths or presence of sections",
         "key not above the one before",
@@ -198,11 +205,11 @@ static inline const char *edge_sst_text(uint64_t number) {
         "unknown tag",
         "no longer given: see 33 to 35",
         "no longer given: see 28 to 32",
-        "an earlier degree, or edges past the edge count",
+        "an earlier degree, a start index unlike the degree, or edges past the edge count",
         "output too short",
         "opened record that cannot be of this file",
         "a section's checksum",
-        "degree sum, flag bit 1 or 2, or unused tombstone bits",
+        "degree sum, flag bit 1 or 2, unused tombstone bits, or start index",
         "batch record unknown, cut or misplaced",
         "batch order",
         "more keys, edges or file bytes than the bounds",
@@ -216,6 +223,7 @@ static inline const char *edge_sst_text(uint64_t number) {
         "varint not shortest",
         "varint too large",
         "a section of a reserved kind",
+        "start index entry",
         /* texts: to here */
     };
     return number < sizeof texts / sizeof texts[0] ? texts[number] : "unknown refusal";
@@ -244,7 +252,8 @@ static inline int edge_sst_has_beside(uint64_t number) {
 
 /* The opened record: what opening a file gives. Where it is refused, all but the
  * refusal is 0. The start of a range counts from the file's first byte. marked is 1
- * where the file has tombstones, 0 where it has none. */
+ * where the file has tombstones, 0 where it has none; indexed is 1 where it has a
+ * start index, otherwise 0 and the two fields before it too. */
 typedef struct {
     uint64_t number, place, beside;
     uint64_t keystart, keylen;
@@ -253,9 +262,11 @@ typedef struct {
     uint64_t logstart, loglen;
     uint64_t deadstart, deadlen, marked;
     uint64_t keycount, edgecount, bits;
+    uint64_t indexstart, indexlen, indexed;
 } EdgeSstOpened;
 
-/* Opens the n bytes at p: the frame, the keys, the offsets and the fences are checked. */
+/* Opens the n bytes at p: the frame, the keys, the offsets, the fences and the order of
+ * the start index are checked. */
 EdgeSstOpened edge_sst_open(const uint8_t *p, size_t n);
 
 /* The header of a file. direction is 1 for an inverse file, 0 for a forward one, as
@@ -281,9 +292,10 @@ typedef struct {
 
 /* Writes the partners of the key, EDGE_SST_KEY_BYTES each, over the start of the m
  * bytes at out. o is what edge_sst_open gave for these n bytes, or any numbers: its
- * refusal is not looked at, a mark other than 0 is 1, and numbers that cannot
- * be of these bytes are refusal 21. A record of other bytes is answered with what these
- * bytes say at its ranges: open again when the bytes change. */
+ * refusal is not looked at, marked and indexed other than 0 are 1, and numbers that
+ * cannot be of these bytes are refusal 21; those of tombstones and of a start index
+ * that the record says it has not are not looked at. A record of other bytes is
+ * answered with what these bytes say at its ranges: open again when the bytes change. */
 EdgeSstLooked edge_sst_partners_with(const uint8_t *p, size_t n, const EdgeSstOpened *o,
                                      const uint8_t key[16], uint8_t *out, size_t m);
 
@@ -292,7 +304,9 @@ EdgeSstLooked edge_sst_partners(const uint8_t *p, size_t n, const uint8_t key[16
                                 size_t m);
 
 /* As edge_sst_partners_with, with the log numbers over the start of the l numbers at
- * logs and the dead marks, 0 or 1, over the start of the k bytes at marks. */
+ * logs and the dead marks, 0 or 1, over the start of the k bytes at marks. Where they
+ * begin, the start index of the record says; without one the degrees of all earlier
+ * groups are read and summed, which takes longer the later the key. */
 EdgeSstLooked edge_sst_lookup_with(const uint8_t *p, size_t n, const EdgeSstOpened *o,
                                    const uint8_t key[16], uint8_t *out, size_t m, uint64_t *logs,
                                    size_t l, uint8_t *marks, size_t k);

@@ -45,7 +45,7 @@ const row rows[] = {
     {0},
 };
 
-/* Files of which a byte is changed. */
+/* Files of which a byte is changed, each without and with a start index. */
 static const plan small[] = {
     {1500, 5, ALL_DENSE, 1, NULL, 0}, {1500, 7, ALL_SPLIT, 1, NULL, 0}, {1500, 3, EVEN_SPLIT, 0, NULL, 0}};
 
@@ -56,10 +56,11 @@ function *const ours = (function *)edge_sst_check, *const empty = empty_in_regis
 static bytes input;
 
 /* The last group is as long as there is room for. */
-static bytes filled(const plan *w) {
+static bytes filled(const plan *w, int starts) {
     content c = room_for(w->most / 32 + 2, w->most + 32 * w->degree);
     uint64_t seed = 3, degree = w->degree;
     c.dead = w->dead;
+    c.starts = starts;
     while (degree > 0) {
         content more = c;
         uint64_t s = seed;
@@ -88,7 +89,7 @@ static EdgeSstTold own_sums(const uint8_t *p, size_t n) { return sums_by(edge_ss
 
 void prepare(const row *r) {
     const plan *w = r->plan;
-    input = w->batch != NULL ? file_of_batch(batch_of(w->batch)) : filled(w);
+    input = w->batch != NULL ? file_of_batch(batch_of(w->batch)) : filled(w, 0);
 }
 
 /* A file that passes has the number 0, so that each call starts at its first byte. */
@@ -128,8 +129,8 @@ static void answered(bytes *answers, const char *name, EdgeSstTold told) {
     stop(1, "no answer for '%s'", name);
 }
 
-static void change(const plan *w, uint64_t told[NUMBERS]) {
-    bytes f = filled(w), g = memory(f.size);
+static void change(const plan *w, int starts, uint64_t told[NUMBERS]) {
+    bytes f = filled(w, starts), g = memory(f.size);
     for (uint64_t i = 0, seed = 1; i < CHANGES; i++) {
         change_byte(f, g, i, seed = turn(seed));
         told[same("a changed file", g).number]++;
@@ -163,9 +164,9 @@ void compare(void) {
         sums_asked(input);
         free(input.bytes);
     }
-    for (int i = 0; i < SMALL; i++)
-        change(&small[i], told);
+    for (int i = 0; i < 2 * SMALL; i++)
+        change(&small[i / 2], i % 2, told);
     printf("The same answers: %d files of the corpus, %d of which pass, as its answers say; those of\n", all, fine);
-    printf("the table; and %d with a byte changed, by number:", SMALL * CHANGES);
+    printf("the table; and %d with a byte changed, by number:", 2 * SMALL * CHANGES);
     print_told(told);
 }

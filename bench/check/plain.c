@@ -12,18 +12,20 @@ static inline int any_set(const uint8_t *p, size_t n) {
     return all != 0;
 }
 
-/* All groups, then rule 23, of a file that opens as o. */
+/* All groups, then rule 23, of a file that opens as o: opening has held the index's last entry to the edge count. */
 EdgeSstTold plain_edges(const uint8_t *file, const EdgeSstOpened *o) {
     const uint8_t *partners = file + o->partnerstart, *offset = file + o->offsetstart;
-    const uint8_t *start = partners, *end;
+    const uint8_t *start = partners, *end, *index = o->indexed ? file + o->indexstart : NULL;
     size_t width = o->bits / 8;
     uint64_t sum = 0, degree, count = o->edgecount;
-    int dense, some_dense = 0, some_dead = 0, unused = 0;
+    int dense, some_dense = 0, some_dead = 0, unused = 0, unlike = 0;
     for (uint64_t i = 0; i < o->keycount; i++, start = end) {
         offset += width;
         end = partners + offset_at(offset, width);
         if (!group_good(start, end, &degree, &dense))
             return fault_of(start, end, i);
+        if (index != NULL)
+            unlike |= le64(index + START * i) != sum;
         sum += degree;
         some_dense |= dense;
     }
@@ -37,7 +39,8 @@ EdgeSstTold plain_edges(const uint8_t *file, const EdgeSstOpened *o) {
         }
     }
     uint64_t flags = le32(file + 12);
-    if (sum != count || ((flags & HAS_DEAD) != 0) != some_dead || ((flags & HAS_DENSE) != 0) != some_dense || unused)
+    if (sum != count || ((flags & HAS_DEAD) != 0) != some_dead || ((flags & HAS_DENSE) != 0) != some_dense || unused ||
+        unlike)
         return (EdgeSstTold){.number = EDGE_SST_DATA};
     return (EdgeSstTold){.number = 0};
 }

@@ -6,7 +6,8 @@
 content room_for(uint64_t keys, size_t partners) {
     content c = {.key = memory(ID * keys).bytes, .partners = memory(partners).bytes};
     c.offset = (uint32_t *)memory(4 * (keys + 1)).bytes;
-    c.offset[0] = 0;
+    c.start = (uint32_t *)memory(4 * (keys + 1)).bytes;
+    c.offset[0] = c.start[0] = 0;
     return c;
 }
 
@@ -36,6 +37,7 @@ void add(content *c, uint64_t high, uint64_t low, uint64_t degree, int dense, ui
     uint8_t *end = put_group(c->partners + c->offset[c->keys], degree, dense, seed);
     c->offset[++c->keys] = (uint32_t)(end - c->partners);
     c->edges += degree;
+    c->start[c->keys] = (uint32_t)c->edges;
     c->dense |= dense;
 }
 
@@ -46,13 +48,14 @@ static uint64_t fences_of(const content *c) {
 }
 
 size_t size_of(const content *c) {
-    uint64_t fences = fences_of(c), sections = 4 + (uint64_t)c->dead + (fences > 0) + (c->stream > 0);
+    uint64_t fences = fences_of(c);
+    uint64_t sections = 4 + (uint64_t)c->dead + (fences > 0) + (c->stream > 0) + (uint64_t)c->starts;
     return HEADER + ID * c->keys + (c->keys + 1) * width_of(c) + c->offset[c->keys] + 8 * c->edges +
-           (c->dead ? tombstone_bytes(c->edges) : 0) + (fences > 0 ? FENCES_HEAD + FENCE * fences : 0) +
-           c->stream + 2 + ENTRY * sections + FOOTER_COUNTS + TRAILER;
+           (c->dead ? tombstone_bytes(c->edges) : 0) + (fences > 0 ? FENCES_HEAD + FENCE * fences : 0) + c->stream +
+           (c->starts ? index_bytes(c->keys) : 0) + 2 + ENTRY * sections + FOOTER_COUNTS + TRAILER;
 }
 
-enum { MOST_ROWS = 7 };
+enum { MOST_ROWS = 8 };
 
 /* A file under way: its bytes and the table of the sections that stand in it. */
 typedef struct {
@@ -111,17 +114,28 @@ static uint8_t *put_sections(draft *d, const content *c, uint8_t *p) {
             memcpy(p + i, c->partners, c->stream - i < partners ? c->stream - i : partners);
         section(d, PROPERTIES, p += c->stream);
     }
+    if (c->starts) {
+        for (uint64_t i = 0; i <= c->keys; i++, p += START)
+            put64(p, c->start[i]);
+        section(d, START_INDEX, p);
+    }
     return p;
+}
+
+static size_t footer_of(bytes f) { return le32(f.bytes + f.size - TRAILER + 8); }
+
+/* Puts the footer's own sum behind it. */
+static void seal_footer(bytes f) {
+    size_t footer = footer_of(f);
+    put64(f.bytes + f.size - TRAILER, XXH3_64bits(f.bytes + f.size - footer, footer - TRAILER));
 }
 
 /* Puts the sums into the footer: what stands in the sections and the table is taken as it is. */
 static void seal(bytes f) {
-    uint8_t *trailer = f.bytes + f.size - TRAILER;
-    size_t footer = le32(trailer + 8);
-    uint8_t *body = f.bytes + f.size - footer, *p = body + 2;
+    uint8_t *body = f.bytes + f.size - footer_of(f), *p = body + 2;
     for (uint64_t i = 0; i < le16(body); i++, p += ENTRY)
         put64(p + 20, XXH3_64bits(f.bytes + le64(p + 4), le64(p + 12)));
-    put64(trailer, XXH3_64bits(body, footer - TRAILER));
+    seal_footer(f);
 }
 
 bytes file_of(const content *c) {
@@ -131,6 +145,7 @@ bytes file_of(const content *c) {
     memset(p, 0, HEADER);
     memcpy(p, magic, sizeof magic);
     p[8] = 1;
+    p[9] = (uint8_t)c->starts;
     p[10] = HEADER;
     p[12] = (uint8_t)(HAS_PROPERTIES * (c->stream > 0) + HAS_DEAD * c->dead + HAS_DENSE * c->dense);
     d.file.size = HEADER;
@@ -151,10 +166,22 @@ bytes file_of(const content *c) {
     return d.file;
 }
 
+bytes mixed_file(int starts) {
+    content c = room_for(9, 32 * (9 + 45));
+    uint64_t seed = 5;
+    c.dead = 1;
+    c.starts = starts;
+    for (uint64_t degree = 1; degree <= 9; degree++)
+        add(&c, c.keys * 0xFFFFFFFFFF, turn(c.keys), degree, degree % 3 == 0, &seed);
+    return file_of(&c);
+}
+
 void change_byte(bytes f, bytes g, uint64_t i, uint64_t seed) {
     size_t place = i % 16 == 5 ? 12 : (size_t)(seed >> 20) % f.size;
     memcpy(g.bytes, f.bytes, f.size);
     g.bytes[place] = seed >> 63 ? (uint8_t)(seed >> 8) : (uint8_t)(g.bytes[place] ^ 1u << (seed >> 60));
-    if (i % 4 != 0 && place < f.size - TRAILER - FOOTER_COUNTS - MOST_ROWS * ENTRY)
+    if (i % 4 != 0 && place < f.size - footer_of(f))
         seal(g);
+    else if (i % 4 != 0 && place < f.size - TRAILER)
+        seal_footer(g);
 }

@@ -9,10 +9,12 @@ typedef struct {
     uint64_t keys, edges;
     uint8_t *key, *partners; /* 16 bytes each; the groups */
     uint32_t *offset;        /* where each group begins, and where the last one ends */
+    uint32_t *start;         /* the edges before each group, and all of them */
     int dense;               /* a group is dense */
     int dead;                /* there are tombstones: the last edge alone is dead */
     int fenced;              /* there are fences, also where they need not be */
     int wide;                /* offsets have 32 bits, also where 24 would do */
+    int starts;              /* there is a start index, and minor 1; else neither, also where the writer makes them */
     size_t stream;           /* the bytes of a property stream without a name, the groups again and again; 0: none */
 } content;
 
@@ -28,8 +30,11 @@ void add(content *c, uint64_t high, uint64_t low, uint64_t degree, int dense, ui
 bytes file_of(const content *c);
 size_t size_of(const content *c);
 
+/* A small file: keys of 1 to 9 partners, every third one dense; one edge is dead. */
+bytes mixed_file(int starts);
+
 /* Copies f to g with one byte changed: any, or one time of sixteen the flags. Three
- * times of four all sums are then put right. */
+ * times of four all sums are then put right, or that of the footer if the byte is in it. */
 void change_byte(bytes f, bytes g, uint64_t i, uint64_t seed);
 
 #endif

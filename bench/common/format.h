@@ -7,8 +7,10 @@
 #include <string.h>
 
 enum { HEADER = 64, FOOTER_COUNTS = 17, TRAILER = 20, ENTRY = 28, ID = 16, HALF = 8, FENCES_HEAD = 8, FENCE = 24 };
+enum { START = 8, LEAST_WITH_STARTS = 1025 }; /* a start's bytes; the keys from which the writer has a start index */
 enum { STRIDE = 256, MOST_KEYS = 1 << 24, MOST_EDGES = 1 << 26, MOST_BYTES = 1 << 30, MOST_WITHOUT_FENCES = 65536 };
-enum { KEYS = 1, OFFSETS, PARTNERS, LOGS, TOMBSTONES, FENCES, PROPERTIES = 0x100 };     /* kinds of section */
+enum { KEYS = 1, OFFSETS, PARTNERS, LOGS, TOMBSTONES, FENCES };                         /* kinds of section */
+enum { PROPERTIES = 0x100, START_INDEX = 0x200 };                                       /* more of them */
 enum { RESERVED_FIRST = 7, RESERVED_LAST = 0xff };                                      /* kinds that are refused */
 enum { HAS_PROPERTIES = 1, HAS_DEAD = 2, HAS_DENSE = 4, INVERSE = 8 };                  /* flags */
 enum { SPLIT = 0x01, DENSE = 0x10 };                                                    /* tags of a group */
@@ -70,5 +72,8 @@ static inline uint8_t *put_varint(uint8_t *p, uint64_t x) {
 
 /* The bytes of tombstones for so many edges. */
 static inline uint64_t tombstone_bytes(uint64_t edges) { return (edges + 7) / 8; }
+
+/* The bytes of a start index for so many keys. */
+static inline uint64_t index_bytes(uint64_t keys) { return START * (keys + 1); }
 
 #endif

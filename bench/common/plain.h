@@ -9,6 +9,8 @@ EdgeSstOpened plain_open(const uint8_t *p, size_t n);
 EdgeSstHeader plain_header(const uint8_t *p, size_t n);
 EdgeSstLooked plain_partners_with(const uint8_t *p, size_t n, const EdgeSstOpened *o, const uint8_t key[16],
                                   uint8_t *out, size_t m);
+EdgeSstLooked plain_lookup_with(const uint8_t *p, size_t n, const EdgeSstOpened *o, const uint8_t key[16], uint8_t *out,
+                                size_t m, uint64_t *logs, size_t l, uint8_t *marks, size_t k);
 EdgeSstTold plain_sums(const uint8_t *p, size_t n);                /* rule 22 alone, of a file that opens */
 EdgeSstTold plain_edges(const uint8_t *p, const EdgeSstOpened *o); /* the groups and rule 23, of such a file */
 EdgeSstTold plain_check(const uint8_t *p, size_t n);

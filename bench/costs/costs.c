@@ -63,6 +63,22 @@ static void expect(uint64_t number) {
     }
 }
 
+/* Log numbers of the last key, by the opened record: a start index tells where they begin, or there is none. */
+__attribute__((noinline)) static EdgeSstLooked by_record(const uint8_t *file, size_t m, const EdgeSstOpened *o,
+                                                         const uint8_t *key, uint8_t *out, size_t n, uint64_t *logs,
+                                                         uint8_t *marks, size_t degree) {
+    return edge_sst_lookup_with(file, m, o, key, out, n, logs, degree, marks, degree);
+}
+
+/* The same by a record that says there is no start index. */
+__attribute__((noinline)) static EdgeSstLooked by_sum(const uint8_t *file, size_t m, const EdgeSstOpened *o,
+                                                      const uint8_t *key, uint8_t *out, size_t n, uint64_t *logs,
+                                                      uint8_t *marks, size_t degree) {
+    EdgeSstOpened hidden = *o;
+    hidden.indexed = 0;
+    return edge_sst_lookup_with(file, m, &hidden, key, out, n, logs, degree, marks, degree);
+}
+
 /* costs SHAPE KEYS DEGREE: prints the file's bytes; valgrind counts the calls. */
 int main(int argc, char **argv) {
     size_t keys, degree, n, m;
@@ -92,7 +108,8 @@ int main(int argc, char **argv) {
     put_id(key, 1 + 3 * (keys / 3), keys / 3);
     expect(edge_sst_partners_with(file, m, &o, key, out, n).number);
     put_id(key, 1 + 3 * (keys - 1), keys - 1);
-    expect(edge_sst_lookup_with(file, m, &o, key, out, n, logs, degree, marks, degree).number);
+    expect(by_record(file, m, &o, key, out, n, logs, marks, degree).number);
+    expect(by_sum(file, m, &o, key, out, n, logs, marks, degree).number);
     printf("%lu\n", (unsigned long)m);
     return 0;
 }

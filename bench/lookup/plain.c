@@ -1,8 +1,11 @@
-/* A record lookup in plain C: partners alone. Offsets, varints and groups are read in a
- * form of its own; bench/README.md says what that of group.h would take. */
+/* A record lookup in plain C: partners alone, or with log numbers and dead marks. Offsets,
+ * varints and groups are read in a form of its own; bench/README.md says what that of
+ * group.h would take. */
 #include "../common/fault.h"
 #include "../common/format.h"
 #include "../common/plain.h"
+
+#define INLINE __attribute__((always_inline)) static inline
 
 static uint64_t offset_of(const uint8_t *p, size_t width) {
     uint64_t x = 0;
@@ -55,7 +58,8 @@ static int record_good(size_t n, const EdgeSstOpened *o) {
            (!o->marked || inside(n, o->deadstart, o->deadlen)) && o->keycount <= MOST_KEYS &&
            o->edgecount <= MOST_EDGES && (o->bits == 24 || o->bits == 32 || o->bits == 40 || o->bits == 48) &&
            o->keylen == ID * o->keycount && o->offsetlen == (o->keycount + 1) * (o->bits / 8) &&
-           o->loglen == 8 * o->edgecount && (!o->marked || o->deadlen == tombstone_bytes(o->edgecount));
+           o->loglen == 8 * o->edgecount && (!o->marked || o->deadlen == tombstone_bytes(o->edgecount)) &&
+           (!o->indexed || (inside(n, o->indexstart, o->indexlen) && o->indexlen == index_bytes(o->keycount)));
 }
 
 /* Do the partners of 16 bytes each from p to end, at least one, strictly increase? */
@@ -120,8 +124,88 @@ static void fill_group(const uint8_t *p, const uint8_t *end, int dense, uint8_t 
     }
 }
 
-EdgeSstLooked plain_partners_with(const uint8_t *p, size_t n, const EdgeSstOpened *o, const uint8_t key[16],
-                                  uint8_t *out, size_t m) {
+/* What a lookup writes over; without log numbers the first two alone. */
+typedef struct {
+    uint8_t *out;
+    size_t m;
+    uint64_t *logs;
+    size_t l;
+    uint8_t *marks;
+    size_t k;
+} outputs;
+
+/* Whether the offsets of group i are good, and then where it begins and ends. */
+INLINE int group_of(const uint8_t *p, const EdgeSstOpened *o, uint64_t i, const uint8_t **start, const uint8_t **end) {
+    size_t width = o->bits / 8;
+    const uint8_t *at = p + o->offsetstart + width * i, *partners = p + o->partnerstart;
+    uint64_t a = offset_of(at, width), e = offset_of(at + width, width);
+    if (e < a || o->partnerlen < e)
+        return 0;
+    *start = partners + a;
+    *end = partners + e;
+    return 1;
+}
+
+/* The sum of the degrees before group i: 1, or 0 where one cannot be read or is 0, or they pass the edge count. */
+static int summed(const uint8_t *p, const EdgeSstOpened *o, uint64_t i, uint64_t *sum) {
+    uint64_t degree;
+    const uint8_t *g, *end;
+    *sum = 0;
+    for (uint64_t j = 0; j < i; j++) {
+        if (!group_of(p, o, j, &g, &end) || !varint(&g, end, &degree))
+            return 0;
+        if (degree == 0 || degree > o->edgecount - *sum)
+            return 0;
+        *sum += degree;
+    }
+    return 1;
+}
+
+/* Rule 19: 1 and the number of the first edge of group i, by the start index where the record has one. */
+INLINE int first_edge(const uint8_t *p, const EdgeSstOpened *o, uint64_t i, uint64_t degree, uint64_t *first) {
+    if (!o->indexed)
+        return summed(p, o, i, first) && degree <= o->edgecount - *first;
+    const uint8_t *start = p + o->indexstart + START * i;
+    uint64_t end = le64(start + START);
+    *first = le64(start);
+    return end <= o->edgecount && *first <= end && end - *first == degree;
+}
+
+static void fill_edges(const uint8_t *p, const EdgeSstOpened *o, uint64_t first, uint64_t degree, const outputs *to) {
+    memcpy(to->logs, p + o->logstart + 8 * first, 8 * degree);
+    if (!o->marked) {
+        memset(to->marks, 0, degree);
+        return;
+    }
+    const uint8_t *dead = p + o->deadstart;
+    for (uint64_t k = 0; k < degree; k++)
+        to->marks[k] = dead[(first + k) / 8] >> (first + k) % 8 & 1;
+}
+
+/* Key i is found after so many comparisons. */
+INLINE EdgeSstLooked found(const uint8_t *p, const EdgeSstOpened *o, uint64_t i, uint64_t compared, int with_logs,
+                           outputs to) {
+    const uint8_t *start, *end;
+    uint64_t degree, first = 0;
+    int dense;
+    if (!group_of(p, o, i, &start, &end))
+        return (EdgeSstLooked){.number = 14, .place = i};
+    if (!check_group(start, end, &degree, &dense)) {
+        EdgeSstTold told = fault_of(start, end, i);
+        return (EdgeSstLooked){.number = told.number, .place = told.place, .beside = told.beside};
+    }
+    if (with_logs && !first_edge(p, o, i, degree, &first))
+        return (EdgeSstLooked){.number = 19, .place = i};
+    if (to.m / 16 < degree || (with_logs && (to.l < degree || to.k < degree)))
+        return (EdgeSstLooked){.number = 20, .place = degree};
+    fill_group(start, end, dense, to.out);
+    if (with_logs)
+        fill_edges(p, o, first, degree, &to);
+    return (EdgeSstLooked){.found = 1, .degree = degree, .index = i, .compared = compared};
+}
+
+INLINE EdgeSstLooked looked(const uint8_t *p, size_t n, const EdgeSstOpened *o, const uint8_t key[16], int with_logs,
+                            outputs to) {
     if (!record_good(n, o))
         return (EdgeSstLooked){.number = 21};
     const uint8_t *keys = p + o->keystart;
@@ -129,26 +213,22 @@ EdgeSstLooked plain_partners_with(const uint8_t *p, size_t n, const EdgeSstOpene
     while (low < high) {
         uint64_t i = low + (high - low) / 2, h = be64(keys + 16 * i), l = be64(keys + 16 * i + 8);
         compared++;
-        if (h == hi && l == lo) {
-            size_t width = o->bits / 8;
-            const uint8_t *at = p + o->offsetstart + width * i, *partners = p + o->partnerstart;
-            uint64_t a = offset_of(at, width), e = offset_of(at + width, width), d;
-            int dense;
-            if (e < a || o->partnerlen < e)
-                return (EdgeSstLooked){.number = 14, .place = i};
-            if (!check_group(partners + a, partners + e, &d, &dense)) {
-                EdgeSstTold told = fault_of(partners + a, partners + e, i);
-                return (EdgeSstLooked){.number = told.number, .place = told.place, .beside = told.beside};
-            }
-            if (m / 16 < d)
-                return (EdgeSstLooked){.number = 20, .place = d};
-            fill_group(partners + a, partners + e, dense, out);
-            return (EdgeSstLooked){.found = 1, .degree = d, .index = i, .compared = compared};
-        }
+        if (h == hi && l == lo)
+            return found(p, o, i, compared, with_logs, to);
         if (h < hi || (h == hi && l < lo))
             low = i + 1;
         else
             high = i;
     }
     return (EdgeSstLooked){.compared = compared};
+}
+
+EdgeSstLooked plain_partners_with(const uint8_t *p, size_t n, const EdgeSstOpened *o, const uint8_t key[16],
+                                  uint8_t *out, size_t m) {
+    return looked(p, n, o, key, 0, (outputs){.out = out, .m = m});
+}
+
+EdgeSstLooked plain_lookup_with(const uint8_t *p, size_t n, const EdgeSstOpened *o, const uint8_t key[16], uint8_t *out,
+                                size_t m, uint64_t *logs, size_t l, uint8_t *marks, size_t k) {
+    return looked(p, n, o, key, 1, (outputs){out, m, logs, l, marks, k});
 }

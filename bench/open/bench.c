@@ -7,33 +7,40 @@
 
 typedef EdgeSstOpened opener(const uint8_t *p, size_t n);
 
-/* An entry of the corpus, or else a file of LARGE keys of one edge each. */
+/* An entry of the corpus, or else a file of LARGE keys of one edge each, with fences or a start index. */
 typedef struct {
     const char *entry;
-    int fenced;
+    int fenced, starts;
 } plan;
 
 enum { LARGE = 65536 };
 #define PLAIN (function *)plain_open
 #define CORPUS "crates/test_open/stdin"
 
+static const plan with_starts = {NULL, 0, 1};
+
+static EdgeSstOpened own_without(const uint8_t *p, size_t n);
+
 const row rows[] = {
-    {"heading-only", &(plan){"heading-only", 0}, PLAIN, 8000, 0},
-    {"one-edge", &(plan){"one-edge", 0}, PLAIN, 8000, 0},
-    {"sections-64-skipped", &(plan){"sections-64-skipped", 0}, PLAIN, 8000, 0},
-    {"keys-65536", &(plan){NULL, 0}, PLAIN, 2, 1.3},
-    {"keys-65536-fences", &(plan){NULL, 1}, PLAIN, 2, 1.3},
+    {"heading-only", &(plan){"heading-only", 0, 0}, PLAIN, 8000, 0},
+    {"one-edge", &(plan){"one-edge", 0, 0}, PLAIN, 8000, 0},
+    {"sections-64-skipped", &(plan){"sections-64-skipped", 0, 0}, PLAIN, 8000, 0},
+    {"keys-65536", &(plan){NULL, 0, 0}, PLAIN, 2, 1.3},
+    {"keys-65536-fences", &(plan){NULL, 1, 0}, PLAIN, 2, 1.3},
+    {"keys-65536-starts", &with_starts, PLAIN, 2, 1.3},
+    {"keys-65536-starts-own", &with_starts, (function *)own_without, 2, 1.35},
     {0},
 };
 
 function *const ours = (function *)edge_sst_open, *const empty = empty_in_memory;
 
-static bytes input;
+static bytes input, without; /* the input, and the same file without a start index */
 
 /* The upper halves of the keys rise, so that the lower ones decide nothing. */
-static bytes large(int fenced) {
+static bytes large(int fenced, int starts) {
     content c = room_for(LARGE, 12 * LARGE);
     c.fenced = fenced;
+    c.starts = starts;
     for (uint64_t i = 0, seed = 1; i < LARGE; i++)
         add(&c, i * 0xFFFFFFFFFFFF, seed, 1, 0, &seed);
     return file_of(&c);
@@ -41,7 +48,15 @@ static bytes large(int fenced) {
 
 void prepare(const row *r) {
     const plan *w = r->plan;
-    input = w->entry != NULL ? entry(CORPUS, w->entry) : large(w->fenced);
+    input = w->entry != NULL ? entry(CORPUS, w->entry) : large(w->fenced, w->starts);
+    if (w->starts)
+        without = large(w->fenced, 0);
+}
+
+/* Our own opening of the file without a start index, in the place of plain C. */
+static EdgeSstOpened own_without(const uint8_t *p, size_t n) {
+    (void)n;
+    return edge_sst_open(without.bytes + (p - input.bytes), without.size);
 }
 
 /* A file that opens has the number 0, so that each call starts at its first byte. */
@@ -66,6 +81,8 @@ void compare(void) {
         prepare(r);
         if (!opens(r->name, input))
             stop(1, "'%s' does not open", r->name);
+        if (((const plan *)r->plan)->starts && !opens("the same file without a start index", without))
+            stop(1, "'%s' does not open without its start index", r->name);
     }
     printf("The same answers: %d files of the corpus, %d of which open, and those of the table.\n", all, open);
 }

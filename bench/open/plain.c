@@ -1,4 +1,4 @@
-/* Opening in plain C: rules 1 to 15 and 36 in their order, and the header. For little-endian machines. */
+/* Opening in plain C: rules 1 to 15, 36 and 37 in their order, and the header. For little-endian machines. */
 #include "../common/sum.h"
 
 #include "../common/format.h"
@@ -77,6 +77,21 @@ static inline int fences_good(const uint8_t *fences, uint64_t length, const uint
     return 1;
 }
 
+/* Rule 37: the first of n + 1 starts that breaks it, or NONE. */
+static inline size_t bad_start(const uint8_t *starts, size_t n, uint64_t edges) {
+    const uint8_t *end = starts + index_bytes(n);
+    uint64_t last = le64(starts);
+    if (last != 0)
+        return 0;
+    for (const uint8_t *p = starts + START; p != end; p += START) {
+        uint64_t start = le64(p);
+        if (start <= last)
+            return (size_t)(p - starts) / START;
+        last = start;
+    }
+    return last == edges ? NONE : n;
+}
+
 /* Where things stand, by the file's two ends. */
 typedef struct {
     const uint8_t *trailer, *body;
@@ -109,12 +124,16 @@ INLINE uint64_t ends_fault(const uint8_t *file, size_t size, ends *e) {
     return 0;
 }
 
-/* What the table says of kinds 1 to 6, and whether there is a property stream. */
+enum { STARTS = FENCES + 1 }; /* the place of the start index; kinds 1 to 6 have those of their numbers */
+
+/* What the table says of the kinds that are read, and whether there is a property stream. */
 typedef struct {
-    range found[FENCES + 1];
+    range found[STARTS + 1];
     unsigned seen;
     int properties;
 } table;
+
+static inline int seen(const table *t, unsigned place) { return t->seen >> place & 1; }
 
 /* Rules 9 to 11, with 36. An entry can be read anywhere in the table, as 17 and 20 bytes follow. */
 INLINE EdgeSstTold table_fault(const uint8_t *body, const uint8_t *counts, uint64_t sections_end, table *t) {
@@ -125,17 +144,18 @@ INLINE EdgeSstTold table_fault(const uint8_t *body, const uint8_t *counts, uint6
     size_t reserved = NONE, bad_codec = NONE, bad_range = NONE;
     t->seen = 0;
     t->properties = 0;
-    t->found[TOMBSTONES] = t->found[FENCES] = (range){0, 0};
+    t->found[TOMBSTONES] = t->found[FENCES] = t->found[STARTS] = (range){0, 0};
     for (size_t i = 0; i < sections; i++) {
         uint64_t kind = le16(p), name = p[3];
         range r = {le64(p + 4), le64(p + 12)};
         if (name > 63 || (uint64_t)(counts - p) < ENTRY + name)
             return told(9, 0);
-        if (kind >= KEYS && kind <= FENCES) {
-            if (name != 0 || (t->seen >> kind & 1))
+        if ((kind >= KEYS && kind <= FENCES) || kind == START_INDEX) {
+            unsigned place = kind == START_INDEX ? STARTS : (unsigned)kind;
+            if (name != 0 || seen(t, place))
                 return told(9, 0);
-            t->seen |= 1u << kind;
-            t->found[kind] = r;
+            t->seen |= 1u << place;
+            t->found[place] = r;
             if (p[2] != 0 && bad_codec == NONE)
                 bad_codec = i;
         } else if (kind == PROPERTIES) {
@@ -160,16 +180,18 @@ INLINE EdgeSstTold table_fault(const uint8_t *body, const uint8_t *counts, uint6
 /* Rule 12. */
 INLINE int counts_good(uint64_t flags, const table *t, uint64_t n, uint64_t edges, uint64_t bits) {
     const range *found = t->found;
-    int marked = t->seen >> TOMBSTONES & 1, fenced = t->seen >> FENCES & 1;
+    int marked = seen(t, TOMBSTONES), fenced = seen(t, FENCES);
     return !(n > MOST_KEYS || edges > MOST_EDGES || (bits != 24 && bits != 32 && bits != 40 && bits != 48) ||
              found[KEYS].length != ID * n || found[OFFSETS].length != (n + 1) * (bits / 8) ||
              found[LOGS].length != 8 * edges || (marked && found[TOMBSTONES].length != tombstone_bytes(edges)) ||
-             edges < n || (n == 0 && edges > 0) || (n > MOST_WITHOUT_FENCES && !fenced) ||
-             ((flags & HAS_PROPERTIES) != 0) != t->properties || ((flags & HAS_DEAD) != 0 && !marked));
+             (seen(t, STARTS) && found[STARTS].length != index_bytes(n)) || edges < n || (n == 0 && edges > 0) ||
+             (n > MOST_WITHOUT_FENCES && !fenced) || ((flags & HAS_PROPERTIES) != 0) != t->properties ||
+             ((flags & HAS_DEAD) != 0 && !marked));
 }
 
-/* Rules 13 to 15. */
-INLINE EdgeSstTold content_fault(const uint8_t *file, const range found[], int fenced, uint64_t n, uint64_t bits) {
+/* Rules 13 to 15 and 37. */
+INLINE EdgeSstTold content_fault(const uint8_t *file, const table *t, uint64_t n, uint64_t edges, uint64_t bits) {
+    const range *found = t->found;
     const uint8_t *keys = file + found[KEYS].start;
     size_t bad = bad_key(keys, n);
     if (bad != NONE)
@@ -177,9 +199,10 @@ INLINE EdgeSstTold content_fault(const uint8_t *file, const range found[], int f
     bad = bad_offset(file + found[OFFSETS].start, n, found[PARTNERS].length, bits / 8);
     if (bad != NONE)
         return told(14, bad);
-    if (fenced && !fences_good(file + found[FENCES].start, found[FENCES].length, keys, n))
+    if (seen(t, FENCES) && !fences_good(file + found[FENCES].start, found[FENCES].length, keys, n))
         return told(15, 0);
-    return told(0, 0);
+    bad = seen(t, STARTS) ? bad_start(file + found[STARTS].start, n, edges) : NONE;
+    return bad != NONE ? told(37, bad) : told(0, 0);
 }
 
 EdgeSstOpened plain_open(const uint8_t *file, size_t size) {
@@ -193,10 +216,9 @@ EdgeSstOpened plain_open(const uint8_t *file, size_t size) {
     if (wrong.number != 0)
         return refused(wrong.number, wrong.place);
     uint64_t n = le64(counts), edges = le64(counts + 8), bits = counts[16];
-    int marked = t.seen >> TOMBSTONES & 1, fenced = t.seen >> FENCES & 1;
     if (!counts_good(e.flags, &t, n, edges, bits))
         return refused(12, 0);
-    EdgeSstTold bad = content_fault(file, t.found, fenced, n, bits);
+    EdgeSstTold bad = content_fault(file, &t, n, edges, bits);
     if (bad.number != 0)
         return refused(bad.number, bad.place);
     return (EdgeSstOpened){
@@ -210,10 +232,13 @@ EdgeSstOpened plain_open(const uint8_t *file, size_t size) {
         .loglen = t.found[LOGS].length,
         .deadstart = t.found[TOMBSTONES].start,
         .deadlen = t.found[TOMBSTONES].length,
-        .marked = (uint64_t)marked,
+        .marked = (uint64_t)seen(&t, TOMBSTONES),
         .keycount = n,
         .edgecount = edges,
         .bits = bits,
+        .indexstart = t.found[STARTS].start,
+        .indexlen = t.found[STARTS].length,
+        .indexed = (uint64_t)seen(&t, STARTS),
     };
 }
 

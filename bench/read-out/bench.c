@@ -34,8 +34,8 @@ uint64_t call(function *f, uint64_t last) {
 }
 
 /* One byte changed, and three times of four the sums put right. */
-static void change(uint64_t told[NUMBERS]) {
-    bytes f = file_of_batch(batch_of(&(batch_plan){9, 5, TIMES, 2})), g = memory(f.size);
+static void change(bytes f, uint64_t told[NUMBERS]) {
+    bytes g = memory(f.size);
     for (uint64_t i = 0, seed = 1; i < CHANGES; i++) {
         change_byte(f, g, i, seed = turn(seed));
         told[same("a changed file", plain_read_out, g).number]++;
@@ -65,8 +65,9 @@ void compare(void) {
         fine += same(name, plain_read_out, f).number == 0;
     for (const row *r = rows; r->name != NULL; r++)
         given_back(r);
-    change(told);
+    change(file_of_batch(batch_of(&(batch_plan){9, 5, TIMES, 2})), told);
+    change(mixed_file(1), told);
     printf("The same answers and bytes: %d files of the corpus, %d of which are read out; those of the\n", all, fine);
-    printf("table, as the batches that they were written from; and %d with a byte changed, by number:", CHANGES);
+    printf("table, as the batches that they were written from; and %d with a byte changed, by number:", 2 * CHANGES);
     print_told(told);
 }

@@ -42,6 +42,17 @@ static uint64_t number_of(const char *name, bytes batch) {
     return same(name, plain_write, batch).number;
 }
 
+/* The keys up to which there is no start index, and one more. */
+static void around_starts(void) {
+    for (uint64_t keys = 1024; keys <= 1025; keys++)
+        for (uint64_t degree = 1; degree <= 3; degree++) {
+            bytes batch = batch_of(&(batch_plan){keys, degree, SPAN, 0});
+            if (number_of("a batch of about 1,025 keys", batch) != 0)
+                stop(1, "%llu keys are not written", (unsigned long long)keys);
+            free(batch.bytes);
+        }
+}
+
 /* A batch of a few keys with one bit changed. */
 static void change(uint64_t told[NUMBERS]) {
     bytes batch = batch_of(&(batch_plan){9, 5, TIMES, 2});
@@ -67,8 +78,9 @@ void compare(void) {
             stop(1, "'%s' is not written", r->name);
         free(batch.bytes);
     }
+    around_starts();
     change(told);
     printf("The same answers and bytes: %d batches of the corpus, %d of which are written; those of\n", all, written);
-    printf("the table; and %d with a bit changed, by number:", CHANGES);
+    printf("the table; six of 1,024 and 1,025 keys; and %d with a bit changed, by number:", CHANGES);
     print_told(told);
 }

@@ -11,7 +11,7 @@ enum { MOST_BY_COST = 1024 };
 /* What is known before anything is written. */
 typedef struct {
     uint64_t keys, edges, partners, width, fences, size;
-    int dead, dense;
+    int dead, dense, starts;
 } counts;
 
 static inline EdgeSstDone refused(uint64_t number, uint64_t place) { return (EdgeSstDone){.number = number, .place = place}; }
@@ -73,6 +73,10 @@ static inline group group_at(const uint8_t *e, const uint8_t *end, uint64_t keys
     return g;
 }
 
+static inline uint64_t sections_of(const counts *c) {
+    return 4 + (uint64_t)c->dead + (c->fences != 0) + (uint64_t)c->starts;
+}
+
 /* The partners' bytes and the file's. */
 static void measure(const uint8_t *p, size_t n, counts *c) {
     const uint8_t *e = p + HEADING, *end = p + n;
@@ -88,9 +92,10 @@ static void measure(const uint8_t *p, size_t n, counts *c) {
     c->dense = dense;
     c->width = bytes < 1 << 24 ? 3 : 4;
     c->fences = c->keys > MOST_WITHOUT_FENCES ? (c->keys + STRIDE - 1) / STRIDE : 0;
+    c->starts = c->keys >= LEAST_WITH_STARTS;
     c->size = HEADER + ID * c->keys + c->width * (c->keys + 1) + bytes + 8 * c->edges +
-              (c->dead ? tombstone_bytes(c->edges) : 0) + (c->fences ? 8 + 24 * c->fences : 0) + 2 +
-              ENTRY * (4 + (uint64_t)c->dead + (c->fences != 0)) + 17 + TRAILER;
+              (c->dead ? tombstone_bytes(c->edges) : 0) + (c->fences ? 8 + 24 * c->fences : 0) +
+              (c->starts ? index_bytes(c->keys) : 0) + 2 + ENTRY * sections_of(c) + 17 + TRAILER;
 }
 
 static EdgeSstDone plan(const uint8_t *p, size_t n, counts *c) {
@@ -136,7 +141,7 @@ static inline void put_offset(uint8_t *p, size_t width, uint64_t x) {
 
 /* Where each section begins. */
 typedef struct {
-    uint8_t *keys, *offsets, *partners, *logs, *dead, *fences, *footer;
+    uint8_t *keys, *offsets, *partners, *logs, *dead, *fences, *starts, *footer;
 } places;
 
 static places places_of(uint8_t *out, const counts *c) {
@@ -146,7 +151,8 @@ static places places_of(uint8_t *out, const counts *c) {
     s.logs = s.partners + c->partners;
     s.dead = s.logs + 8 * c->edges;
     s.fences = s.dead + (c->dead ? tombstone_bytes(c->edges) : 0);
-    s.footer = s.fences + (c->fences ? 8 + 24 * c->fences : 0);
+    s.starts = s.fences + (c->fences ? 8 + 24 * c->fences : 0);
+    s.footer = s.starts + (c->starts ? index_bytes(c->keys) : 0);
     return s;
 }
 
@@ -154,12 +160,13 @@ static void put_header(uint8_t *out, const uint8_t *batch, const counts *c) {
     memcpy(out, magic, 8);
     memset(out + 8, 0, 8);
     out[8] = 1;
+    out[9] = (uint8_t)c->starts; /* minor 1 exactly with a start index */
     out[10] = HEADER;
     out[12] = (uint8_t)(HAS_DEAD * c->dead + HAS_DENSE * c->dense + INVERSE * batch[1]);
     memcpy(out + 16, batch + 2, 48);
 }
 
-/* Keys, offsets, partners, log numbers and tombstones. */
+/* Keys, offsets, partners, log numbers, tombstones and the start index. */
 static void put_edges(const uint8_t *p, size_t n, const counts *c, places s) {
     const uint8_t *e = p + HEADING, *end = p + n;
     uint8_t *partner = s.partners, *log = s.logs;
@@ -172,6 +179,10 @@ static void put_edges(const uint8_t *p, size_t n, const counts *c, places s) {
         s.keys += ID;
         put_offset(s.offsets, c->width, (uint64_t)(partner - s.partners));
         s.offsets += c->width;
+        if (c->starts) {
+            put64(s.starts, edge);
+            s.starts += START;
+        }
         partner = put_group(partner, &g);
         for (; e != g.end; e += EDGE, edge++, log += 8) {
             memcpy(log, e + RECORD_LOG, 8);
@@ -180,6 +191,8 @@ static void put_edges(const uint8_t *p, size_t n, const counts *c, places s) {
         }
     }
     put_offset(s.offsets, c->width, (uint64_t)(partner - s.partners));
+    if (c->starts)
+        put64(s.starts, edge);
 }
 
 static void put_fences(const counts *c, places s) {
@@ -206,7 +219,7 @@ static uint8_t *put_entry(uint8_t *p, unsigned kind, const uint8_t *out, const u
 
 static void put_footer(uint8_t *out, const counts *c, places s) {
     uint8_t *p = s.footer + 2;
-    put(s.footer, 2, 4 + (uint64_t)c->dead + (c->fences != 0));
+    put(s.footer, 2, sections_of(c));
     p = put_entry(p, 1, out, s.keys, s.offsets);
     p = put_entry(p, 2, out, s.offsets, s.partners);
     p = put_entry(p, 3, out, s.partners, s.logs);
@@ -214,7 +227,9 @@ static void put_footer(uint8_t *out, const counts *c, places s) {
     if (c->dead)
         p = put_entry(p, 5, out, s.dead, s.fences);
     if (c->fences)
-        p = put_entry(p, 6, out, s.fences, s.footer);
+        p = put_entry(p, 6, out, s.fences, s.starts);
+    if (c->starts)
+        p = put_entry(p, START_INDEX, out, s.starts, s.footer);
     put64(p, c->keys);
     put64(p + 8, c->edges);
     p[16] = (uint8_t)(8 * c->width);

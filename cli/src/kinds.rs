@@ -2,7 +2,7 @@
 
 use edge_sst::Section;
 
-const NAMES: [(u64, &str); 7] = [
+const NAMES: [(u64, &str); 8] = [
     (1, "keys"),
     (2, "offsets"),
     (3, "partners"),
@@ -10,6 +10,7 @@ const NAMES: [(u64, &str); 7] = [
     (5, "tombstones"),
     (6, "fences"),
     (0x0100, "property stream"),
+    (0x0200, "start index"),
 ];
 
 /// The name of a kind; one that is skipped has none.

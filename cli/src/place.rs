@@ -22,6 +22,8 @@ enum Counts {
     Entries,
     Keys,
     Offsets,
+    /// Entries of the start index.
+    Starts,
     Groups,
     /// The bytes of a group; the group stands beside.
     GroupBytes,
@@ -38,6 +40,7 @@ impl Counts {
             10 | 11 | 22 | 36 => Counts::Entries,
             13 => Counts::Keys,
             14 => Counts::Offsets,
+            37 => Counts::Starts,
             16 | 28..=35 => Counts::GroupBytes,
             19 => Counts::Groups,
             20 => Counts::Needed,
@@ -63,6 +66,7 @@ fn words(refusal: &Refusal, source: &Source) -> String {
         Counts::Entries => with("entry", place, section(source, place)),
         Counts::Keys => with("key", place, None),
         Counts::Offsets => with("offset", place, None),
+        Counts::Starts => with("start", place, None),
         Counts::Groups => group(source, place),
         Counts::GroupBytes => format!("{}, byte {place}", group(source, refusal.beside)),
         Counts::Needed => format!("{place} needed"),

@@ -16,6 +16,8 @@ pub const COUNTS: usize = 17;
 pub const FENCE_HEAD: usize = 8;
 /// A fence's key and offset.
 pub const FENCE: usize = 24;
+/// An entry of the start index.
+pub const START: usize = 8;
 
 pub const OFFSET_BITS: [u8; 4] = [24, 32, 40, 48];
 
@@ -29,9 +31,19 @@ pub mod kind {
     pub const TOMBSTONES: u16 = 5;
     pub const FENCES: u16 = 6;
     pub const PROPERTIES: u16 = 0x0100;
+    pub const START_INDEX: u16 = 0x0200;
 
-    /// The kinds that are read: always raw and without a name.
-    pub const READ: RangeInclusive<u16> = KEYS..=FENCES;
+    /// The kinds that are read: always raw, without a name, and there once at
+    /// most.
+    pub const READ: [u16; 7] = [
+        KEYS,
+        OFFSETS,
+        PARTNERS,
+        LOGS,
+        TOMBSTONES,
+        FENCES,
+        START_INDEX,
+    ];
     /// Kept for sections that change what the others mean: no file with one opens.
     pub const RESERVED: RangeInclusive<u16> = 0x0007..=0x00FF;
 }

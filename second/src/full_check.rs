@@ -60,7 +60,8 @@ fn all_partners(
 }
 
 /// Check 23: the degrees make up the edge count, bit 1 says whether an edge is
-/// dead, bit 2 whether a group is dense, and no unused tombstone bit is set.
+/// dead, bit 2 whether a group is dense, no unused tombstone bit is set, and the
+/// start index is as the degrees.
 fn totals_are_wrong(
     flags: u32,
     record: &OpenedRecord,
@@ -79,6 +80,17 @@ fn totals_are_wrong(
         || (flags & flag::TOMBSTONES != 0) != (0..edge_count).any(is_set)
         || (flags & flag::DENSE != 0) != dense
         || (edge_count..bit_count).any(is_set)
+        || starts_are_wrong(partners, sections)
+}
+
+/// Does an entry of the start index, if there is one, differ from the sum of
+/// the degrees before it?
+fn starts_are_wrong(partners: &[(Form, Vec<u128>)], sections: &Sections) -> bool {
+    let mut sums = vec![0];
+    for (_, partners) in partners {
+        sums.push(sums[sums.len() - 1] + partners.len() as u64);
+    }
+    sections.starts().is_some_and(|starts| starts != sums)
 }
 
 /// The groups with keys, log numbers and dead marks. The degrees make up the

@@ -113,6 +113,23 @@ pub fn fences(groups: &[Group], stride: u32) -> Section {
     Section::new(kind::FENCES, bytes)
 }
 
+/// How many edges come before each group, and how many there are.
+pub fn starts(groups: &[Group]) -> Section {
+    let mut before = 0;
+    let mut numbers = vec![0];
+    for group in groups {
+        before += group.edges.len() as u64;
+        numbers.push(before);
+    }
+    start_index(&numbers)
+}
+
+/// These numbers as they stand in the start index.
+pub fn start_index(numbers: &[u64]) -> Section {
+    let bytes = numbers.iter().flat_map(|number| number.to_le_bytes());
+    Section::new(kind::START_INDEX, bytes.collect::<Vec<u8>>())
+}
+
 /// A file of these groups: sections 1 to 4, then 5 if an edge is dead; without
 /// gaps; flag bits 1 and 2 as the data.
 pub fn layout(groups: &[Group], offset_bits: u8) -> Layout {

@@ -7,6 +7,7 @@ pub mod group;
 mod record;
 mod search;
 
+use crate::format::START;
 use crate::numbers::{id_number, read_le, Id};
 use crate::open::{bytes_of, open, OpenedRecord};
 use crate::refusal::Refusal;
@@ -81,6 +82,7 @@ pub struct Sections<'a> {
     partners: &'a [u8],
     logs: &'a [u8],
     tombstones: Option<&'a [u8]>,
+    starts: Option<&'a [u8]>,
     edge_count: u64,
 }
 
@@ -94,6 +96,7 @@ impl<'a> Sections<'a> {
             partners: bytes_of(file, record.partners),
             logs: bytes_of(file, record.logs),
             tombstones: record.tombstones.map(|range| bytes_of(file, range)),
+            starts: record.starts.map(|range| bytes_of(file, range)),
             edge_count: record.edge_count,
         }
     }
@@ -158,11 +161,29 @@ impl<'a> Sections<'a> {
             .get(self.offset(index)..self.offset(index + 1))
     }
 
-    /// The number of the group's first edge: the sum of the earlier degrees,
-    /// for which nothing but the first varint of each earlier group is read.
-    /// Nothing if one of them cannot be read or is 0, or if the group's own
-    /// edges pass the edge count.
+    /// The number of the group's first edge, by the start index where there is
+    /// one. Nothing if it cannot be told.
     fn first_edge(&self, index: usize, degree: usize) -> Option<usize> {
+        match self.starts {
+            None => self.summed_edge(index, degree),
+            Some(starts) => self.indexed_edge(starts, index, degree),
+        }
+    }
+
+    /// The start that the index says. Nothing if the next one does not follow
+    /// after as many edges as the group has, or passes the edge count. No other
+    /// group is looked at.
+    fn indexed_edge(&self, starts: &[u8], index: usize, degree: usize) -> Option<usize> {
+        let start = |i: usize| u128::from(read_le(&starts[START * i..][..START]));
+        let (begin, end) = (start(index), start(index + 1));
+        let agrees = begin + degree as u128 == end && end <= u128::from(self.edge_count);
+        agrees.then_some(begin as usize)
+    }
+
+    /// The sum of the earlier degrees, for which nothing but the first varint of
+    /// each earlier group is read. Nothing if one of them cannot be read or is
+    /// 0, or if the group's own edges pass the edge count.
+    fn summed_edge(&self, index: usize, degree: usize) -> Option<usize> {
         let mut sum: u128 = 0;
         for earlier in 0..index {
             let degree = group::degree(self.group(earlier)?).ok()?;
@@ -174,6 +195,12 @@ impl<'a> Sections<'a> {
 
     pub fn key(&self, index: usize) -> Id {
         id_at(self.keys, index).to_be_bytes()
+    }
+
+    /// All entries of the start index, if there is one.
+    pub fn starts(&self) -> Option<Vec<u64>> {
+        let entries = self.starts?.chunks_exact(START);
+        Some(entries.map(read_le).collect())
     }
 
     pub fn log(&self, edge: usize) -> u64 {

@@ -1,8 +1,9 @@
-//! Opening: the checks 1 to 9, 36 and 10 to 15, one after the other. The first
-//! that fails gives the refusal; a file that passes all of them is open.
+//! Opening: the checks 1 to 9, 36, 10 to 15 and 37, one after the other. The
+//! first that fails gives the refusal; a file that passes all of them is open.
 
 use crate::format::{
-    bound, flag, kind, COUNTS, ENTRY, FENCE, FENCE_HEAD, HEADER, MAGIC, MAJOR, OFFSET_BITS, TRAILER,
+    bound, flag, kind, COUNTS, ENTRY, FENCE, FENCE_HEAD, HEADER, MAGIC, MAJOR, OFFSET_BITS, START,
+    TRAILER,
 };
 use crate::numbers::{id_number, read_le, Id};
 use crate::refusal::Refusal;
@@ -38,6 +39,8 @@ pub struct OpenedRecord {
     pub key_count: u64,
     pub edge_count: u64,
     pub offset_bits: u8,
+    /// The start index, where there is one.
+    pub starts: Option<Range>,
 }
 
 #[derive(Clone, Debug, PartialEq, Eq)]
@@ -75,15 +78,29 @@ pub fn open(file: &[u8]) -> Result<Opened, Refusal> {
     refuse_if(12, counts_are_wrong(&footer, flags))?;
 
     let record = record(&footer);
+    check_sections(file, &record, footer.range(kind::FENCES))?;
+    let rows = footer.rows;
+    Ok(Opened { record, rows })
+}
+
+/// Checks 13 to 15 and 37: what stands in the sections that are opened.
+fn check_sections(
+    file: &[u8],
+    record: &OpenedRecord,
+    fences: Option<Range>,
+) -> Result<(), Refusal> {
     let keys = bytes_of(file, record.keys);
     let offsets = bytes_of(file, record.offsets);
     refuse_at(13, first_key_not_above(keys))?;
-    refuse_at(14, first_bad_offset(offsets, &record))?;
-    if let Some(fences) = footer.range(kind::FENCES) {
+    refuse_at(14, first_bad_offset(offsets, record))?;
+    if let Some(fences) = fences {
         refuse_if(15, fences_are_wrong(bytes_of(file, fences), keys))?;
     }
-    let rows = footer.rows;
-    Ok(Opened { record, rows })
+    if let Some(starts) = record.starts {
+        let starts = bytes_of(file, starts);
+        refuse_at(37, first_bad_start(starts, record.edge_count))?;
+    }
+    Ok(())
 }
 
 pub fn refuse_if(number: u8, fault: bool) -> Result<(), Refusal> {
@@ -189,7 +206,7 @@ fn read_entry(entry: &[u8], name_place: u64) -> Option<SectionRow> {
 /// Check 9, second part: no kind is missing or doubled.
 fn kinds_are_right(footer: &Footer) -> bool {
     let once = [kind::KEYS, kind::OFFSETS, kind::PARTNERS, kind::LOGS];
-    let at_most_once = [kind::TOMBSTONES, kind::FENCES];
+    let at_most_once = [kind::TOMBSTONES, kind::FENCES, kind::START_INDEX];
     once.iter().all(|&kind| footer.count(kind) == 1)
         && at_most_once.iter().all(|&kind| footer.count(kind) <= 1)
 }
@@ -224,6 +241,7 @@ fn counts_are_wrong(footer: &Footer, flags: u32) -> bool {
     let bits = u128::from(footer.offset_bits);
     let length = |kind| u128::from(footer.required(kind).length);
     let tombstones = footer.range(kind::TOMBSTONES);
+    let starts = footer.range(kind::START_INDEX);
     let has_properties = footer.count(kind::PROPERTIES) > 0;
 
     keys > u128::from(bound::KEYS)
@@ -233,6 +251,7 @@ fn counts_are_wrong(footer: &Footer, flags: u32) -> bool {
         || length(kind::OFFSETS) != (keys + 1) * bits / 8
         || length(kind::LOGS) != 8 * edges
         || tombstones.is_some_and(|range| u128::from(range.length) != edges.div_ceil(8))
+        || starts.is_some_and(|range| u128::from(range.length) != START as u128 * (keys + 1))
         || edges < keys
         || (keys == 0 && edges > 0)
         || (keys > u128::from(bound::KEYS_WITHOUT_FENCES) && footer.count(kind::FENCES) == 0)
@@ -250,6 +269,7 @@ fn record(footer: &Footer) -> OpenedRecord {
         key_count: footer.key_count,
         edge_count: footer.edge_count,
         offset_bits: footer.offset_bits,
+        starts: footer.range(kind::START_INDEX),
     }
 }
 
@@ -298,5 +318,19 @@ fn fences_are_wrong(fences: &[u8], keys: &[u8]) -> bool {
         let index = i * stride as usize;
         let place = 16 * index;
         entry[..16] != keys[place..][..16] || read_le(&entry[16..]) != place as u64
+    })
+}
+
+/// Check 37: the first start is 0, each is above the one before it, the last is
+/// the edge count. With no keys the only start is both the first and the last.
+fn first_bad_start(starts: &[u8], edge_count: u64) -> Option<usize> {
+    let starts: Vec<u64> = starts.chunks_exact(START).map(read_le).collect();
+    let last = starts.len() - 1;
+    (0..=last).find(|&i| {
+        let falls = match i {
+            0 => starts[0] != 0,
+            _ => starts[i] <= starts[i - 1],
+        };
+        falls || (i == last && starts[i] != edge_count)
     })
 }

@@ -13,6 +13,8 @@ use crate::varint;
 
 /// Keys from one fence to the next.
 const STRIDE: u32 = 256;
+/// From this many keys on a file has a start index, and then minor version 1.
+const KEYS_WITH_STARTS: usize = 1_025;
 /// Up to this degree a group is dense only for its cost.
 const DEGREE_BY_COST: u128 = 1_024;
 
@@ -43,14 +45,18 @@ pub fn over_bounds(keys: u64, edges: u64, file: u64) -> bool {
     keys > bound::KEYS || edges > bound::EDGES || file > bound::FILE
 }
 
-/// Sections 1 to 6 without gaps, 5 only if an edge is dead, 6 only above
-/// 65,536 keys.
+/// Sections 1 to 6 and the start index without gaps: 5 only if an edge is dead,
+/// 6 only above 65,536 keys, the start index only from 1,025 keys on.
 fn file_of(batch: &Batch, groups: &[Group]) -> Layout {
     let partner_bytes = *groups::group_offsets(groups).last().expect("the end");
     let offset_bits = if partner_bytes < 1 << 24 { 24 } else { 32 };
     groups::layout(groups, offset_bits).with(|l| {
         if groups.len() as u64 > bound::KEYS_WITHOUT_FENCES {
             l.sections.push(groups::fences(groups, STRIDE));
+        }
+        if groups.len() >= KEYS_WITH_STARTS {
+            l.sections.push(groups::starts(groups));
+            l.header.minor = 1;
         }
         if batch.inverse {
             l.header.flags |= flag::INVERSE;

@@ -7,7 +7,7 @@
 
 #include "test.h"
 
-enum { TRAILER = 20, TABLE_HEAD = 2, ENTRY = 28, PARTNERS = 4, ROOM = 4096 };
+enum { PARTNERS = 4, ROOM = 4096 };
 
 /* A file that passes, and what the calls answer about it and about its first key. */
 typedef struct {
@@ -61,40 +61,6 @@ static void hold(const Changed *c, const char *call, const void *got, const void
 static void hold_lent(const Changed *c, const char *what, Lent lent, Fill fill, const void *answer, uint64_t n) {
     hold_output(c->name, what, lent, fill, c->told.number == 0 ? answer : NULL, (size_t)n);
     take_back(lent);
-}
-
-static uint64_t number_at(const uint8_t *p, size_t n) {
-    Bytes at;
-    at.p = p;
-    at.n = n;
-    return take_number(&at, n);
-}
-
-/* Where the footer begins, how many entries its table has, and where this one begins. */
-static size_t footer_of(Bytes file) { return file.n - (size_t)number_at(file.p + file.n - 12, 4); }
-
-static size_t entries_of(Bytes file) { return (size_t)number_at(file.p + footer_of(file), TABLE_HEAD); }
-
-static size_t entry_of(Bytes file, size_t entry) {
-    size_t at = footer_of(file) + TABLE_HEAD;
-    while (entry-- > 0)
-        at += ENTRY + file.p[at + 3];
-    return at;
-}
-
-/* The row of this entry, as its bytes say. */
-static EdgeSstRow row_of(Bytes file, size_t entry) {
-    size_t at = entry_of(file, entry);
-    const uint8_t *p = file.p + at;
-    EdgeSstRow row;
-    row.kind = number_at(p, 2);
-    row.codec = p[2];
-    row.nameat = at + ENTRY;
-    row.namelen = p[3];
-    row.start = number_at(p + 4, 8);
-    row.len = number_at(p + 12, 8);
-    row.sum = number_at(p + 20, 8);
-    return row;
 }
 
 /* The rows are those of the sound file, with the new kind. */
@@ -167,16 +133,9 @@ static void ask_by_record(const Changed *c, const Sound *s) {
 
 /* Puts the kind into the entry and mends the sum of the footer. */
 static void change_kind(uint8_t *p, Bytes file, size_t entry, uint64_t kind) {
-    size_t footer = footer_of(file), end = file.n - TRAILER, at = entry_of(file, entry);
-    uint64_t sum;
-    int i;
     memcpy(p, file.p, file.n);
-    p[at] = (uint8_t)kind;
-    p[at + 1] = (uint8_t)(kind >> 8);
-    sum = edge_sst_sum(p + footer, end - footer);
-    calls++;
-    for (i = 0; i < 8; i++)
-        p[end + (size_t)i] = (uint8_t)(sum >> 8 * i);
+    put_number(p + entry_of(file, entry), kind, 2);
+    mend_footer(p, file.n);
 }
 
 /* Asks every call of the file with this kind at this entry. */
@@ -199,8 +158,9 @@ static void with_kind(const Sound *s, size_t entry, uint64_t kind, EdgeSstTold t
 }
 
 /* What is told of a section of this kind where a skipped one was, in a file of one edge
- * and no flags. It has three bytes: too many for tombstones, too few for fences. A section
- * with a name is of no kind that is read. A property stream wants its flag bit. */
+ * and no flags. It has three bytes: too many for tombstones, too few for fences and for a
+ * start index. A section with a name is of no kind that is read. A property stream wants its
+ * flag bit. */
 static EdgeSstTold told_of(const Sound *s, size_t entry, uint64_t kind) {
     static const uint64_t read[] = {0, 9, 9, 9, 9, 12, 15};
     int named = s->file.p[entry_of(s->file, entry) + 3] != 0;
@@ -211,11 +171,13 @@ static EdgeSstTold told_of(const Sound *s, size_t entry, uint64_t kind) {
         return tell(streams ? 0 : EDGE_SST_COUNTS, 0);
     if (kind >= EDGE_SST_KIND_KEYS && kind <= EDGE_SST_KIND_FENCES)
         return tell(named ? EDGE_SST_TABLE : read[kind], 0);
+    if (kind == EDGE_SST_KIND_START_INDEX)
+        return tell(named ? EDGE_SST_TABLE : EDGE_SST_COUNTS, 0);
     return tell(0, 0);
 }
 
 static void each_kind(const Sound *s, size_t entry) {
-    static const uint64_t above[] = {0x01FF, 0x0200, 0x0700, 0xFF00, 0xFFFF};
+    static const uint64_t above[] = {0x01FF, 0x0200, 0x0201, 0x0300, 0x0700, 0xFF00, 0xFFFF};
     uint64_t kind;
     size_t i;
     for (kind = 0; kind <= 0x0101; kind++)
@@ -234,20 +196,6 @@ static void each_entry(const Sound *s) {
         int needed = was >= EDGE_SST_KIND_KEYS && was <= EDGE_SST_KIND_LOG_NUMBERS;
         for (i = 0; i < sizeof kinds / sizeof kinds[0]; i++)
             with_kind(s, entry, kinds[i], needed ? tell(EDGE_SST_TABLE, 0) : tell(EDGE_SST_RESERVED, entry));
-    }
-}
-
-/* The file of the corpus of opening that has this name. */
-static Bytes find_file(const char *dir, const char *name) {
-    Bytes input = read_all(dir, "test_open/stdin");
-    char found[256];
-    for (;;) {
-        Bytes item;
-        take_name(&input, found);
-        item = take_item(&input);
-        if (strcmp(found, name) == 0)
-            return item;
-        give_back(item);
     }
 }
 

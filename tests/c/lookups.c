@@ -163,8 +163,8 @@ static void with_rooms(const char *name, const Question *q, const Answer *e) {
 }
 
 /* The same by the other calls: by the record of opening where the file was asked
- * alone, and the partners alone where they are not short of room and no earlier
- * degree was the fault. */
+ * alone, and the partners alone where they are not short of room and neither an
+ * earlier degree nor the start index was the fault. */
 static void by_other_calls(const char *name, const Question *q, const Answer *e) {
     Question other = *q;
     EdgeSstOpened o = edge_sst_open(q->file.p, q->file.n);
@@ -260,6 +260,8 @@ static EdgeSstOpened take_record(Bytes *input) {
     o.marked = take_number(input, 1);
     o.keycount = take_number(input, 8), o.edgecount = take_number(input, 8);
     o.bits = take_number(input, 1);
+    o.indexstart = take_number(input, 8), o.indexlen = take_number(input, 8);
+    o.indexed = take_number(input, 1);
     return o;
 }
 
@@ -423,20 +425,24 @@ static void beside(uint8_t id[ID], int up) {
     }
 }
 
-/* Every key, and the ids beside each. A lookup from the file alone opens it, which
- * takes a while where there are many keys: then only some are asked for so. */
+/* Every key, by the record without its start index too, and the ids beside each. A lookup
+ * from the file alone opens it, which takes a while where there are many keys: then only
+ * some are asked for so. */
 void test_keys(const char *name, Bytes file, Bytes batch) {
     enum { FEW = 200, SOME = 37 };
     Keys k = keys_in(batch);
-    EdgeSstOpened o = edge_sst_open(file.p, file.n);
+    EdgeSstOpened o = edge_sst_open(file.p, file.n), summed = o;
     size_t i;
     int side;
     calls++;
+    summed.indexed = 0;
     if (o.number != 0 || o.keycount != k.count || o.edgecount != k.first[k.count])
         differ("%s: opening and the read-out count otherwise", name);
     for (i = 0; i < k.count; i++) {
         int alone = k.count <= FEW || i % SOME == 0;
         hold_key(name, file, &o, &k, key_of(&k, i), alone);
+        if (o.indexed)
+            hold_key(name, file, &summed, &k, key_of(&k, i), 0);
         for (side = 0; side < 2; side++) {
             uint8_t key[ID];
             memcpy(key, key_of(&k, i), ID);

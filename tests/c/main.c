@@ -20,6 +20,7 @@ static const Part parts[] = {
 #ifndef ALONE
     {"opening and records", test_opening},
     {"kinds", test_kinds},
+    {"start index", test_starts},
     {"lookups and keys", test_lookups},
     {"groups", test_groups},
     {"checks", test_checks},

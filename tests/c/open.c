@@ -15,31 +15,33 @@ static int nothing_else(const EdgeSstOpened *o) {
     return memcmp(&none, o, sizeof none) == 0;
 }
 
-static void hold_dead(const char *name, const EdgeSstOpened *o, char text[64]) {
-    if (o->marked == 1)
-        snprintf(text, 64, "%" PRIu64 " %" PRIu64, o->deadstart, o->deadlen);
+/* The range of a section that may be missing, as its line has it. */
+static void hold_range(const char *name, const char *what, uint64_t start, uint64_t len, uint64_t there, char text[64]) {
+    if (there == 1)
+        snprintf(text, 64, "%" PRIu64 " %" PRIu64, start, len);
     else
         snprintf(text, 64, "none");
-    if (o->marked > 1 || (o->marked == 0 && (o->deadstart != 0 || o->deadlen != 0)))
-        differ("%s: the mark or the range of the dead", name);
+    if (there > 1 || (there == 0 && (start != 0 || len != 0)))
+        differ("%s: the mark or the range of the %s", name, what);
 }
 
 static void hold_opened(const char *name, const EdgeSstOpened *o, const char *expected) {
-    char dead[64];
+    char dead[64], starts[64];
     if (o->number != 0) {
         hold_line(name, expected, "refused %" PRIu64 " at %" PRIu64 " beside %" PRIu64, o->number, o->place, o->beside);
         if (!nothing_else(o))
             differ("%s: a refusal with other numbers", name);
         return;
     }
-    hold_dead(name, o, dead);
+    hold_range(name, "dead", o->deadstart, o->deadlen, o->marked, dead);
+    hold_range(name, "starts", o->indexstart, o->indexlen, o->indexed, starts);
     if (o->place != 0 || o->beside != 0)
         differ("%s: opens with a place", name);
     hold_line(name, expected,
               "opens keys %" PRIu64 " %" PRIu64 " offsets %" PRIu64 " %" PRIu64 " partners %" PRIu64 " %" PRIu64
-              " logs %" PRIu64 " %" PRIu64 " dead %s n %" PRIu64 " e %" PRIu64 " bits %" PRIu64,
+              " logs %" PRIu64 " %" PRIu64 " dead %s starts %s n %" PRIu64 " e %" PRIu64 " bits %" PRIu64,
               o->keystart, o->keylen, o->offsetstart, o->offsetlen, o->partnerstart, o->partnerlen, o->logstart,
-              o->loglen, dead, o->keycount, o->edgecount, o->bits);
+              o->loglen, dead, starts, o->keycount, o->edgecount, o->bits);
 }
 
 static void hex(const uint8_t id[ID], char text[2 * ID + 1]) {

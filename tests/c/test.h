@@ -82,11 +82,30 @@ void hold_guards(const char *name, const char *what, Lent lent);
 /* The guards, and then the sum of the whole output. */
 uint64_t whole_sum(const char *name, Lent lent);
 
+/* The number of n bytes at p, the lowest first, and the same put there. */
+uint64_t number_at(const uint8_t *p, size_t n);
+void put_number(uint8_t *p, uint64_t number, size_t n);
+
+/* The file of the corpus of opening that has this name. */
+Bytes find_file(const char *dir, const char *name);
+
+/* Where the footer of a file begins, how many entries its table has, where this one begins,
+ * and its row, as the bytes say. */
+size_t footer_of(Bytes file);
+size_t entries_of(Bytes file);
+size_t entry_of(Bytes file, size_t entry);
+EdgeSstRow row_of(Bytes file, size_t entry);
+
+/* Sets the checksum of the section of this entry right, and that of the footer. */
+void mend_section(uint8_t *p, size_t n, size_t entry);
+void mend_footer(uint8_t *p, size_t n);
+
 /* The parts of the test: each takes the folder with the corpora. */
 void test_sums(const char *dir);
 void test_running(const char *dir);
 void test_opening(const char *dir);
 void test_kinds(const char *dir);
+void test_starts(const char *dir);
 void test_lookups(const char *dir);
 void test_groups(const char *dir);
 void test_checks(const char *dir);
@@ -95,6 +114,9 @@ void test_summaries(const char *dir);
 
 /* Lookups of every key of a file that passes, against its read-out. */
 void test_keys(const char *name, Bytes file, Bytes batch);
+
+/* The format's rule 21, once more: may the record be of a file of this size? */
+int possible_record(const EdgeSstOpened *o, uint64_t size);
 
 /* Lookups by records with a number changed: 21 exactly where it must be. */
 void test_records(const char *name, Bytes file, const EdgeSstOpened *opened);

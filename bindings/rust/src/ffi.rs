@@ -24,6 +24,9 @@ pub struct Opened {
     pub keycount: u64,
     pub edgecount: u64,
     pub bits: u64,
+    pub indexstart: u64,
+    pub indexlen: u64,
+    pub indexed: u64,
 }
 
 #[repr(C)]

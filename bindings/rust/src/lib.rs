@@ -39,7 +39,7 @@ pub use summary::{Extremes, Summary};
 use refusal::refuse_if;
 
 /// Checks a file in full: opening, the checksum of every section, every group, and
-/// what they say together. Refusals 1 to 16, 22, 23 and 28 to 36.
+/// what they say together. Refusals 1 to 16, 22, 23 and 28 to 37.
 pub fn check(file: &[u8]) -> Result<(), Refusal> {
     // SAFETY: the pointer and length are of one slice, and not null.
     let told = unsafe { ffi::edge_sst_check(file.as_ptr(), file.len()) };

@@ -2,6 +2,10 @@
 
 use crate::ffi;
 use crate::refusal::{refuse_if, Refusal};
+use std::ops::Range;
+
+#[cfg(test)]
+mod tests;
 
 /// A key or a partner: it compares as 16 bytes from the first.
 pub type Id = [u8; 16];
@@ -9,8 +13,8 @@ pub type Id = [u8; 16];
 /// Where edge files are opened.
 pub struct EdgeSst;
 
-/// A file whose frame, keys, offsets and fences are good. It borrows the bytes, so
-/// that they stay as they were when they were opened.
+/// A file whose frame, keys, offsets, fences and order of the start index are good. It
+/// borrows the bytes, so that they stay as they were when they were opened.
 #[derive(Clone, Copy, Debug)]
 pub struct Opened<'a> {
     file: &'a [u8],
@@ -60,7 +64,8 @@ pub struct Edges {
 const GUESS: usize = 16;
 
 impl EdgeSst {
-    /// Opens the bytes of a file: refusals 1 to 15 and 36. Takes time linear in the keys.
+    /// Opens the bytes of a file: refusals 1 to 15, 36 and 37. Takes time linear in the
+    /// keys.
     pub fn open(file: &[u8]) -> Result<Opened<'_>, Refusal> {
         // SAFETY: the pointer and length are of one slice, and not null.
         let record = unsafe { ffi::edge_sst_open(file.as_ptr(), file.len()) };
@@ -106,13 +111,22 @@ impl<'a> Opened<'a> {
             .map(|key| key.try_into().expect("16 bytes"))
     }
 
+    /// Where the start index lies in the file, `None` where it has none: a u64 for each
+    /// key and one more, the number of edges before it.
+    pub fn start_index(&self) -> Option<Range<usize>> {
+        let start = self.record.indexstart as usize;
+        let range = || start..start + self.record.indexlen as usize;
+        (self.record.indexed != 0).then(range)
+    }
+
     /// The partners of a key, `None` where it is absent: refusals 16 and 28 to 35.
     pub fn partners(&self, key: &Id) -> Result<Option<Partners>, Refusal> {
         with_room(|room| self.partners_in(key, room))
     }
 
     /// The edges of a key with log numbers and dead marks, `None` where it is
-    /// absent: refusals 16, 19 and 28 to 35.
+    /// absent: refusals 16, 19 and 28 to 35. Without a start index it takes the longer
+    /// the later the key.
     pub fn lookup(&self, key: &Id) -> Result<Option<Edges>, Refusal> {
         with_room(|room| self.lookup_in(key, room))
     }

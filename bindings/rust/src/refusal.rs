@@ -14,7 +14,7 @@ pub struct Refusal {
 
 /// The text of each number, as in the C header.
 // texts: from refusals.txt
-const TEXTS: [&str; 37] = [
+const TEXTS: [&str; 38] = [
     "no refusal",
     "file under 84 or over 2^30 bytes",
     "magic",
@@ -25,7 +25,7 @@ const TEXTS: [&str; 37] = [
     "footer length",
     "footer checksum",
     "section table",
-    "a section of kind 1 to 6 is not raw",
+    "a section of kind 1 to 6 or 0x0200 is not raw",
     "section range",
     "counts, lengths or presence of sections",
     "key not above the one before",
@@ -34,11 +34,11 @@ const TEXTS: [&str; 37] = [
     "unknown tag",
     "no longer given: see 33 to 35",
     "no longer given: see 28 to 32",
-    "an earlier degree, or edges past the edge count",
+    "an earlier degree, a start index unlike the degree, or edges past the edge count",
     "output too short",
     "opened record that cannot be of this file",
     "a section's checksum",
-    "degree sum, flag bit 1 or 2, or unused tombstone bits",
+    "degree sum, flag bit 1 or 2, unused tombstone bits, or start index",
     "batch record unknown, cut or misplaced",
     "batch order",
     "more keys, edges or file bytes than the bounds",
@@ -52,6 +52,7 @@ const TEXTS: [&str; 37] = [
     "varint not shortest",
     "varint too large",
     "a section of a reserved kind",
+    "start index entry",
 ];
 // texts: to here
 

@@ -49,11 +49,23 @@ fn reserved_kinds_are_refused_at_their_entry() {
 #[test]
 fn kinds_beside_the_reserved_ones_change_nothing() {
     let batch = read_out(&board()).unwrap();
-    for kind in [0, 0x0100, 0x0101, 0x01ff, 0x0200, 0xffff, KIND] {
+    for kind in [0, 0x0100, 0x0101, 0x01ff, 0x0201, 0xffff, KIND] {
         let file = board_with(kind);
         let sections = EdgeSst::open(&file).unwrap().sections().unwrap();
         assert_eq!(sections[SKIPPED].kind, u64::from(kind));
         assert_eq!(check(&file), Ok(()), "kind {kind}");
         assert_eq!(read_out(&file).unwrap(), batch, "kind {kind}");
     }
+}
+
+/// The start index is a kind that is read, and has no name.
+#[test]
+fn a_start_index_has_no_name() {
+    let refusal = Refusal {
+        number: 9,
+        place: 0,
+        beside: 0,
+    };
+    let file = board_with(0x0200);
+    assert_eq!(EdgeSst::open(&file).unwrap_err(), refusal);
 }

@@ -22,12 +22,13 @@ as 'print' has them, or 'KEY absent', which is an answer too:
 
   00000000000000010000000000000002 00000000000000050000000000000001 lsn 7 live
 
-The file is opened once: its frame, keys, offsets and fences are checked. Of the
-groups only those of the keys are read, so that a bad one does not hide the others;
-a key whose group is bad is told on standard error, and the other keys are answered.
+The file is opened once, which checks its frame, keys, offsets, fences and the order
+of its start index. Of the groups only those of the keys are read, so that a bad one
+does not hide the others; a key whose group is bad is told on standard error, and the
+other keys are answered.
 
-  -p, --partners  partners alone, as lines 'KEY PARTNER': quicker, and the degrees
-                  of earlier groups are not needed
+  -p, --partners  partners alone, as lines 'KEY PARTNER': quicker, and neither the
+                  start index nor the degrees of earlier groups are needed
   --json          an object for each key, with \"found\", and if it is there \"index\",
                   \"compared\" (keys compared) and \"edges\"; log numbers are strings,
                   since they go up to 2^64 - 1, where many readers of JSON round

@@ -20,7 +20,7 @@ A line for each field of the header: minor version, direction, flags and the ids
 edge type, the source label and the destination label; no checksum covers them. Then a
 line for each entry of the table, skipped kinds too: its number, kind, codec, offset,
 length, stored checksum and name. The file is opened, which checks its frame, keys,
-offsets and fences; 'check' also compares the checksums.
+offsets, fences and the order of its start index; 'check' also compares the checksums.
 
   --json  one object with \"header\" and \"sections\"; a name that is not UTF-8 is
           null, and \"name_hex\" has its bytes

@@ -102,7 +102,7 @@ pub fn lookups() -> (Vec<Vec<u8>>, Vec<Call>) {
         reader.take(12);
         match kind {
             2 => calls.push(call),
-            _ => drop(reader.take(10 * 8 + 1 + 2 * 8 + 1)),
+            _ => drop(reader.take(10 * 8 + 1 + 2 * 8 + 1 + 2 * 8 + 1)),
         }
     }
     (files, calls)

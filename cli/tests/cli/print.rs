@@ -119,7 +119,7 @@ fn a_refusal_is_an_object_too() {
 fn long_files_are_printed() {
     let mut batch = vec![3, 1];
     batch.extend([0x77; 48]);
-    let mut expected = "edge-sst inverse minor 0 keys 3000 edges 3000 dead 1000\n".to_string();
+    let mut expected = "edge-sst inverse minor 1 keys 3000 edges 3000 dead 1000\n".to_string();
     for i in 0_u32..3000 {
         let id = |k: u32| [&[0; 12][..], &k.to_be_bytes()].concat();
         batch.push(if i % 3 == 0 { 2 } else { 1 });

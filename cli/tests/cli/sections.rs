@@ -147,6 +147,22 @@ fn an_inverse_header_in_text() {
     assert_eq!(lines[2], "flags        8 inverse");
 }
 
+/// A start index has a name too, in text and in JSON.
+#[test]
+fn a_start_index_is_named() {
+    let files = inputs("test_check");
+    let file = files.iter().find(|file| file.name == "check-starts-five");
+    let bytes = &file.expect("a file with a start index").bytes;
+    let told = String::from_utf8(run_on(&["sections", "-"], bytes).fine()).unwrap();
+    let last: Vec<&str> = told.lines().last().unwrap().split_whitespace().collect();
+    assert_eq!(last[..5], ["5", "0x0200", "start", "index", "raw"]);
+    let ran = run_on(&["sections", "--json", "-"], bytes);
+    let told = Json::parse(ran.text().trim_end());
+    let section = &told.at("sections").array()[5];
+    assert_eq!(section.at("kind_name").text(), "start index");
+    assert_eq!(section.at("length").number(), 48);
+}
+
 /// The kinds have the names of the format's rules; the rows are those of the board in
 /// the second program's corpus of the full check. They stand after the header and an
 /// empty line.

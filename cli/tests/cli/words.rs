@@ -73,6 +73,18 @@ fn sections_are_named_by_kind_and_name() {
     }
 }
 
+/// The start index under a wrong sum, as the first and the last entry.
+#[test]
+fn a_wrong_start_index_is_named() {
+    let files = inputs("test_check");
+    for entry in [0, 8] {
+        let name = format!("check-starts-right-sum-at-{entry}");
+        let file = files.iter().find(|file| file.name == name);
+        let line = format!("22: a section's checksum, entry {entry} (start index)");
+        assert_eq!(said(&file.expect("a wrong sum").bytes), line);
+    }
+}
+
 /// The first file of the corpus that the second program refuses so, and its refusal.
 fn refused_so(so: impl Fn(&Told, &[u8]) -> bool) -> (Vec<u8>, Told) {
     let refusals = refusals("test_check", "check");
@@ -89,11 +101,12 @@ fn refused_so(so: impl Fn(&Told, &[u8]) -> bool) -> (Vec<u8>, Told) {
 #[test]
 fn places_of_files_that_do_not_open() {
     for (number, text) in [
-        (10, "a section of kind 1 to 6 is not raw, entry"),
+        (10, "a section of kind 1 to 6 or 0x0200 is not raw, entry"),
         (11, "section range, entry"),
         (36, "a section of a reserved kind, entry"),
         (13, "key not above the one before, key"),
         (14, "offset, offset"),
+        (37, "start index entry, start"),
     ] {
         for place in [1, 2, 3] {
             let (bytes, _) = refused_so(|told, _| (told.number, told.place) == (number, place));
@@ -187,7 +200,10 @@ fn refusals_without_a_place_have_none() {
         (9, "section table"),
         (12, "counts, lengths or presence of sections"),
         (15, "fence section"),
-        (23, "degree sum, flag bit 1 or 2, or unused tombstone bits"),
+        (
+            23,
+            "degree sum, flag bit 1 or 2, unused tombstone bits, or start index",
+        ),
     ] {
         let (bytes, _) = refused_so(|told, _| told.number == number);
         assert_eq!(said(&bytes), format!("{number}: {text}"));

@@ -22,6 +22,7 @@ use Rattle.refusal.specs.declared.Refusal.{Refusal}
 use Rattle.refusal.specs.declared.Check.{Check}
 use Rattle.refusal.specs.Check.{refuse}
 use Rattle.refusal.specs.Check.Laws.{fine-parts, either-parts}
+use Rattle.frame.specs.declared.Range.{Range}
 use Rattle.frame.specs.declared.Opened.{Opened}
 use Rattle.frame.specs.declared.Opening.{Opening}
 use Rattle.frame.specs.Frame.{recordOf}
@@ -32,14 +33,14 @@ use Rattle.index.specs.Find.Laws.{find-sound, find-absent}
 use Rattle.index.specs.Order.{KeysRise, key-once, OffsetsRise}
 use Rattle.degrees.specs.declared.Degree.{Degree}
 use Rattle.degrees.specs.declared.Sum.{Sum}
-use Rattle.degrees.specs.Degrees.{groupAt, degreeAt, edgesBefore, plus, capped}
-use Rattle.degrees.specs.Degrees.Laws.{in-is, degree-is, before-none, before-all}
+use Rattle.degrees.specs.Degrees.{groupAt, degreeAt, edgesBefore, startOf, plus, capped}
+use Rattle.degrees.specs.Degrees.Laws.{in-is, degree-is, capped-is, start-is}
 use Rattle.codes.specs.Varint.{varintAt}
 use Rattle.group.specs.Group.{Decoded, degreeOf, groupOf, isGood, partnersOf}
 use Rattle.group.specs.Group.Laws.{good-is}
 use Rattle.group.specs.Good as group
 use Rattle.lookup.specs.declared.groups.GroupSeen.{GroupSeen}
-use Rattle.lookup.specs.Lookup.{Outcome, found, absent, refused, Rooms, groupCheck, markAt, logsFrom, marksFrom, short, lookIn, lookWith, lookOf}
+use Rattle.lookup.specs.Lookup.{Outcome, found, absent, refused, Rooms, groupCheck, before, markAt, logsFrom, marksFrom, short, lookIn, lookWith, lookOf}
 use Rattle.lookup.specs.Groups.{check-good, groupSeen, good-seen}
 use Rattle.lookup.specs.Calls as calls
 use Rattle.reader.specs.Opened.{opened-keys, opened-offsets}
@@ -48,7 +49,7 @@ use Rattle.batch.specs.declared.Edge.{Edge}
 use Rattle.full_check.specs.Full.{groupIn, groupsFrom, degreesFrom, fullCheck, checkedOf}
 use Rattle.full_check.specs.Checked.{checked-opened, fine-checked}
 use Rattle.readout.specs.Edges.{edgeOf, edgesFrom, keyDegree, keyEdges, readFrom, edgesIn}
-use Rattle.readout.specs.ReadOut.Laws.{checked-edges}
+use Rattle.readout.specs.ReadOut.Laws.{checked-edges, checked-starts}
 
 -- ---- the words of the statement
 
@@ -245,6 +246,22 @@ module _ (keys p o : List ℕ) (w : ℕ) (logs dead : List ℕ) where
 
 -- ---- the statement
 
+-- a record without its start index, with r in the range's place
+abbrev pub unindexed : Range → Opened → Opened
+unindexed r o = record {
+  keys = o .keys;
+  offsets = o .offsets;
+  partners = o .partners;
+  logs = o .logs;
+  marked = o .marked;
+  dead = o .dead;
+  indexed = false;
+  starts = r;
+  keycount = o .keycount;
+  edgecount = o .edgecount;
+  bits = o .bits;
+}
+
 -- a run of edges of one key, found
 found-says : (full : Bool) (logs dead : List ℕ) (key : Id) (ps : List Id) (e i c : ℕ) (es : List Edge) → es ≡ edgesFrom logs dead key e ps → 1 ≤ length ps
     → Says full (found i c ps (pick full (logsFrom (length ps) logs e) []) (pick full (marksFrom (length ps) dead e) [])) es
@@ -354,11 +371,30 @@ module _ (f : List ℕ) (o : Opened) (pass : checkedOf f ≡ Opening.Good o) (k 
         let all : suc i + (o .keycount - suc i) ≡ o .keycount = omega arith in
         omega (arith, ap (λ (x : ℕ). degreesFrom ps os w x 0) all, ap (λ (x : ℕ). length (partnersOf (groupIn ps os w x))) z)
 
-    placed : capped (o .edgecount) (edgesBefore ps os w i) ≡ Sum.Total first
-    unfolding first
-    placed =
-        let lt = here .0 in
-        before-all ps os w (o .edgecount) i (degreesFrom ps os w i 0) (before-is keys ps os w ls ds (o .keycount) up ok i (omega arith)) (omega (arith, through))
+    -- they begin where the degrees before it end, as the start index says too
+    begins : before (knownOf f o) i (length group-partners) ≡ Sum.Total first
+    unfolding first group-partners before knownOf
+    begins = by (o .indexed) refl
+      where
+        next : degreesFrom ps os w (suc i) 0 ≡ degreesFrom ps os w i 0 + length (partnersOf (groupIn ps os w i))
+        next = degrees-last keys ps os w ls ds i 0 ∙ ap (λ (x : ℕ). degreesFrom ps os w i 0 + length (partnersOf (groupIn ps os w x))) (zero-add i)
+
+        by : (b : Bool) → o .indexed ≡ b
+            → pick b (startOf (pick b (bytesAt f (o .starts)) []) i (length (partnersOf (groupIn ps os w i)))) (edgesBefore ps os w i) ≡ Sum.Total (degreesFrom ps os w i 0)
+        by true m =
+            let lt = here .0 in
+            let at = checked-starts f o pass m i (omega arith) in
+            let end = checked-starts f o pass m (i + 1) (omega arith) ∙ ap (λ (x : ℕ). degreesFrom ps os w x 0) (add-one i) ∙ next in
+            start-is (bytesAt f (o .starts)) i (length (partnersOf (groupIn ps os w i))) (omega arith) ∙ ap Sum.Total at
+        by false m = let lt = here .0 in before-is keys ps os w ls ds (o .keycount) up ok i (omega arith)
+
+    -- and so without the start index
+    pub begins-same : (r : Range) → before (knownOf f (unindexed r o)) i (length (partnersOf (groupIn ps os w i))) ≡ before (knownOf f o) i (length (partnersOf (groupIn ps os w i)))
+    unfolding before knownOf first group-partners
+    begins-same r = let lt = here .0 in before-is keys ps os w ls ds (o .keycount) up ok i (omega arith) ∙ sym begins
+
+    placed : capped (o .edgecount) (before (knownOf f o) i (length group-partners)) ≡ Sum.Total first
+    placed = let h = through in capped-is (o .edgecount) (before (knownOf f o) i (length group-partners)) first begins (omega arith)
 
     module _ (rooms : Rooms) where
       -- with log numbers and dead marks

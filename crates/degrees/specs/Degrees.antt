@@ -9,7 +9,7 @@ use Rattle.base.specs.Pick.{pick}
 use Rattle.base.specs.Over.{part}
 use Rattle.codes.specs.declared.varint.Varint.{Varint}
 use Rattle.codes.specs.Varint.{varintAt}
-use Rattle.frame.specs.Open.{offsetAt}
+use Rattle.frame.specs.Open.{offsetAt, startAt}
 use Rattle.degrees.specs.declared.Degree.{Degree}
 use Rattle.degrees.specs.declared.Sum.{Sum}
 pub mod Laws
@@ -43,6 +43,11 @@ plus Sum.Bad d = Sum.Bad
 unfoldable pub edgesBefore : List ℕ → List ℕ → ℕ → ℕ → Sum
 edgesBefore p o w zero = Sum.Total 0
 edgesBefore p o w (suc i) = plus (edgesBefore p o w i) (degreeAt p o w i)
+
+-- where the d edges of group i begin, by the start index s: "A lookup takes its start there"; none is told "for a difference
+-- unlike the degree"
+unfoldable pub startOf : List ℕ → ℕ → ℕ → Sum
+startOf s i d = pick (eqb (startAt s i + d) (startAt s (i + 1))) (Sum.Total (startAt s i)) Sum.Bad
 
 -- at most so many
 unfoldable pub capped : ℕ → Sum → Sum

@@ -1,12 +1,14 @@
-// Degrees of groups, and how many edges stand before a group: the sum of the earlier degrees, of which only the first
-// varint of each group is read.
+// Degrees of groups, and how many edges stand before a group: as the start index says, without reading any degree; or the sum of
+// the earlier degrees, of which only the first varint of each group is read.
 ghost use mathlib.Core.Path.{_≡_};
-ghost use Prim.Native.Nat.{_+_, _*_, _≤_};
+ghost use Prim.Native.Nat.{_+_, _*_, _≤_, _<_};
 ghost use lib.ListN.{length};
-ghost use Rattle.degrees.specs.Degrees.{degreeIn, edgesBefore, capped};
+ghost use Rattle.frame.specs.Kind as kind;
+ghost use Rattle.degrees.specs.Degrees.{degreeIn, edgesBefore, startOf, capped};
 use codes::varint::Varint;
 use codes::varint::varint_at;
 use index::offsets::offset_at;
+use index::starts::start_at;
 
 // A degree, or one that is unreadable or 0.
 pub enum Degree {
@@ -66,4 +68,23 @@ pub fn edges_before(partners: &[u8], offs: &[u8], w: usize, n: usize, most: u64)
         }
     }
     Sum::Total { edges: sum }
+}
+
+// Where the d edges of group i begin by the start index, if that is at most `most` and the next group begins d edges later.
+pub fn start_of(starts: &[u8], i: usize, d: u64, most: u64) -> Sum
+    requires { ⌜ (i < kind.mostKeys) × (kind.startsLen (i + 1) ≤ length (now starts)) ⌝ }
+    ensures { λ r. ⌜ r ≡ capped most (startOf (now (starts .entry)) i d) ⌝ }
+{
+    let edges = start_at(starts, i);
+    let next = start_at(starts, i + 1);
+    if most < edges {
+        return Sum::Bad;
+    }
+    if next < edges {
+        return Sum::Bad;
+    }
+    if next - edges != d {
+        return Sum::Bad;
+    }
+    Sum::Total { edges }
 }

@@ -5,11 +5,11 @@ use Prim.Native.Nat.{ℕ, zero, suc, _+_, _-_, _*_, _/_, _%_, _^_, _≤_, _<_}
 use native.Mathlib.Nat.{zero-add, zero-div, add-zero}
 use native.Mathlib.Omega.{arith}
 use mathlib.Core.List.{List, [], _∷_, _++_, append-nil, append-assoc}
-use mathlib.Core.Bool.{Bool, true, false, _||_}
+use mathlib.Core.Bool.{Bool, true, false, not, _||_}
 use lib.ListN.{length, getD, drop, take, length-append}
 use lib.Seq.{drop-append-seam, take-append-seam, append-snoc}
 use lib.Dec.{ltb, leb, eqb}
-use borrow.Author.Tests.{lt-ltb}
+use borrow.Author.Tests.{lt-ltb, eq-eqb}
 use Rattle.batch.specs.Batch.{partnersIn, logsIn, marksIn}
 use Rattle.base.specs.Pick.{pick}
 use Rattle.base.specs.Over.{part, part-mid}
@@ -21,7 +21,7 @@ use Rattle.refusal.specs.declared.Refusal.{Refusal}
 use Rattle.refusal.specs.declared.Check.{Check}
 use Rattle.refusal.specs.Check.{_⊳_}
 use Rattle.refusal.specs.Check.Laws.{fine-both, fine-pick}
-use Rattle.frame.specs.Open.{keyAt, keysFrom, offsetAt}
+use Rattle.frame.specs.Open.{keyAt, keysFrom, offsetAt, startAt}
 use Rattle.group.specs.Group.{Decoded, good, groupOf, partnersOf, bytesOf}
 use Rattle.group.specs.Group.Laws.{partners-good}
 use Rattle.group.specs.Written.{written-back}
@@ -29,11 +29,11 @@ use Rattle.lookup.specs.Lookup.{groupCheck, markAt}
 use Rattle.batch.specs.declared.Edge.{Edge}
 use Rattle.batch_groups.specs.Groups.{anyDead, Group, flat, IdFits, Run, Grouped}
 use Rattle.batch_groups.specs.Groups.Laws.{flat-append}
-use Rattle.write_image.specs.Image.{keysIn, isDense, groupBytes, bytesIn, anyDense, keyBytes, partnerBytes, startsFrom, offsetBytes, logBytes, octets, tombBytes, bit}
-use Rattle.write_image.specs.Image.Laws.{length-partners, run-partners, group-is, group-some, length-keysIn}
-use Rattle.full_check.specs.Full.{denseOf, groupIn, groupsFrom, degreesFrom, denseFrom}
+use Rattle.write_image.specs.Image.{keysIn, isDense, groupBytes, bytesIn, anyDense, keyBytes, partnerBytes, startsFrom, offsetBytes, logBytes, octets, tombBytes, startBytes, bit}
+use Rattle.write_image.specs.Image.Laws.{length-partners, run-partners, group-is, group-some, length-keysIn, numbers-at, start-is}
+use Rattle.full_check.specs.Full.{denseOf, groupIn, groupsFrom, degreesFrom, denseFrom, strayFrom}
 use Rattle.readout.specs.Edges.{edgeOf, edgesFrom, keyDegree, keyEdges, readFrom}
-use Rattle.demand2.specs.Rows.{numbers-at, ids-mid, partners-append, length-starts, starts-at, keys-append, marks-at, logs-at, length-logsIn, mark-at, bit-is, none-dead}
+use Rattle.demand2.specs.Rows.{ids-mid, partners-append, length-starts, starts-at, keys-append, marks-at, logs-at, length-logsIn, mark-at, bit-is, none-dead}
 
 -- ---- where groups lie
 
@@ -196,6 +196,8 @@ module _ (all : List Group) (w : ℕ) (small : length (partnerBytes (length all)
     pub degrees : degreesFrom ps os w (length hs) (length gs) ≡ length (flat hs)
     pub dense : denseFrom ps os w (length hs) (length gs) ≡ anyDense (length all) hs
     pub edges : readFrom (keyBytes all) ps os w (logBytes es) (tombs es) (length hs) (length gs) (length (flat gs)) ≡ flat hs
+    -- the start index says how many edges stand before each
+    pub starts : strayFrom ps os w (startBytes all) (length hs) (length gs) (length (flat gs)) ≡ false
 
   -- one group
   module _ (gs : List Group) (g : Group) (hs : List Group) (e : all ≡ gs ++ g ∷ hs) (r : Run (g .key) 0 (g .edges)) (some : length (g .edges) ≡ 0 → ⊥) (k : IdFits (g .key)) where
@@ -228,9 +230,13 @@ module _ (all : List Group) (w : ℕ) (small : length (partnerBytes (length all)
         ap₂ (λ (x : Id) (y : List Id). edgesFrom (logBytes es) (tombs es) x (length (flat gs)) y) (key-back all gs g hs e k) found
         ∙ run-back es (g .key) (g .edges) 0 (flat gs) (flat hs) place r
 
+  -- an entry of the start index
+  starts-here : (gs hs : List Group) → all ≡ gs ++ hs → not (eqb (startAt (startBytes all) (length gs)) (length (flat gs))) ≡ false
+  starts-here gs hs e = let l = ap length f in ap not (eq-eqb _ _ (start-is all (omega arith) gs hs e))
+
   pub read-back : (hs gs : List Group) (floor : ℕ) → all ≡ gs ++ hs → Grouped floor hs → Read gs hs
-  unfolding groupsFrom degreesFrom denseFrom readFrom flat anyDense Grouped
-  read-back [] gs floor e o = record { good = refl; degrees = refl; dense = refl; edges = refl }
+  unfolding groupsFrom degreesFrom denseFrom readFrom strayFrom flat anyDense Grouped
+  read-back [] gs floor e o = record { good = refl; degrees = refl; dense = refl; edges = refl; starts = starts-here gs [] e }
   read-back (g ∷ hs) gs floor e o =
       let e′ : all ≡ (gs ++ (g ∷ [])) ++ hs = e ∙ sym (append-snoc gs g hs) in
       let i : length (gs ++ (g ∷ [])) ≡ length gs + 1 = length-append gs (g ∷ []) in
@@ -244,4 +250,5 @@ module _ (all : List Group) (w : ℕ) (small : length (partnerBytes (length all)
         dense = ap₂ (λ (x y : Bool). x || y) (thick gs g hs e (o .3) (o .2) (o .1)) (ap (denseFrom ps os w (length hs)) (sym i) ∙ ih .dense);
         edges = ap₂ (λ (x y : List Edge). x ++ y) (edges-here gs g hs e (o .3) (o .2) (o .1))
             (ap₂ (λ (x y : ℕ). readFrom (keyBytes all) ps os w (logBytes es) (tombs es) (length hs) x y) (sym i) (sym c) ∙ ih .edges);
+        starts = ap₂ (λ (x y : Bool). x || y) (starts-here gs (g ∷ hs) e) (ap₂ (strayFrom ps os w (startBytes all) (length hs)) (sym i) (sym c) ∙ ih .starts);
       }

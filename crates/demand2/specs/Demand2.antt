@@ -7,7 +7,7 @@ use native.Mathlib.Omega.{arith}
 use mathlib.Core.List.{List}
 use mathlib.Core.Bool.{Bool, true, false, _&&_}
 use lib.ListN.{length, getD}
-use lib.Dec.{leb, eqb}
+use lib.Dec.{ltb, leb, eqb}
 use borrow.Author.Tests.{leb-true}
 use Rattle.base.specs.Pick.{pick}
 use Rattle.base.specs.Over.{length-part}
@@ -26,7 +26,7 @@ use Rattle.batch_groups.specs.Groups.{anyDead, groupsOf}
 use Rattle.batch_groups.specs.Groups.Laws.{grouped}
 use Rattle.batch_groups.specs.Order.{batch-ordered, fine-long}
 use Rattle.batch_groups.specs.Back.{batch-same}
-use Rattle.write_image.specs.Image.{anyDense, flagsBy, fileOf}
+use Rattle.write_image.specs.Image.{anyDense, bit, flagsBy, fileOf}
 use Rattle.full_check.specs.Full.{fullCheck}
 use Rattle.readout.specs.ReadOut.{batchIn}
 use Rattle.agreement.specs.SameEdges.{ofKey, Says, Enough, edgesOfFile, same-edges, same-partners}
@@ -34,7 +34,7 @@ use Rattle.agreement.specs.Heading.{headerFor, same-heading}
 use Rattle.reader.specs.declared.header.HeaderRead.{HeaderRead}
 use Rattle.reader.specs.Header.{headerOf, header-good}
 use Rattle.reader.specs.Look.{of-good, with-record}
-use Rattle.demand2.specs.File.{WrittenFile, minor-is, flags-is, file-opens, known-keys, passes, edges-again, batch-back}
+use Rattle.demand2.specs.File.{WrittenFile, minor-is, flags-is, file-opens, known-keys, known-indexed, passes, edges-again, batch-back}
 use Rattle.demand2.specs.Answers.{outcomeFor, PlaceTold, look-placed, outcome-is}
 
 -- the file of a batch
@@ -45,6 +45,10 @@ fileFor s = fileOf (headingOf s) (edgesOf s)
 -- and bit 3 by the direction
 abbrev pub flagsFor : List ℕ → ℕ
 flagsFor s = flagsBy (headingOf s .direction) (anyDense (length (groupsOf (edgesOf s))) (groupsOf (edgesOf s))) (anyDead (edgesOf s))
+
+-- the minor version: 1 "from 1,025 keys up", otherwise 0
+abbrev pub minorFor : List ℕ → ℕ
+minorFor s = pick (ltb 1024 (length (groupsOf (edgesOf s)))) 1 0
 
 -- "more keys, edges or file bytes than the bounds" is not the case
 pub record Limits (s : List ℕ) : Type 0 where
@@ -62,8 +66,10 @@ pub record Demand2 (s : List ℕ) : Type 0 where
   pub passes-check : fullCheck (fileFor s) ≡ Check.Fine
   -- the read-out is that same batch, byte for byte
   pub reads-out : batchIn (fileFor s) ≡ s
-  -- its header is the batch's heading, with minor version 0 and the writer's flags
-  pub says-header : headerOf (fileFor s) ≡ HeaderRead.Good (headerFor 0 (flagsFor s) s)
+  -- its header is the batch's heading, with the writer's minor version and flags
+  pub says-header : headerOf (fileFor s) ≡ HeaderRead.Good (headerFor (minorFor s) (flagsFor s) s)
+  -- it has a start index "from 1,025 keys up", and not below
+  pub has-starts : recordOf (fileFor s) .indexed ≡ ltb 1024 (length (groupsOf (edgesOf s)))
   -- a lookup with enough room says exactly the written edges of its key; also by the record that opening gave
   pub looks-up : (key : ℕ) (rooms : Rooms) → Enough rooms (length (ofKey key (edgesOf s))) → Says true (lookOf true rooms key (fileFor s)) (ofKey key (edgesOf s))
   pub looks-up-with : (key : ℕ) (rooms : Rooms) → Enough rooms (length (ofKey key (edgesOf s)))
@@ -84,6 +90,10 @@ pub record Demand2 (s : List ℕ) : Type 0 where
 pub lawful-is : (s : List ℕ) → Bytes s → batchCheck s ≡ Check.Fine
     → length (groupsOf (edgesOf s)) ≤ 2 ^ 24 → length (edgesOf s) ≤ 2 ^ 26 → length (fileFor s) ≤ 2 ^ 30 → Lawful s
 lawful-is s bytes fine keys edges size = record { bytes = bytes; fine = fine; limits = record { keys = keys; edges = edges; bytes = size } }
+
+bit-pick : (b : Bool) → bit b ≡ pick b 1 0
+bit-pick true = refl
+bit-pick false = refl
 
 -- a batch without fault has a heading
 way : (s : List ℕ) → batchCheck s ≡ Check.Fine → getD s 1 0 ≤ 1
@@ -125,13 +135,17 @@ module _ (s : List ℕ) (lawful : Lawful s) where
   back : batchIn f ≡ s
   back = batch-back (headingOf s) (edgesOf s) written ∙ batch-same s (lawful .bytes) fine
 
-  header : headerOf f ≡ HeaderRead.Good (headerFor 0 (flagsFor s) s)
+  header : headerOf f ≡ HeaderRead.Good (headerFor (minorFor s) (flagsFor s) s)
   unfolding headerIn
   header =
       let good = header-good f (recordOf f) opens in
-      let minor = minor-is (headingOf s) (edgesOf s) written in
+      let minor = minor-is (headingOf s) (edgesOf s) written ∙ bit-pick (ltb 1024 (length (groupsOf (edgesOf s)))) in
       let flags = flags-is (headingOf s) (edgesOf s) written in
       good ∙ ap HeaderRead.Good (same-heading f (headerIn f) good ∙ (λ j. headerFor (minor j) (flags j) (back j)))
+
+  starts-there : recordOf f .indexed ≡ ltb 1024 (length (groupsOf (edgesOf s)))
+  unfolding knownOf
+  starts-there = known-indexed (headingOf s) (edgesOf s) written
 
   placed : (all : Bool) (rooms : Rooms) (key : ℕ) → PlaceTold key (groupsOf (edgesOf s)) (lookOf all rooms key f)
   placed all rooms key =
@@ -159,6 +173,7 @@ module _ (s : List ℕ) (lawful : Lawful s) where
     passes-check = full;
     reads-out = back;
     says-header = header;
+    has-starts = starts-there;
     looks-up = looked;
     looks-up-with = λ key rooms room. rw (by-record true rooms key) (looked key rooms room);
     finds = finding;

@@ -22,7 +22,7 @@ use Rattle.frame.specs.declared.Opening.{Opening}
 use Rattle.frame.specs.Kind as kind
 use Rattle.frame.specs.Frame.{all, rowsOf, entryCount, keyCount, edgeCount, bitsOf, has, sectionOf, kindsGood, flag, flagsOf, widthGood, sizesGood, presenceGood, countsGood, bodyOf, headCheck, recordFrom, recordOf, framedFrom, framedOf}
 use Rattle.frame.specs.Frame.Laws.{Table}
-use Rattle.frame.specs.Open.{Known, knownOf, bytesAt, contentCheck, offsetsFrom, fencesGood, fileCheck, opening, openOf}
+use Rattle.frame.specs.Open.{Known, knownOf, bytesAt, contentCheck, offsetsCheck, startsCheck, fencesGood, fileCheck, opening, openOf}
 use Rattle.frame.specs.Open.Laws.{Frames, frames-made}
 use Rattle.frame.specs.Layout.{Section, Layout, rawSection, headBytes, payload, bodyBytes, trailer, layOut}
 use Rattle.laid_out.specs.Rows.{rowsIn, Small, small-is, leAt-at, count-back, body-end, keys-back, edges-back, bits-back}
@@ -31,14 +31,14 @@ use Rattle.batch.specs.declared.Edge.{Edge}
 use Rattle.batch.specs.Batch.{Heading, batchBytes}
 use Rattle.batch_groups.specs.Groups.{anyDead, Group, groupsOf, flat, Grouped}
 use Rattle.batch_groups.specs.Groups.Laws.{flat-groups, groups-count}
-use Rattle.write_image.specs.Image.{anyDense, keysIn, keyBytes, partnerBytes, widthOf, offsetBytes, logBytes, tombBytes, fencesOf, fenced, bit, flagsBy, lastSections, sectionsBy, layoutBy, layoutOf, fileOf}
-use Rattle.write_image.specs.Image.Laws.{length-keys, length-offsets, length-logBytes, length-tombs}
-use Rattle.full_check.specs.Full.{sumsFrom, groupsFrom, degreesFrom, denseFrom, dataGood, edgesCheck, fullCheck}
+use Rattle.write_image.specs.Image.{anyDense, keysIn, keyBytes, partnerBytes, widthOf, offsetBytes, logBytes, tombBytes, fencesOf, fenced, startBytes, indexed, minorOf, bit, flagsBy, lastSections, sectionsBy, layoutBy, layoutOf, fileOf}
+use Rattle.write_image.specs.Image.Laws.{length-keys, length-offsets, length-logBytes, length-tombs, length-startBytes}
+use Rattle.full_check.specs.Full.{sumsFrom, groupsFrom, degreesFrom, denseFrom, strayFrom, dataGood, edgesCheck, fullCheck}
 use Rattle.readout.specs.Edges.{readFrom, edgesIn}
 use Rattle.readout.specs.ReadOut.{headingIn, batchIn}
 use Rattle.demand2.specs.Rows.{width-fits, bit-is}
 use Rattle.demand2.specs.Contents.{keys-fine, tombs, Read, read-back}
-use Rattle.demand2.specs.Rules.{offsets-fine, dead-back, unused-back}
+use Rattle.demand2.specs.Rules.{offsets-fine, starts-fine, dead-back, unused-back}
 use Rattle.demand2.specs.Fences.{fences-fine}
 use Rattle.demand2.specs.Sections.{AllRaw, raw-is, contentOf, hasKind, twiceKind, onceIn, has-is, kinds-is, names-fine, reserved-fine, codecs-fine, raw-numbers, content-laid, len-is, sums-fine, length-content}
 
@@ -48,24 +48,32 @@ module _ (keys w : ℕ) (es : List Edge) (gs : List Group) where
   abbrev raw1 : Section
   raw1 = rawSection kind.keys (keyBytes gs)
 
-  sections-raw : (dead fence : Bool) → AllRaw (raw1 ∷ rawSection kind.offsets (offsetBytes w keys 0 gs) ∷ rawSection kind.partners (partnerBytes keys gs) ∷ rawSection kind.logs (logBytes es) ∷ lastSections dead fence es gs)
+  sections-raw : (dead fence index : Bool) → AllRaw (raw1 ∷ rawSection kind.offsets (offsetBytes w keys 0 gs) ∷ rawSection kind.partners (partnerBytes keys gs) ∷ rawSection kind.logs (logBytes es) ∷ lastSections dead fence index es gs)
   unfolding AllRaw lastSections
-  sections-raw dead fence =
-      (raw-is kind.keys (keyBytes gs) refl, (raw-is kind.offsets (offsetBytes w keys 0 gs) refl, (raw-is kind.partners (partnerBytes keys gs) refl, (raw-is kind.logs (logBytes es) refl, last dead fence))))
+  sections-raw dead fence index =
+      (raw-is kind.keys (keyBytes gs) refl, (raw-is kind.offsets (offsetBytes w keys 0 gs) refl, (raw-is kind.partners (partnerBytes keys gs) refl, (raw-is kind.logs (logBytes es) refl, last dead fence index))))
     where
-      last : (dead fence : Bool) → AllRaw (pick dead (rawSection kind.tombstones (tombBytes es) ∷ []) [] ++ pick fence (rawSection kind.fences (fencesOf (keysIn gs)) ∷ []) [])
-      last true true = (raw-is kind.tombstones (tombBytes es) refl, (raw-is kind.fences (fencesOf (keysIn gs)) refl, tt))
-      last true false = (raw-is kind.tombstones (tombBytes es) refl, tt)
-      last false true = (raw-is kind.fences (fencesOf (keysIn gs)) refl, tt)
-      last false false = tt
+      starts : (index : Bool) → AllRaw (pick index (rawSection kind.starts (startBytes gs) ∷ []) [])
+      starts true = (raw-is kind.starts (startBytes gs) refl, tt)
+      starts false = tt
+
+      fences : (fence index : Bool) → AllRaw (pick fence (rawSection kind.fences (fencesOf (keysIn gs)) ∷ []) [] ++ pick index (rawSection kind.starts (startBytes gs) ∷ []) [])
+      fences true index = (raw-is kind.fences (fencesOf (keysIn gs)) refl, starts index)
+      fences false index = starts index
+
+      last : (dead fence index : Bool)
+          → AllRaw (pick dead (rawSection kind.tombstones (tombBytes es) ∷ []) [] ++ (pick fence (rawSection kind.fences (fencesOf (keysIn gs)) ∷ []) [] ++ pick index (rawSection kind.starts (startBytes gs) ∷ []) []))
+      last true fence index = (raw-is kind.tombstones (tombBytes es) refl, fences fence index)
+      last false fence index = fences fence index
 
   -- what the table says of them
-  pub record Table4 (dead fence : Bool) (ss : List Section) : Type 0 where
-    pub few : length ss ≤ 6
+  pub record Told (dead fence index : Bool) (ss : List Section) : Type 0 where
+    pub few : length ss ≤ 7
     pub some : 4 ≤ length ss
     pub kinds : all (onceIn ss) kind.kinds ≡ true
     pub marked : hasKind kind.tombstones ss ≡ dead
     pub fences : hasKind kind.fences ss ≡ fence
+    pub starts : hasKind kind.starts ss ≡ index
     pub streams : hasKind kind.properties ss ≡ false
     pub keys-are : contentOf kind.keys ss ≡ keyBytes gs
     pub offsets-are : contentOf kind.offsets ss ≡ offsetBytes w keys 0 gs
@@ -73,13 +81,18 @@ module _ (keys w : ℕ) (es : List Edge) (gs : List Group) where
     pub logs-are : contentOf kind.logs ss ≡ logBytes es
     pub tombs-are : contentOf kind.tombstones ss ≡ pick dead (tombBytes es) []
     pub fences-are : contentOf kind.fences ss ≡ pick fence (fencesOf (keysIn gs)) []
+    pub starts-are : contentOf kind.starts ss ≡ pick index (startBytes gs) []
 
-  sections-table : (dead fence : Bool) → Table4 dead fence (raw1 ∷ rawSection kind.offsets (offsetBytes w keys 0 gs) ∷ rawSection kind.partners (partnerBytes keys gs) ∷ rawSection kind.logs (logBytes es) ∷ lastSections dead fence es gs)
+  sections-table : (dead fence index : Bool) → Told dead fence index (raw1 ∷ rawSection kind.offsets (offsetBytes w keys 0 gs) ∷ rawSection kind.partners (partnerBytes keys gs) ∷ rawSection kind.logs (logBytes es) ∷ lastSections dead fence index es gs)
   unfolding lastSections contentOf hasKind twiceKind all
-  sections-table true true = record { few = omega arith; some = omega arith; kinds = refl; marked = refl; fences = refl; streams = refl; keys-are = refl; offsets-are = refl; partners-are = refl; logs-are = refl; tombs-are = refl; fences-are = refl }
-  sections-table true false = record { few = omega arith; some = omega arith; kinds = refl; marked = refl; fences = refl; streams = refl; keys-are = refl; offsets-are = refl; partners-are = refl; logs-are = refl; tombs-are = refl; fences-are = refl }
-  sections-table false true = record { few = omega arith; some = omega arith; kinds = refl; marked = refl; fences = refl; streams = refl; keys-are = refl; offsets-are = refl; partners-are = refl; logs-are = refl; tombs-are = refl; fences-are = refl }
-  sections-table false false = record { few = omega arith; some = omega arith; kinds = refl; marked = refl; fences = refl; streams = refl; keys-are = refl; offsets-are = refl; partners-are = refl; logs-are = refl; tombs-are = refl; fences-are = refl }
+  sections-table true true true = record { few = omega arith; some = omega arith; kinds = refl; marked = refl; fences = refl; starts = refl; streams = refl; keys-are = refl; offsets-are = refl; partners-are = refl; logs-are = refl; tombs-are = refl; fences-are = refl; starts-are = refl }
+  sections-table true true false = record { few = omega arith; some = omega arith; kinds = refl; marked = refl; fences = refl; starts = refl; streams = refl; keys-are = refl; offsets-are = refl; partners-are = refl; logs-are = refl; tombs-are = refl; fences-are = refl; starts-are = refl }
+  sections-table true false true = record { few = omega arith; some = omega arith; kinds = refl; marked = refl; fences = refl; starts = refl; streams = refl; keys-are = refl; offsets-are = refl; partners-are = refl; logs-are = refl; tombs-are = refl; fences-are = refl; starts-are = refl }
+  sections-table true false false = record { few = omega arith; some = omega arith; kinds = refl; marked = refl; fences = refl; starts = refl; streams = refl; keys-are = refl; offsets-are = refl; partners-are = refl; logs-are = refl; tombs-are = refl; fences-are = refl; starts-are = refl }
+  sections-table false true true = record { few = omega arith; some = omega arith; kinds = refl; marked = refl; fences = refl; starts = refl; streams = refl; keys-are = refl; offsets-are = refl; partners-are = refl; logs-are = refl; tombs-are = refl; fences-are = refl; starts-are = refl }
+  sections-table false true false = record { few = omega arith; some = omega arith; kinds = refl; marked = refl; fences = refl; starts = refl; streams = refl; keys-are = refl; offsets-are = refl; partners-are = refl; logs-are = refl; tombs-are = refl; fences-are = refl; starts-are = refl }
+  sections-table false false true = record { few = omega arith; some = omega arith; kinds = refl; marked = refl; fences = refl; starts = refl; streams = refl; keys-are = refl; offsets-are = refl; partners-are = refl; logs-are = refl; tombs-are = refl; fences-are = refl; starts-are = refl }
+  sections-table false false false = record { few = omega arith; some = omega arith; kinds = refl; marked = refl; fences = refl; starts = refl; streams = refl; keys-are = refl; offsets-are = refl; partners-are = refl; logs-are = refl; tombs-are = refl; fences-are = refl; starts-are = refl }
 
 -- ---- flags
 
@@ -145,6 +158,9 @@ module _ (h : Heading) (es : List Edge) (q : WrittenFile h es) where
   abbrev fence : Bool
   fence = fenced n
 
+  abbrev index : Bool
+  index = indexed n
+
   abbrev flags : ℕ
   flags = flagsBy (h .direction) dense dead
 
@@ -158,18 +174,18 @@ module _ (h : Heading) (es : List Edge) (q : WrittenFile h es) where
   ss = sectionsBy n w dead es gs
 
   abbrev head : List ℕ
-  head = headBytes 0 flags (h .ids)
+  head = headBytes (minorOf n) flags (h .ids)
 
   abbrev body : List ℕ
   body = bodyBytes ss n (length es) (8 * w)
 
   raw : AllRaw ss
   unfolding sectionsBy
-  raw = sections-raw n w es gs dead fence
+  raw = sections-raw n w es gs dead fence index
 
-  t : Table4 n w es gs dead fence ss
+  t : Told n w es gs dead fence index ss
   unfolding sectionsBy
-  t = sections-table n w es gs dead fence
+  t = sections-table n w es gs dead fence index
 
   fl : Flags (h .direction) dense dead flags
   fl = flags-back (h .direction) (q .way) dense dead
@@ -209,7 +225,7 @@ module _ (h : Heading) (es : List Edge) (q : WrittenFile h es) where
 
   -- ---- the header
 
-  pub minor-is : getD f 9 0 ≡ 0
+  pub minor-is : getD f 9 0 ≡ minorOf n
   unfolding headBytes
   minor-is = ap (λ (s : List ℕ). getD s 9 0) parts
 
@@ -217,7 +233,7 @@ module _ (h : Heading) (es : List Edge) (q : WrittenFile h es) where
   unfolding headBytes leBytes
   flags-is =
       let few = fl .few in
-      leAt-at 4 (kind.magicBytes ++ (1 ∷ 0 ∷ leBytes 2 64)) (h .ids ++ (payload ss ++ (body ++ trailer body))) flags f 12 (parts ∙ refl) refl (omega arith)
+      leAt-at 4 (kind.magicBytes ++ (1 ∷ minorOf n ∷ leBytes 2 64)) (h .ids ++ (payload ss ++ (body ++ trailer body))) flags f 12 (parts ∙ refl) refl (omega arith)
 
   head-fine : headCheck f ≡ Check.Fine
   unfolding headCheck headBytes leBytes leAt
@@ -269,21 +285,25 @@ module _ (h : Heading) (es : List Edge) (q : WrittenFile h es) where
   tomb-len true = eq-eqb _ _ (length-tombs es)
   tomb-len false = refl
 
+  start-len : (b : Bool) → (not b || eqb (length (pick b (startBytes gs) [])) (kind.startsLen n)) ≡ true
+  start-len true = eq-eqb _ _ (length-startBytes gs)
+  start-len false = refl
+
   -- bounds and lengths (12) of a record by its numbers
-  abbrev sizesBy : ℕ → ℕ → ℕ → ℕ → ℕ → ℕ → Bool → ℕ → Bool
-  sizesBy k e bits keys offsets logs marked tombs =
+  abbrev sizesBy : ℕ → ℕ → ℕ → ℕ → ℕ → ℕ → Bool → ℕ → Bool → ℕ → Bool
+  sizesBy k e bits keys offsets logs marked tombs there starts =
       leb k kind.mostKeys
       && (leb e kind.mostEdges
       && (eqb keys (kind.keysLen k)
-      && (eqb offsets (kind.offsetsLen k (bits / 8)) && (eqb logs (kind.logsLen e) && (not marked || eqb tombs (kind.tombstonesLen e))))))
+      && (eqb offsets (kind.offsetsLen k (bits / 8)) && (eqb logs (kind.logsLen e) && ((not marked || eqb tombs (kind.tombstonesLen e)) && (not there || eqb starts (kind.startsLen k)))))))
 
-  sizes : sizesBy n (length es) (8 * w) (length (keyBytes gs)) (length os) (length (logBytes es)) dead (length (pick dead (tombBytes es) [])) ≡ true
+  sizes : sizesBy n (length es) (8 * w) (length (keyBytes gs)) (length os) (length (logBytes es)) dead (length (pick dead (tombBytes es) [])) index (length (pick index (startBytes gs) [])) ≡ true
   sizes =
       let eight : 8 * w / 8 ≡ w = omega arith in
       let ll = length-logBytes es in
       and-both (le-leb n kind.mostKeys (q .keys)) (and-both (le-leb (length es) kind.mostEdges (q .edges))
       (and-both (eq-eqb _ _ (length-keys gs)) (and-both (eq-eqb _ _ (length-offsets w n 0 gs ∙ ap (λ (z : ℕ). (n + 1) * z) (sym eight)))
-      (and-both (eq-eqb (length (logBytes es)) (8 * length es) (omega arith)) (tomb-len dead)))))
+      (and-both (eq-eqb (length (logBytes es)) (8 * length es) (omega arith)) (and-both (tomb-len dead) (start-len index))))))
 
   -- no keys, no edges
   none-none : (not (eqb n 0) || eqb (length es) 0) ≡ true
@@ -322,6 +342,7 @@ module _ (h : Heading) (es : List Edge) (q : WrittenFile h es) where
       (λ j. widthGood (bits-is j)
       && (sizesBy (keycount-is j) (edgecount-is j) (bits-is j) ((len kind.keys ∙ ap length (t .keys-are)) j) ((len kind.offsets ∙ ap length (t .offsets-are)) j)
       ((len kind.logs ∙ ap length (t .logs-are)) j) ((there kind.tombstones ∙ t .marked) j) ((len kind.tombstones ∙ ap length (t .tombs-are)) j)
+      ((there kind.starts ∙ t .starts) j) ((len kind.starts ∙ ap length (t .starts-are)) j)
       && presenceBy (flags-is j) (keycount-is j) (edgecount-is j) ((there kind.tombstones ∙ t .marked) j) ((there kind.fences ∙ t .fences) j) ((there kind.properties ∙ t .streams) j)))
       ∙ and-both width-good (and-both sizes presence)
 
@@ -348,6 +369,8 @@ module _ (h : Heading) (es : List Edge) (q : WrittenFile h es) where
     partners = ps;
     logs = logBytes es;
     dead = tombs es;
+    indexed = index;
+    starts = pick index (startBytes gs) [];
     keycount = n;
     edgecount = length es;
     bits = 8 * w;
@@ -365,6 +388,8 @@ module _ (h : Heading) (es : List Edge) (q : WrittenFile h es) where
     partners = (content kind.partners ∙ t .partners-are) j;
     logs = (content kind.logs ∙ t .logs-are) j;
     dead = (ap₂ (λ (b : Bool) (l : List ℕ). pick b l []) (there kind.tombstones ∙ t .marked) (content kind.tombstones ∙ t .tombs-are) ∙ pick-same dead (tombBytes es)) j;
+    indexed = (there kind.starts ∙ t .starts) j;
+    starts = (ap₂ (λ (b : Bool) (l : List ℕ). pick b l []) (there kind.starts ∙ t .starts) (content kind.starts ∙ t .starts-are) ∙ pick-same index (startBytes gs)) j;
     keycount = keycount-is j;
     edgecount = edgecount-is j;
     bits = bits-is j;
@@ -374,6 +399,11 @@ module _ (h : Heading) (es : List Edge) (q : WrittenFile h es) where
   pub known-keys : (knownOf f (recordOf f) .keys ≡ keyBytes gs) × (knownOf f (recordOf f) .keycount ≡ n)
   unfolding known
   known-keys = (ap (λ (k : Known). k .keys) known-is, ap (λ (k : Known). k .keycount) known-is)
+
+  -- whether there is a start index
+  pub known-indexed : knownOf f (recordOf f) .indexed ≡ index
+  unfolding known
+  known-indexed = ap (λ (k : Known). k .indexed) known-is
 
   partners-small : length ps < 2 ^ (8 * w)
   partners-small = width-fits (length ps) (few-bytes (t .partners-are))
@@ -389,8 +419,16 @@ module _ (h : Heading) (es : List Edge) (q : WrittenFile h es) where
   content-fine =
       (λ j. contentCheck (known-is j) ((there kind.fences ∙ t .fences) j) ((content kind.fences ∙ t .fences-are) j))
       ∙ fine-both (keys-fine gs (q .order))
-      (fine-both (ap (λ (v : ℕ). offsetsFrom (n + 1) os v n (length ps) 0) eight ∙ offsets-fine gs w partners-small) (ap (refuse Refusal.Fences) (fences-good fence)))
+      (fine-both (ap (λ (v : ℕ). offsetsCheck os v n (length ps)) eight ∙ offsets-fine gs w partners-small)
+      (fine-both (ap (refuse Refusal.Fences) (fences-good fence)) (starts-good index)))
     where
+      starts-good : (b : Bool) → pick b (startsCheck (pick b (startBytes gs) []) n (length es)) Check.Fine ≡ Check.Fine
+      starts-good true =
+          let all = ap length (flat-groups es) in
+          let few = q .edges in
+          ap (startsCheck (startBytes gs) n) (sym all) ∙ starts-fine gs (q .order) (omega arith)
+      starts-good false = refl
+
       fences-good : (b : Bool) → (b && not (fencesGood (pick b (fencesOf (keysIn gs)) []) (keyBytes gs) n)) ≡ false
       fences-good true = ap not (fences-fine gs (q .order) (q .keys))
       fences-good false = refl
@@ -411,18 +449,26 @@ module _ (h : Heading) (es : List Edge) (q : WrittenFile h es) where
   same-bool true = refl
   same-bool false = refl
 
-  data-fine : dataGood flags (length es) (tombs es) (degreesFrom ps os w n 0) (denseFrom ps os w n 0) ≡ true
+  stray : Bool → ℕ → Bool
+  stray b v = b && strayFrom ps os v (pick b (startBytes gs) []) n 0 0
+
+  stray-fine : (b : Bool) → stray b w ≡ false
+  unfolding stray flat
+  stray-fine true = reads .starts
+  stray-fine false = refl
+
+  data-fine : dataGood flags (length es) (tombs es) (degreesFrom ps os w n 0) (denseFrom ps os w n 0) (stray index w) ≡ true
   unfolding dataGood
   data-fine =
       and-both (eq-eqb _ _ (reads .degrees ∙ ap length (flat-groups es)))
       (and-both (ap₂ Bool·beq (fl .marked) (dead-back es) ∙ same-bool dead)
-      (and-both (ap₂ Bool·beq (fl .thick) (reads .dense) ∙ same-bool dense) (ap not (unused-back es))))
+      (and-both (ap₂ Bool·beq (fl .thick) (reads .dense) ∙ same-bool dense) (and-both (ap not (unused-back es)) (ap not (stray-fine index)))))
 
   edges-fine : edgesCheck (flagsOf f) (knownOf f (recordOf f)) ≡ Check.Fine
-  unfolding edgesCheck known
+  unfolding edgesCheck known stray
   edges-fine =
       (λ j. edgesCheck (flags-is j) (known-is j))
-      ∙ ap (λ (v : ℕ). groupsFrom ps os v n 0 ⊳ refuse Refusal.Data (not (dataGood flags (length es) (tombs es) (degreesFrom ps os v n 0) (denseFrom ps os v n 0)))) eight
+      ∙ ap (λ (v : ℕ). groupsFrom ps os v n 0 ⊳ refuse Refusal.Data (not (dataGood flags (length es) (tombs es) (degreesFrom ps os v n 0) (denseFrom ps os v n 0) (stray index v)))) eight
       ∙ fine-both (reads .good) (good-fine Refusal.Data data-fine)
 
   -- the file that we write passes the full check

@@ -21,29 +21,7 @@ use Rattle.group.specs.Group.{bytesOf}
 use Rattle.group.specs.Group.Laws.{length-bytesOf}
 use Rattle.batch.specs.declared.Edge.{Edge}
 use Rattle.batch_groups.specs.Groups.{anyDead, Group, IdFits}
-use Rattle.write_image.specs.Image.{keysIn, bytesIn, numbers, partnerBytes, startsFrom, widthOf, bit, octet, octets}
-use Rattle.write_image.specs.Image.Laws.{length-numbers}
-
--- ---- numbers of w bytes
-
-numbers-append : (w : ℕ) (xs ys : List ℕ) → numbers w (xs ++ ys) ≡ numbers w xs ++ numbers w ys
-unfolding numbers
-numbers-append w [] ys = refl
-numbers-append w (x ∷ xs) ys =
-    ap (λ (t : List ℕ). leBytes w x ++ t) (numbers-append w xs ys) ∙ sym (append-assoc (leBytes w x) (numbers w xs) (numbers w ys))
-
-numbers-mid : (w : ℕ) (xs : List ℕ) (x : ℕ) (ys : List ℕ) → x < 2 ^ (8 * w) → leAt (numbers w (xs ++ x ∷ ys)) (length xs * w) w ≡ x
-unfolding numbers
-numbers-mid w xs x ys b =
-    ap₂ (λ (t : List ℕ) (i : ℕ). leAt t i w) (numbers-append w xs (x ∷ ys)) (sym (length-numbers w xs)) ∙ leAt-back w (numbers w xs) (numbers w ys) x b
-
-pub numbers-at : (w : ℕ) (xs : List ℕ) (i : ℕ) → i < length xs → getD xs i 0 < 2 ^ (8 * w) → leAt (numbers w xs) (i * w) w ≡ getD xs i 0
-numbers-at w xs i h b =
-    let e : xs ≡ take i xs ++ getD xs i 0 ∷ drop (suc i) xs = split-at xs i 0 h in
-    let l : length (take i xs) ≡ i = length-take-le i xs (omega arith) in
-    ap (λ (t : List ℕ). leAt (numbers w t) (i * w) w) e
-    ∙ ap (λ (t : ℕ). leAt (numbers w (take i xs ++ getD xs i 0 ∷ drop (suc i) xs)) (t * w) w) (sym l)
-    ∙ numbers-mid w (take i xs) (getD xs i 0) (drop (suc i) xs) b
+use Rattle.write_image.specs.Image.{keysIn, bytesIn, partnerBytes, startsFrom, widthOf, bit, octet, octets}
 
 -- ---- ids
 

@@ -1,4 +1,4 @@
--- Rules 14, 15 and 23 of the writer's sections: offsets, fences, marks.
+-- Rules 14, 15, 23 and 37 of the writer's sections: offsets, fences, marks, start index.
 use mathlib.Core.Path.{_≡_, refl, sym, ap, ap₂, _∙_}
 use Prim.Native.Nat.{ℕ, zero, suc, _+_, _-_, _*_, _/_, _%_, _^_, _≤_, _<_}
 use native.Mathlib.Nat.{zero-add, add-zero}
@@ -21,13 +21,13 @@ use Rattle.refusal.specs.declared.Refusal.{Refusal}
 use Rattle.refusal.specs.declared.Check.{Check}
 use Rattle.refusal.specs.Check.Laws.{fine-pick, and-both}
 use Rattle.frame.specs.Kind as kind
-use Rattle.frame.specs.Open.{keyAt, offsetAt, offsetGood, offsetsFrom, fenceGood, fencesFrom, fencesGood, strideOf, fencesTold}
+use Rattle.frame.specs.Open.{keyAt, offsetAt, offsetGood, risingFrom, offsetsCheck, startAt, startsCheck, fenceGood, fencesFrom, fencesGood, strideOf, fencesTold}
 use Rattle.lookup.specs.Lookup.{markAt}
 use Rattle.batch.specs.declared.Edge.{Edge}
-use Rattle.batch_groups.specs.Groups.{none, anyDead, Group, IdFits, Grouped}
-use Rattle.write_image.specs.Image.{keysIn, keyBytes, partnerBytes, offsetBytes, tombBytes, fenceBytes, fencesOf}
+use Rattle.batch_groups.specs.Groups.{none, anyDead, Group, flat, IdFits, Grouped}
+use Rattle.write_image.specs.Image.{keysIn, keyBytes, partnerBytes, offsetBytes, tombBytes, startBytes, fenceBytes, fencesOf}
 use Rattle.write_image.specs.Image as image
-use Rattle.write_image.specs.Image.Laws.{length-keysIn, length-fence, length-fences, fences-are, fence-is, length-tombs}
+use Rattle.write_image.specs.Image.Laws.{length-keysIn, length-fence, length-fences, fences-are, fence-is, length-tombs, start-first, start-next, start-last}
 use Rattle.laid_out.specs.Rows.{leAt-at, leAt-past}
 use Rattle.full_check.specs.Full.{deadFrom}
 use Rattle.demand2.specs.Rows.{length-marksIn, marks-at}
@@ -40,27 +40,15 @@ cut-at [] i h = absurd (omega arith)
 cut-at (x ∷ l) zero h = ([], x, l, refl, refl)
 cut-at (x ∷ l) (suc i) h = let (gs, g, hs, e, q) = cut-at l i (omega arith) in (x ∷ gs, g, hs, ap (λ (t : List Group). x ∷ t) e, ap suc q)
 
--- ---- rule 14
+-- ---- rules 14 and 37: numbers that rise from 0 to the last
 
-module _ (all : List Group) (w : ℕ) (small : length (partnerBytes (length all) all) < 2 ^ (8 * w)) where
-  abbrev os : List ℕ
-  os = offsetBytes w (length all) 0 all
-
-  abbrev len : ℕ
-  len = length (partnerBytes (length all) all)
-
-  rises : (i : ℕ) → i < length all → offsetAt os w i < offsetAt os w (i + 1)
-  rises i h =
-      let (gs, g, hs, e, q) = cut-at all i h in
-      let up = offset-rises all w small gs g hs e in
-      rw (← q) up
-
-  good : (i : ℕ) → i ≤ length all → offsetGood os w (length all) len i ≡ true
+module _ (told : ℕ → Refusal) (os : List ℕ) (w n len : ℕ) (start : offsetAt os w 0 ≡ 0) (rises : (i : ℕ) → i < n → offsetAt os w i < offsetAt os w (i + 1)) (end : offsetAt os w n ≡ len) where
+  good : (i : ℕ) → i ≤ n → offsetGood os w n len i ≡ true
   unfolding offsetGood
-  good i h = and-both (first i h) (last (eqb i (length all)) refl)
+  good i h = and-both (first i h) (last (eqb i n) refl)
     where
-      first : (i : ℕ) → i ≤ length all → pick (eqb i 0) (eqb (offsetAt os w i) 0) (ltb (offsetAt os w (i - 1)) (offsetAt os w i)) ≡ true
-      first zero h = eq-eqb (offsetAt os w 0) 0 (offset-first all w small)
+      first : (i : ℕ) → i ≤ n → pick (eqb i 0) (eqb (offsetAt os w i) 0) (ltb (offsetAt os w (i - 1)) (offsetAt os w i)) ≡ true
+      first zero h = eq-eqb (offsetAt os w 0) 0 start
       first (suc i) h =
           let back : suc i - 1 ≡ i = omega arith in
           let next : i + 1 ≡ suc i = omega arith in
@@ -68,19 +56,44 @@ module _ (all : List Group) (w : ℕ) (small : length (partnerBytes (length all)
           ap₂ (λ (x : Bool) (y : ℕ). pick x (eqb (offsetAt os w (suc i)) 0) (ltb (offsetAt os w y) (offsetAt os w (suc i)))) (ne-eqb (suc i) 0 (λ q. omega arith)) back
           ∙ lt-ltb (offsetAt os w i) (offsetAt os w (suc i)) up
 
-      last : (b : Bool) → eqb i (length all) ≡ b → (not b || eqb (offsetAt os w i) len) ≡ true
+      last : (b : Bool) → eqb i n ≡ b → (not b || eqb (offsetAt os w i) len) ≡ true
       last true q =
-          let z : i ≡ length all = eqb-true i (length all) q in
-          eq-eqb (offsetAt os w i) len (ap (offsetAt os w) z ∙ offset-last all w small)
+          let z : i ≡ n = eqb-true i n q in
+          eq-eqb (offsetAt os w i) len (ap (offsetAt os w) z ∙ end)
       last false q = refl
 
-  fine-from : (d i : ℕ) → i + d ≡ length all + 1 → offsetsFrom d os w (length all) len i ≡ Check.Fine
-  unfolding offsetsFrom
+  fine-from : (d i : ℕ) → i + d ≡ n + 1 → risingFrom told d os w n len i ≡ Check.Fine
+  unfolding risingFrom
   fine-from zero i h = refl
-  fine-from (suc d) i h = fine-pick (Check.Bad (Refusal.Offset i)) (good i (omega arith)) (fine-from d (i + 1) (omega arith))
+  fine-from (suc d) i h = fine-pick (Check.Bad (told i)) (good i (omega arith)) (fine-from d (i + 1) (omega arith))
 
-  pub offsets-fine : offsetsFrom (length all + 1) os w (length all) len 0 ≡ Check.Fine
-  offsets-fine = fine-from (length all + 1) 0 (zero-add (length all + 1))
+  rising-fine : risingFrom told (n + 1) os w n len 0 ≡ Check.Fine
+  rising-fine = fine-from (n + 1) 0 (zero-add (n + 1))
+
+module _ (all : List Group) (w : ℕ) (small : length (partnerBytes (length all) all) < 2 ^ (8 * w)) where
+  pub offsets-fine : offsetsCheck (offsetBytes w (length all) 0 all) w (length all) (length (partnerBytes (length all) all)) ≡ Check.Fine
+  offsets-fine =
+      rising-fine Refusal.Offset (offsetBytes w (length all) 0 all) w (length all) (length (partnerBytes (length all) all)) (offset-first all w small)
+      (λ i h. let (gs, g, hs, e, q) = cut-at all i h in let up = offset-rises all w small gs g hs e in rw (← q) up)
+      (offset-last all w small)
+
+-- a group has an edge
+group-edge : (gs : List Group) (g : Group) (hs : List Group) (floor : ℕ) → Grouped floor (gs ++ g ∷ hs) → length (g .edges) ≡ 0 → ⊥
+unfolding Grouped
+group-edge [] g hs floor o = o .2
+group-edge (x ∷ gs) g hs floor o = group-edge gs g hs (suc (idNumber (x .key))) (o .4)
+
+module _ (all : List Group) (o : Grouped 0 all) (small : length (flat all) < 2 ^ 64) where
+  pub starts-fine : startsCheck (startBytes all) (length all) (length (flat all)) ≡ Check.Fine
+  starts-fine =
+      rising-fine Refusal.Start (startBytes all) kind.startSize (length all) (length (flat all)) (start-first all small)
+      (λ i h.
+      let (gs, g, hs, e, q) = cut-at all i h in
+      let more = start-next all small gs g hs e in
+      let some : 1 ≤ length (g .edges) = let no = group-edge gs g hs 0 (rw e at o) in omega arith in
+      let up : startAt (startBytes all) (length gs) < startAt (startBytes all) (length gs + 1) = omega arith in
+      rw (← q) up)
+      (start-last all small)
 
 -- ---- rule 23: marks
 

@@ -1,5 +1,6 @@
 -- Sections without a name, raw, with their checksums, as the writer lays them out: what their table says.
 use mathlib.Core.Path.{_≡_, refl, sym, ap, ap₂, _∙_}
+use mathlib.Core.Logic.{⊎-elim}
 use Prim.Native.Nat.{ℕ, _+_, _^_, _≤_, _<_}
 use native.Mathlib.Omega.{arith}
 use mathlib.Core.List.{List, [], _∷_, _++_, append-assoc}
@@ -23,7 +24,7 @@ use Rattle.laid_out.specs.Rows.{rowsIn, AllNumbers}
 use Rattle.laid_out.specs.Laid.{bytes-first}
 use Rattle.full_check.specs.Full.{sumsFrom}
 
--- kinds 1 to 6, and their contents
+-- a section of a kind that is read, and its contents
 pub record Raw (s : Section) : Type 0 where
   pub known : kind.fixed (s .kind) ≡ true
   pub codec : s .codec ≡ 0
@@ -102,7 +103,7 @@ codecs-fine ss at i = each-fine codecGood Refusal.Codec (λ r f c. rw f (eq-eqb 
 pub raw-numbers : (ss : List Section) → AllRaw ss → AllNumbers ss
 unfolding AllNumbers AllRaw
 raw-numbers [] r = tt
-raw-numbers (s ∷ ss) r = let sum : s .sum < 2 ^ 64 = rw (r .0 .sum) (xxh3-lt (s .bytes)) in let low = fixed-kinds (s .kind) .0 (r .0 .known) in (omega arith, sum, raw-numbers ss (r .1))
+raw-numbers (s ∷ ss) r = let sum : s .sum < 2 ^ 64 = rw (r .0 .sum) (xxh3-lt (s .bytes)) in (⊎-elim (λ low. omega (arith, low .1)) (λ e. omega (arith, e)) (fixed-kinds (s .kind) .0 (r .0 .known)), sum, raw-numbers ss (r .1))
 
 -- ---- of the file f in which they lie after p
 

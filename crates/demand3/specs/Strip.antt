@@ -27,7 +27,7 @@ use Rattle.frame.specs.Open.Laws.{size-parts, tail-parts}
 use Rattle.frame.specs.Layout.{Section, Layout, payload, entry, entries, bodyBytes, trailer, layOut}
 use Rattle.laid_out.specs.Rows.{rowsIn, SectionFits, SectionsFit, Small, length-entry, past-first, length-first, name-back, length-body, body-rows, body-end, keys-back, edges-back, bits-back}
 use Rattle.laid_out.specs.Laid.{length-laid, sum-back, magic-back, body-back, size-fine, tail-fine, file-rows, ranges-fine, head-back, bytes-first}
-use Rattle.demand3.specs.Stripped.{Kept, Copied, none, dropped, kept, Outer, Stripped, Later}
+use Rattle.demand3.specs.Stripped.{Kept, Copied, none, dropped, kept, Outer, copyMinor, Stripped, Later}
 
 -- an entry of b with its name, and its bytes in f
 unfoldable pub sectionAt : List ℕ → List ℕ → Row → Section
@@ -43,10 +43,14 @@ unfoldable pub keptOf : List ℕ → List ℕ → List Row → List Section
 keptOf f b [] = []
 keptOf f b (r ∷ rs) = pick (kind.unknown (r .kind)) (keptOf f b rs) (sectionAt f b r ∷ keptOf f b rs)
 
--- the file's frame without unknown kinds, minor 0
+-- the header at the copy's minor version
+abbrev pub headOf : List ℕ → List ℕ
+headOf f = set (take 64 f) 9 (copyMinor (rowsOf (bodyOf f)))
+
+-- the file's frame without unknown kinds
 unfoldable pub stripped : List ℕ → Layout
 stripped f = record {
-  head = set (take 64 f) 9 0;
+  head = headOf f;
   sections = keptOf f (bodyOf f) (rowsOf (bodyOf f));
   keycount = keyCount (bodyOf f);
   edgecount = edgeCount (bodyOf f);
@@ -232,7 +236,7 @@ module _ (f : List ℕ) (by : Bytes f) (l : Later f) where
   unfolding rowsOf
   small = (omega (arith, fewer f b (rowsOf b), length-rows (entryCount b) b 2, l .few), all-fit f b ok 64 (omega (arith, paid, z .high)))
 
-  pub h64 : length (set (take 64 f) 9 0) ≡ 64
+  pub h64 : length (headOf f) ≡ 64
   h64 = rw length-set (length-take-le 64 f (omega (arith, z .low)))
 
   pub fits : length (strip f) ≤ 2 ^ 30
@@ -243,7 +247,7 @@ module _ (f : List ℕ) (by : Bytes f) (l : Later f) where
   unfolding strip stripped layOut bodyBytes leBytes
   table-copied =
       let body : List ℕ = bodyBytes (keptOf f b (rowsOf b)) (keyCount b) (edgeCount b) (bitsOf b) in
-      copied f b (strip f) body ok 64 2 (set (take 64 f) 9 0) (body ++ trailer body) h64 refl (leBytes 2 (length ss)) (leBytes 8 (keyCount b) ++ (leBytes 8 (edgeCount b) ++ (bitsOf b ∷ []))) refl refl
+      copied f b (strip f) body ok 64 2 (headOf f) (body ++ trailer body) h64 refl (leBytes 2 (length ss)) (leBytes 8 (keyCount b) ++ (leBytes 8 (edgeCount b) ++ (bitsOf b ∷ []))) refl refl
 
   -- size, trailer, footer checksum and ranges are mended
   outer : Outer (strip f)
@@ -267,10 +271,10 @@ module _ (f : List ℕ) (by : Bytes f) (l : Later f) where
   unfolding strip stripped
   is-copy =
       let x = stripped f in
-      let head : (i : ℕ) → i < 64 → getD (layOut x) i 0 ≡ getD (set (take 64 f) 9 0) i 0 = head-back x h64 small fits in
+      let head : (i : ℕ) → i < 64 → getD (layOut x) i 0 ≡ getD (headOf f) i 0 = head-back x h64 small fits in
       record {
-        header = λ i l ne. head i l ∙ getD-set-other (take 64 f) 9 i 0 0 ne ∙ getD-take 64 f i 0 l;
-        minor = head 9 (omega arith) ∙ getD-set-same (take 64 f) 9 0 0 (rw (length-take-le 64 f (omega (arith, z .low))) (omega arith));
+        header = λ i l ne. head i l ∙ getD-set-other (take 64 f) 9 i (copyMinor (rowsOf (bodyOf f))) 0 ne ∙ getD-take 64 f i 0 l;
+        minor = head 9 (omega arith) ∙ getD-set-same (take 64 f) 9 (copyMinor (rowsOf (bodyOf f))) 0 (rw (length-take-le 64 f (omega (arith, z .low))) (omega arith));
         outer = outer;
         table = rw (file-rows x h64 small fits, body-back x h64 small fits) table-copied;
         keys = ap keyCount (body-back x h64 small fits) ∙ keys-back ss (keyCount b) (edgeCount b) (bitsOf b) small (leAt-lt b bytes-b (length b - 17) 8);

@@ -1,5 +1,6 @@
 -- Demand 3, as a relation: a copy of a file "without the unknown sections, minor 0, and offsets, lengths and checksums
--- mended". It opens exactly if the file does, and it knows the same.
+-- mended"; "Kind 0x0200 now counts as known in demand 3 and isn't taken away; where it is present the stripped copy has minor 1".
+-- It opens exactly if the file does, and it knows the same.
 use mathlib.Core.Path.{_≡_, refl, sym, ap, ap₂, _∙_}
 use mathlib.Core.Logic.{_↔_, _⊎_}
 use Prim.Native.Nat.{ℕ, _+_, _-_, _^_, _≤_}
@@ -59,10 +60,14 @@ pub record Outer (f : List ℕ) : Type 0 where
   pub fills : endOf (bodyOf f) + 17 ≡ length (bodyOf f)
   pub apart : Apart (length f - footLen f) 64 (rowsOf (bodyOf f))
 
+-- the minor version of a copy, by the file's entries: 1 where there is a start index, otherwise 0
+abbrev pub copyMinor : List Row → ℕ
+copyMinor rs = pick (has kind.starts rs) 1 0
+
 pub record Stripped (f g : List ℕ) : Type 0 where
-  -- the header, but minor 0
+  -- the header, but the copy's minor version
   pub header : ButMinor g f
-  pub minor : getD g 9 0 ≡ 0
+  pub minor : getD g 9 0 ≡ copyMinor (rowsOf (bodyOf f))
   -- offsets, lengths and the footer's checksum are mended
   pub outer : Outer g
   -- the entries
@@ -209,6 +214,8 @@ module _ (f g : List ℕ) (s : Stripped f g) where
     partners = bytes-copied f b g c kind.partners refl (s .table) j;
     logs = bytes-copied f b g c kind.logs refl (s .table) j;
     dead = pick (has-copied f b g c kind.tombstones refl (s .table) j) (bytes-copied f b g c kind.tombstones refl (s .table) j) [];
+    indexed = has-copied f b g c kind.starts refl (s .table) j;
+    starts = pick (has-copied f b g c kind.starts refl (s .table) j) (bytes-copied f b g c kind.starts refl (s .table) j) [];
     keycount = s .keys j;
     edgecount = s .edges j;
     bits = s .bits j;

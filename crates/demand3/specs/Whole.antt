@@ -12,9 +12,10 @@ use Rattle.base.specs.Bytes.{Bytes, bytes-part}
 use Rattle.codes.specs.Little.{leBytes}
 use Rattle.frame.specs.declared.Row.{Row}
 use Rattle.frame.specs.Kind as kind
-use Rattle.frame.specs.Frame.{all, rowsOf, bodyOf, footLen, rowAt, nextAt, rowsFrom, entryCount}
+use Rattle.frame.specs.Frame.{has, all, rowsOf, bodyOf, footLen, rowAt, nextAt, rowsFrom, entryCount}
 use Rattle.frame.specs.Layout.{Section, Layout, payload, entry, entries, bodyBytes, trailer, layOut}
 use Rattle.laid_out.specs.Rows.{rowsIn}
+use Rattle.demand3.specs.Stripped.{copyMinor}
 use Rattle.demand3.specs.Strip.{sectionAt, keptOf, stripped, strip}
 
 -- every element is a byte
@@ -116,8 +117,12 @@ module _ (f b : List ℕ) (by : Bytes f) (bb : Bytes b) where
           next (byted-part f by (rowAt b i .start) (rowAt b i .start + rowAt b i .len)) (byted-part b bb (i + 28) (i + 28 + getD b (i + 3) 0)) (bb (i + 2)) short p
 
 -- the copy of a file is a file
+minor-small : (b : Bool) → pick b 1 0 < 2 ^ 8
+minor-small true = lit< tt
+minor-small false = lit< tt
+
 pub byted-strip : (f : List ℕ) → Bytes f → Byted (strip f)
 unfolding strip stripped rowsOf bodyOf
 byted-strip f by =
     let bb : Bytes (bodyOf f) = bytes-part f by (length f - footLen f) (length f - 20) in
-    byted-laid (stripped f) (byted-set 9 0 (lit< tt) (byted-take 64 (byted f by))) (plain-kept f (bodyOf f) by bb (entryCount (bodyOf f)) 2) (bb (length (bodyOf f) - 1))
+    byted-laid (stripped f) (byted-set 9 (copyMinor (rowsOf (bodyOf f))) (minor-small (has kind.starts (rowsOf (bodyOf f)))) (byted-take 64 (byted f by))) (plain-kept f (bodyOf f) by bb (entryCount (bodyOf f)) 2) (bb (length (bodyOf f) - 1))

@@ -234,11 +234,12 @@ summary-ends f = let s = summarisedOf f in ends-told (checkTold (s .told)) (s .s
 
 -- ---- the opened record
 
--- an EdgeSstOpened as its seventeen numbers: the fields in the order in which they are declared
+-- an EdgeSstOpened as its twenty numbers: the fields in the order in which they are declared
 abbrev pub fieldsOf : EdgeSstOpened → List ℕ
 fieldsOf c =
     c .number ∷ c .place ∷ c .beside ∷ c .keystart ∷ c .keylen ∷ c .offsetstart ∷ c .offsetlen ∷ c .partnerstart ∷ c .partnerlen ∷ c .logstart ∷ c .loglen
-    ∷ c .deadstart ∷ c .deadlen ∷ c .marked ∷ c .keycount ∷ c .edgecount ∷ c .bits ∷ []
+    ∷ c .deadstart ∷ c .deadlen ∷ c .marked ∷ c .keycount ∷ c .edgecount ∷ c .bits
+    ∷ c .indexstart ∷ c .indexlen ∷ c .indexed ∷ []
 
 -- a mark's number is above 0 exactly if the mark is set
 pub mark-back : (b : Bool) → ltb 0 (truth b) ≡ b
@@ -246,7 +247,7 @@ mark-back true = refl
 mark-back false = refl
 
 -- what is told of a record, lent back, is that record
-pub lent-back : (o : Opened) → o .bits < 256 → recordLent (fieldsOf (recordWith o (truth (o .marked)))) ≡ o
+pub lent-back : (o : Opened) → o .bits < 256 → recordLent (fieldsOf (recordWith o (truth (o .marked)) (truth (o .indexed)))) ≡ o
 lent-back o h = λ i. record {
   keys = o .keys;
   offsets = o .offsets;
@@ -254,6 +255,8 @@ lent-back o h = λ i. record {
   logs = o .logs;
   marked = mark-back (o .marked) i;
   dead = o .dead;
+  indexed = mark-back (o .indexed) i;
+  starts = o .starts;
   keycount = o .keycount;
   edgecount = o .edgecount;
   bits = byte-small (o .bits) h i;

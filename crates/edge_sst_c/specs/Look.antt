@@ -56,6 +56,12 @@ edgecountPlace = 15
 abbrev bitsPlace : ℕ
 bitsPlace = 16
 
+abbrev startsPlace : ℕ
+startsPlace = 17
+
+abbrev indexedPlace : ℕ
+indexedPlace = 19
+
 abbrev rangeAt : List ℕ → ℕ → Range
 rangeAt c i = record { start = getD c i 0; len = getD c (i + 1) 0 }
 
@@ -68,6 +74,8 @@ recordWithBits c b = record {
   logs = rangeAt c logsPlace;
   marked = ltb 0 (getD c markedPlace 0);
   dead = rangeAt c deadPlace;
+  indexed = ltb 0 (getD c indexedPlace 0);
+  starts = rangeAt c startsPlace;
   keycount = getD c keycountPlace 0;
   edgecount = getD c edgecountPlace 0;
   bits = b;

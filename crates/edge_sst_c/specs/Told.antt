@@ -12,9 +12,9 @@ abbrev pub truth : Bool → ℕ
 truth true = 1
 truth false = 0
 
--- a record, with m for its mark
-abbrev pub recordWith : Opened → ℕ → EdgeSstOpened
-recordWith o m = record {
+-- a record, with m for its mark and x for whether there is a start index
+abbrev pub recordWith : Opened → ℕ → ℕ → EdgeSstOpened
+recordWith o m x = record {
   number = 0;
   place = 0;
   beside = 0;
@@ -32,6 +32,9 @@ recordWith o m = record {
   keycount = o .keycount;
   edgecount = o .edgecount;
   bits = o .bits;
+  indexstart = o .starts .start;
+  indexlen = o .starts .len;
+  indexed = x;
 }
 
 -- a number and its places, without a record
@@ -54,15 +57,18 @@ refusalWith number place beside = record {
   keycount = 0;
   edgecount = 0;
   bits = 0;
+  indexstart = 0;
+  indexlen = 0;
+  indexed = 0;
 }
 
 unfoldable pub openedTold : Opening → EdgeSstOpened
-openedTold (Opening.Good o) = recordWith o (truth (o .marked))
+openedTold (Opening.Good o) = recordWith o (truth (o .marked)) (truth (o .indexed))
 openedTold (Opening.Refused r) = refusalWith (numberOf r) (placeOf r) (besideOf r)
 
 -- ---- laws
 
-pub told-good : (x : Opening) (o : Opened) → x ≡ Opening.Good o → openedTold x ≡ recordWith o (truth (o .marked))
+pub told-good : (x : Opening) (o : Opened) → x ≡ Opening.Good o → openedTold x ≡ recordWith o (truth (o .marked)) (truth (o .indexed))
 unfolding openedTold
 told-good x o e = rw e
 

@@ -38,6 +38,9 @@ pub struct EdgeSstOpened {
     pub keycount: u64,
     pub edgecount: u64,
     pub bits: u64,
+    pub indexstart: u64,
+    pub indexlen: u64,
+    pub indexed: u64,
 }
 
 impl EdgeSstOpened {
@@ -69,6 +72,12 @@ impl EdgeSstOpened {
     pub const EDGECOUNT: usize = 15;
 
     pub const BITS: usize = 16;
+
+    pub const INDEXSTART: usize = 17;
+
+    pub const INDEXLEN: usize = 18;
+
+    pub const INDEXED: usize = 19;
 }
 
 fn truth(b: bool) -> u64
@@ -81,13 +90,14 @@ fn truth(b: bool) -> u64
 }
 
 fn record_told(o: Opened) -> EdgeSstOpened
-    ensures { λ r. ⌜ r ≡ recordWith o (truth (o .marked)) ⌝ }
+    ensures { λ r. ⌜ r ≡ recordWith o (truth (o .marked)) (truth (o .indexed)) ⌝ }
 {
     let keys = o.keys;
     let offsets = o.offsets;
     let partners = o.partners;
     let logs = o.logs;
     let dead = o.dead;
+    let starts = o.starts;
     EdgeSstOpened {
         number: 0,
         place: 0,
@@ -106,6 +116,9 @@ fn record_told(o: Opened) -> EdgeSstOpened
         keycount: o.keycount,
         edgecount: o.edgecount,
         bits: o.bits as u64,
+        indexstart: starts.start,
+        indexlen: starts.len,
+        indexed: truth(o.indexed),
     }
 }
 
@@ -131,6 +144,9 @@ fn refusal_told(r: Refusal) -> EdgeSstOpened
         keycount: 0,
         edgecount: 0,
         bits: 0,
+        indexstart: 0,
+        indexlen: 0,
+        indexed: 0,
     }
 }
 

@@ -88,8 +88,8 @@ fn byte_or(x: u64) -> u8
 }
 
 // The record that C lends, an EdgeSstOpened seen as its numbers in order; a mark other than 0 says that there are
-// tombstones.
-fn record_from(c: &[u64; 17]) -> Opened
+// tombstones, and so with the start index.
+fn record_from(c: &[u64; 20]) -> Opened
     ensures { λ r. ⌜ r ≡ recordLent (now (c .entry)) ⌝ }
 {
     Opened {
@@ -117,6 +117,11 @@ fn record_from(c: &[u64; 17]) -> Opened
         keycount: c[EdgeSstOpened::KEYCOUNT],
         edgecount: c[EdgeSstOpened::EDGECOUNT],
         bits: byte_or(c[EdgeSstOpened::BITS]),
+        indexed: 0 < c[EdgeSstOpened::INDEXED],
+        starts: Range {
+            start: c[EdgeSstOpened::INDEXSTART],
+            len: c[EdgeSstOpened::INDEXLEN],
+        },
     }
 }
 
@@ -124,7 +129,7 @@ fn record_from(c: &[u64; 17]) -> Opened
 #[no_mangle]
 pub extern "C" fn edge_sst_partners_with(
     file: &[u8],
-    o: &[u64; 17],
+    o: &[u64; 20],
     key: &[u8; 16],
     out: &mut [u8],
 ) -> EdgeSstLooked
@@ -145,7 +150,7 @@ pub extern "C" fn edge_sst_partners(file: &[u8], key: &[u8; 16], out: &mut [u8])
 #[no_mangle]
 pub extern "C" fn edge_sst_lookup_with(
     file: &[u8],
-    o: &[u64; 17],
+    o: &[u64; 20],
     key: &[u8; 16],
     out: &mut [u8],
     logs: &mut [u64],

@@ -3,7 +3,7 @@
 use mathlib.Core.Path.{_≡_, refl}
 use mathlib.Core.List.{List, [], _∷_, _++_}
 use mathlib.Core.Bool.{true, false, not}
-use Prim.Native.Nat.{ℕ, zero, suc}
+use Prim.Native.Nat.{ℕ, zero, suc, _-_, _^_}
 use lib.ListN.{replicate}
 use Rattle.codes.specs.Little.{leAt, leBytes}
 use Rattle.codes.specs.Ids.{beAt, idAt, halvesAt}
@@ -15,7 +15,7 @@ use Rattle.frame.specs.declared.Opening.{Opening}
 use Rattle.frame.specs.declared.ends.Header.{Header}
 use Rattle.frame.specs.Kind as kind
 use Rattle.frame.specs.Frame.{rowAt, rowsFrom, endFrom, rowsOf, endOf, has, repeated, sectionOf, all, kindsGood, tableGood, eachRow, ranges, sizesGood, presenceGood, countsGood, bodyOf, headerIn, sizeCheck, headCheck, tailCheck, sumCheck, endsCheck, rowsCheck, footerCheck, shapeCheck, frameCheck, codecCheck, rangeCheck}
-use Rattle.frame.specs.Open.{recordFrom, recordOf, framedFrom, framedOf, knownOf, keysFrom, offsetGood, offsetsFrom, fenceGood, fencesFrom, fencesGood, contentCheck, fileCheck, opening, openOf}
+use Rattle.frame.specs.Open.{recordFrom, recordOf, framedFrom, framedOf, knownOf, keysFrom, offsetGood, risingFrom, startsCheck, fenceGood, fencesFrom, fencesGood, contentCheck, fileCheck, opening, openOf}
 use Rattle.frame.specs.Given.{earlyNumbers, openingNumbers}
 use Rattle.frame.specs.Reserved.{kindAt}
 use Rattle.frame.specs.Layout.{Section, rawSection, headBytes, payload, entry, entries, bodyBytes, trailer, layOut}
@@ -93,6 +93,8 @@ pub opened :
       logs = record { start = 67; len = 0 };
       marked = false;
       dead = record { start = 0; len = 0 };
+      indexed = false;
+      starts = record { start = 0; len = 0 };
       keycount = 0;
       edgecount = 0;
       bits = 24;
@@ -104,11 +106,13 @@ pub opened :
       logs = record { start = 97; len = 8 };
       marked = false;
       dead = record { start = 0; len = 0 };
+      indexed = false;
+      starts = record { start = 0; len = 0 };
       keycount = 1;
       edgecount = 1;
       bits = 24;
     }))
-unfolding headingOnly oneEdge leAt beAt idAt mul fold xorshift rotl swap rrmxmx secret of1to3 of4to8 of9to16 small pair mixStep inward of17to128 onward of129to240 lane accumulate stir scramble turn runOn startLanes twice merge finish large xxh3 rowAt rowsFrom endFrom rowsOf endOf has repeated sectionOf all kindsGood tableGood eachRow ranges sizesGood presenceGood countsGood bodyOf sizeCheck headCheck tailCheck sumCheck endsCheck rowsCheck footerCheck shapeCheck frameCheck recordFrom recordOf framedFrom framedOf knownOf keysFrom offsetGood offsetsFrom fenceGood fencesFrom fencesGood contentCheck fileCheck opening openOf
+unfolding headingOnly oneEdge leAt beAt idAt mul fold xorshift rotl swap rrmxmx secret of1to3 of4to8 of9to16 small pair mixStep inward of17to128 onward of129to240 lane accumulate stir scramble turn runOn startLanes twice merge finish large xxh3 rowAt rowsFrom endFrom rowsOf endOf has repeated sectionOf all kindsGood tableGood eachRow ranges sizesGood presenceGood countsGood bodyOf sizeCheck headCheck tailCheck sumCheck endsCheck rowsCheck footerCheck shapeCheck frameCheck recordFrom recordOf framedFrom framedOf knownOf keysFrom offsetGood risingFrom fenceGood fencesFrom fencesGood contentCheck fileCheck opening openOf
 opened = (refl, refl)
 
 -- what their header says, and that of a later writer's inverse file
@@ -147,28 +151,29 @@ first-place = (refl, refl, refl, refl, refl, refl)
 pub range-ends :
     (kind.reserved 6 ≡ false) × (kind.reserved 7 ≡ true) × (kind.reserved 8 ≡ true) × (kind.reserved 0x00FE ≡ true) × (kind.reserved 0x00FF ≡ true) × (kind.reserved 0x0100 ≡ false) × (kind.reserved 0 ≡ false)
     × (kind.unknown 0 ≡ true) × (kind.unknown 1 ≡ false) × (kind.unknown 6 ≡ false) × (kind.unknown 7 ≡ false) × (kind.unknown 0x00FF ≡ false) × (kind.unknown 0x0100 ≡ false) × (kind.unknown 0x0101 ≡ true)
-    × (kind.unknown 0x01FF ≡ true) × (kind.unknown 0x0200 ≡ true) × (kind.unknown 0xFFFF ≡ true)
-range-ends = (refl, refl, refl, refl, refl, refl, refl, refl, refl, refl, refl, refl, refl, refl, refl, refl, refl)
+    × (kind.unknown 0x01FF ≡ true) × (kind.unknown 0x0200 ≡ false) × (kind.unknown 0x0201 ≡ true) × (kind.unknown 0xFFFF ≡ true)
+range-ends = (refl, refl, refl, refl, refl, refl, refl, refl, refl, refl, refl, refl, refl, refl, refl, refl, refl, refl)
 
 -- d kinds from k on
 abbrev upFrom : ℕ → ℕ → List ℕ
 upFrom zero k = []
 upFrom (suc d) k = k ∷ upFrom d (suc k)
 
--- every kind up to 0x0500: the range has no hole, and nothing beside it is of it
+-- every kind up to 0x0500: the range has no hole, and nothing beside it is of it; of those above it 0x0100 and 0x0200 alone are known
 pub range-whole :
     (all kind.reserved (upFrom 249 7) ≡ true)
     × (all (λ k. not (kind.reserved k)) (upFrom 7 0) ≡ true)
     × (all (λ k. not (kind.reserved k)) (upFrom 1024 256) ≡ true)
     × (all (λ k. not (kind.unknown k)) (upFrom 256 1) ≡ true)
-    × (all kind.unknown (upFrom 1024 257) ≡ true)
+    × (all kind.unknown (upFrom 255 257) ≡ true)
+    × (all kind.unknown (upFrom 768 513) ≡ true)
 unfolding all
-range-whole = (refl, refl, refl, refl, refl)
+range-whole = (refl, refl, refl, refl, refl, refl)
 
 -- the numbers of opening, in the order of checks
 pub numbers :
     (earlyNumbers ≡ 1 ∷ 2 ∷ 3 ∷ 4 ∷ 5 ∷ 6 ∷ 7 ∷ 8 ∷ 9 ∷ [])
-    × (openingNumbers ≡ 1 ∷ 2 ∷ 3 ∷ 4 ∷ 5 ∷ 6 ∷ 7 ∷ 8 ∷ 9 ∷ 36 ∷ 10 ∷ 11 ∷ 12 ∷ 13 ∷ 14 ∷ 15 ∷ [])
+    × (openingNumbers ≡ 1 ∷ 2 ∷ 3 ∷ 4 ∷ 5 ∷ 6 ∷ 7 ∷ 8 ∷ 9 ∷ 36 ∷ 10 ∷ 11 ∷ 12 ∷ 13 ∷ 14 ∷ 15 ∷ 37 ∷ [])
 numbers = (refl, refl)
 
 -- ---- rules 9, 36, 10 and 11 of a table: 36 at the first entry of the range, after 9 and before 10 of any entry
@@ -229,5 +234,72 @@ pub in-order :
     × (rules 64 (emptySection 7 0 (replicate 64 104) ∷ bare 1 ∷ bare 2 ∷ bare 3 ∷ bare 4 ∷ []) ≡ Check.Bad Refusal.Table)
     × (rules 64 (emptySection 7 0 (replicate 63 104) ∷ bare 1 ∷ bare 2 ∷ bare 3 ∷ bare 4 ∷ []) ≡ Check.Bad (Refusal.Reserved 0))
     × (rowsCheck 64 (bodyBytes (bare 7 ∷ bare 1 ∷ bare 2 ∷ bare 3 ∷ bare 4 ∷ []) 0 0 24 ++ (0 ∷ [])) ≡ Check.Bad Refusal.Table)
+    -- the start index: once, without a name, raw
+    × (rules 64 (bare 0x0200 ∷ bare 1 ∷ bare 2 ∷ bare 0x0200 ∷ bare 3 ∷ bare 4 ∷ []) ≡ Check.Bad Refusal.Table)
+    × (rules 64 (bare 1 ∷ bare 2 ∷ bare 3 ∷ bare 4 ∷ emptySection 0x0200 0 (104 ∷ []) ∷ []) ≡ Check.Bad Refusal.Table)
+    × (rules 64 (bare 1 ∷ bare 2 ∷ emptySection 0x0200 1 [] ∷ bare 3 ∷ bare 4 ∷ []) ≡ Check.Bad (Refusal.Codec 2))
 unfolding leAt leBytes entry entries bodyBytes rowAt rowsFrom endFrom rowsOf endOf has repeated all kindsGood tableGood eachRow ranges rowsCheck
-in-order = (refl, refl, refl, refl, refl, refl, refl, refl, refl, refl, refl, refl, refl, refl, refl, refl)
+in-order = (refl, refl, refl, refl, refl, refl, refl, refl, refl, refl, refl, refl, refl, refl, refl, refl, refl, refl, refl)
+
+-- ---- rule 37: the start index of three keys and five edges, of no keys, and of a file
+
+abbrev words : List ℕ → List ℕ
+words [] = []
+words (x ∷ xs) = leBytes 8 x ++ words xs
+
+abbrev starts37 : ℕ → ℕ → ℕ → ℕ → Check
+starts37 a b c d = startsCheck (words (a ∷ b ∷ c ∷ d ∷ [])) 3 5
+
+pub starts-told :
+    (starts37 0 1 3 5 ≡ Check.Fine) × (starts37 0 1 2 5 ≡ Check.Fine) × (starts37 0 3 4 5 ≡ Check.Fine)
+    -- the first is not 0
+    × (starts37 1 2 3 5 ≡ Check.Bad (Refusal.Start 0)) × (starts37 (2 ^ 64 - 1) 1 3 5 ≡ Check.Bad (Refusal.Start 0)) × (starts37 0x0100 1 1 1 ≡ Check.Bad (Refusal.Start 0))
+    -- one is not above the one before
+    × (starts37 0 0 3 5 ≡ Check.Bad (Refusal.Start 1)) × (starts37 0 3 3 5 ≡ Check.Bad (Refusal.Start 2)) × (starts37 0 3 2 5 ≡ Check.Bad (Refusal.Start 2)) × (starts37 0 1 5 5 ≡ Check.Bad (Refusal.Start 3)) × (starts37 0 1 3 2 ≡ Check.Bad (Refusal.Start 3))
+    -- the last is not the edge count
+    × (starts37 0 1 3 4 ≡ Check.Bad (Refusal.Start 3)) × (starts37 0 1 3 6 ≡ Check.Bad (Refusal.Start 3))
+    -- "A middle entry above the edge count is told at the next one that does not rise, or at n"
+    × (starts37 0 6 3 5 ≡ Check.Bad (Refusal.Start 2)) × (starts37 0 6 7 5 ≡ Check.Bad (Refusal.Start 3)) × (starts37 0 6 7 8 ≡ Check.Bad (Refusal.Start 3)) × (starts37 0 1 (2 ^ 64 - 2) (2 ^ 64 - 1) ≡ Check.Bad (Refusal.Start 3))
+    -- "No keys: one entry, 0"
+    × (startsCheck (words (0 ∷ [])) 0 0 ≡ Check.Fine) × (startsCheck (words (1 ∷ [])) 0 0 ≡ Check.Bad (Refusal.Start 0)) × (startsCheck (words (0 ∷ [])) 0 1 ≡ Check.Bad (Refusal.Start 0))
+unfolding leAt leBytes offsetGood risingFrom
+starts-told = (refl, refl, refl, refl, refl, refl, refl, refl, refl, refl, refl, refl, refl, refl, refl, refl, refl, refl, refl, refl)
+
+-- the file of one edge with a start index of these bytes before its keys, and with fences of these bytes
+abbrev indexed : ℕ → List ℕ → List Section → List ℕ
+indexed minor bytes more =
+    layOut (record {
+      head = headBytes minor 0 ids;
+      sections = rawSection kind.starts bytes
+          ∷ rawSection kind.keys (0 ∷ 0 ∷ 0 ∷ 0 ∷ 0 ∷ 0 ∷ 0 ∷ 1 ∷ 0 ∷ 0 ∷ 0 ∷ 0 ∷ 0 ∷ 0 ∷ 0 ∷ 2 ∷ [])
+          ∷ rawSection kind.offsets (0 ∷ 0 ∷ 0 ∷ 11 ∷ 0 ∷ 0 ∷ [])
+          ∷ rawSection kind.partners (1 ∷ 1 ∷ 5 ∷ 1 ∷ 0 ∷ 0 ∷ 0 ∷ 0 ∷ 0 ∷ 0 ∷ 0 ∷ [])
+          ∷ rawSection kind.logs (7 ∷ 0 ∷ 0 ∷ 0 ∷ 0 ∷ 0 ∷ 0 ∷ 0 ∷ []) ∷ more;
+      keycount = 1;
+      edgecount = 1;
+      bits = 24;
+    })
+
+pub starts-opened :
+    (openOf (indexed 0 (words (0 ∷ 1 ∷ [])) []) ≡ Opening.Good (record {
+      keys = record { start = 80; len = 16 };
+      offsets = record { start = 96; len = 6 };
+      partners = record { start = 102; len = 11 };
+      logs = record { start = 113; len = 8 };
+      marked = false;
+      dead = record { start = 0; len = 0 };
+      indexed = true;
+      starts = record { start = 64; len = 16 };
+      keycount = 1;
+      edgecount = 1;
+      bits = 24;
+    }))
+    × (fileCheck (indexed 200 (words (0 ∷ 1 ∷ [])) []) ≡ Check.Fine)
+    × (fileCheck (indexed 1 (words (1 ∷ 1 ∷ [])) []) ≡ Check.Bad (Refusal.Start 0))
+    × (fileCheck (indexed 1 (words (0 ∷ 2 ∷ [])) []) ≡ Check.Bad (Refusal.Start 1))
+    -- a length that the counts do not give is 12; 15 comes before 37
+    × (fileCheck (indexed 1 (words (0 ∷ [])) []) ≡ Check.Bad Refusal.Counts)
+    × (fileCheck (indexed 1 (words (0 ∷ 1 ∷ []) ++ (0 ∷ [])) []) ≡ Check.Bad Refusal.Counts)
+    × (fileCheck (indexed 1 (words (0 ∷ 2 ∷ [])) (rawSection kind.fences [] ∷ [])) ≡ Check.Bad Refusal.Fences)
+unfolding leAt leBytes headBytes payload entry entries bodyBytes trailer layOut beAt idAt mul fold xorshift rotl swap rrmxmx secret of1to3 of4to8 of9to16 small pair mixStep inward of17to128 onward of129to240 lane accumulate stir scramble turn runOn startLanes twice merge finish large xxh3 rowAt rowsFrom endFrom rowsOf endOf has repeated sectionOf all kindsGood tableGood eachRow ranges sizesGood presenceGood countsGood bodyOf sizeCheck headCheck tailCheck sumCheck endsCheck rowsCheck footerCheck shapeCheck frameCheck recordFrom recordOf framedFrom framedOf knownOf keysFrom offsetGood risingFrom fenceGood fencesFrom fencesGood contentCheck fileCheck opening openOf
+starts-opened = (refl, refl, refl, refl, refl, refl, refl)

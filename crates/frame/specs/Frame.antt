@@ -41,7 +41,7 @@ rowAt b i = record {
 abbrev pub nextAt : List ℕ → ℕ → ℕ
 nextAt b i = i + kind.entrySize + getD b (i + 3) 0
 
--- an entry without a name, as kinds 1 to 6 have it
+-- an entry without a name, as the kinds that are read have it
 abbrev pub rawRow : ℕ → ℕ → ℕ → ℕ → Row
 rawRow k start len sum = record { kind = k; codec = 0; namelen = 0; nameat = 0; start = start; len = len; sum = sum }
 
@@ -108,6 +108,8 @@ recordFrom b rs = record {
   logs = sectionOf kind.logs rs;
   marked = has kind.tombstones rs;
   dead = sectionOf kind.tombstones rs;
+  indexed = has kind.starts rs;
+  starts = sectionOf kind.starts rs;
   keycount = keyCount b;
   edgecount = edgeCount b;
   bits = bitsOf b;
@@ -123,7 +125,7 @@ framedFrom b rs = record {
 
 -- ---- rule 9: "table doesn't fill the body, section count, name rules, missing or doubled kind"
 
--- a name has at most 63 bytes, and "kinds 1 to 6 have no name"
+-- a name has at most 63 bytes, and "kinds 1 to 6 have no name"; 0x0200 is "unnamed" too
 abbrev pub nameGood : Row → Bool
 nameGood r = leb (r .namelen) kind.longestName && (not (kind.fixed (r .kind)) || eqb (r .namelen) 0)
 
@@ -184,7 +186,8 @@ sizesGood o =
     && (eqb (o .keys .len) (kind.keysLen (o .keycount))
     && (eqb (o .offsets .len) (kind.offsetsLen (o .keycount) (o .bits / 8))
     && (eqb (o .logs .len) (kind.logsLen (o .edgecount))
-    && (not (o .marked) || eqb (o .dead .len) (kind.tombstonesLen (o .edgecount)))))))
+    && ((not (o .marked) || eqb (o .dead .len) (kind.tombstonesLen (o .edgecount)))
+    && (not (o .indexed) || eqb (o .starts .len) (kind.startsLen (o .keycount))))))))
 
 -- "edges below keys, edges without keys, fences missing; bit 0 unlike the presence of 0x0100; bit 1 without section 5"
 unfoldable pub presenceGood : ℕ → Framed → Bool

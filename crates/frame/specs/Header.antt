@@ -21,16 +21,16 @@ use Rattle.frame.specs.Kind as kind
 use Rattle.frame.specs.Frame.{flag, flagsOf, sizeCheck, headCheck, reservedCheck}
 use Rattle.frame.specs.Open.{fileCheck}
 use Rattle.frame.specs.Open.Laws.{size-parts, size-made}
-use Rattle.frame.specs.Given.{otherMagic, otherMajor, otherSize, moreFlags, headNumbers, footNumbers, remainingNumbers, size-numbers, foot-numbers, reserved-numbers, remaining-numbers, rows, foot, remaining, chain}
+use Rattle.frame.specs.Given.{otherMagic, otherMajor, otherSize, moreFlags, headNumbers, footNumbers, restNumbers, size-numbers, foot-numbers, reserved-numbers, rest-numbers, rows, foot, remaining, indexed, chain}
 
 abbrev afterNumbers : List ℕ
-afterNumbers = footNumbers ++ (36 ∷ remainingNumbers)
+afterNumbers = footNumbers ++ (36 ∷ restNumbers)
 
 module _ (f : List ℕ) where
-  after-numbers : Numbers afterNumbers (foot f ⊳ reservedCheck (rows f) ⊳ remaining f)
+  after-numbers : Numbers afterNumbers (foot f ⊳ reservedCheck (rows f) ⊳ remaining f ⊳ indexed f)
   after-numbers =
       numbers-then afterNumbers _ _ (numbers-more footNumbers afterNumbers refl (foot-numbers f))
-      (numbers-then afterNumbers _ _ (numbers-more (36 ∷ []) afterNumbers refl (reserved-numbers f)) (numbers-more remainingNumbers afterNumbers refl (remaining-numbers f)))
+      (numbers-then afterNumbers _ _ (numbers-more (36 ∷ []) afterNumbers refl (reserved-numbers f)) (numbers-more restNumbers afterNumbers refl (rest-numbers f)))
 
   -- the header's refusal is opening's exactly if the size is right
   head-first : (r : Refusal) → listed (numberOf r) headNumbers ≡ true → (fileCheck f ≡ Check.Bad r) ↔ ((sizeCheck (length f) ≡ Check.Fine) × (headCheck f ≡ Check.Bad r))

@@ -31,6 +31,10 @@ fences = 6
 abbrev pub properties : ℕ
 properties = 0x0100
 
+-- "Add section kind 0x0200": the start index
+abbrev pub starts : ℕ
+starts = 0x0200
+
 -- a kind that is read: its number, and whether a file must have it
 pub record Kind : Type 0 where
   pub number : ℕ
@@ -44,7 +48,7 @@ atMostOnce k = record { number = k; needed = false }
 
 -- the kinds that are read, each raw and without a name. A kind's slot is its place in this list.
 abbrev pub kinds : List Kind
-kinds = exactlyOnce keys ∷ exactlyOnce offsets ∷ exactlyOnce partners ∷ exactlyOnce logs ∷ atMostOnce tombstones ∷ atMostOnce fences ∷ []
+kinds = exactlyOnce keys ∷ exactlyOnce offsets ∷ exactlyOnce partners ∷ exactlyOnce logs ∷ atMostOnce tombstones ∷ atMostOnce fences ∷ atMostOnce starts ∷ []
 
 -- the place of kind k in a list of kinds; the list's length where it is not there
 abbrev pub slotIn : ℕ → List Kind → ℕ
@@ -69,19 +73,23 @@ lastReserved = 0x00FF
 abbrev pub reserved : ℕ → Bool
 reserved k = leb firstReserved k && leb k lastReserved
 
--- "Every other kind is skipped, at any minor version", where it is "outside the reserved ranges": every kind but 1 to 6, 0x0100
--- and the range
+-- "Every other kind is skipped, at any minor version", where it is "outside the reserved ranges": every kind but 1 to 6, 0x0100,
+-- 0x0200 and the range
 abbrev pub unknown : ℕ → Bool
 unknown k = not (fixed k || (eqb k properties || reserved k))
 
 -- ---- rows and lengths
 
--- bytes of a key, of a log number, of a fence, of what stands before the fences, of an entry without its name
+-- bytes of a key, of a log number, of an entry of the start index, of a fence, of what stands before the fences, of an entry of the
+-- table without its name
 abbrev pub keySize : ℕ
 keySize = 16
 
 abbrev pub logSize : ℕ
 logSize = 8
+
+abbrev pub startSize : ℕ
+startSize = 8
 
 abbrev pub fenceSize : ℕ
 fenceSize = 24
@@ -107,6 +115,10 @@ tombstonesLen e = (e + 7) / 8
 
 abbrev pub fencesLen : ℕ → ℕ
 fencesLen m = fencesHead + fenceSize * m
+
+-- of the start index of n keys: "key count plus one u64"
+abbrev pub startsLen : ℕ → ℕ
+startsLen n = (n + 1) * startSize
 
 -- "stride 256" in the writer's fences
 abbrev pub fenceStride : ℕ
@@ -158,3 +170,7 @@ longestName = 63
 
 abbrev pub mostUnfenced : ℕ
 mostUnfenced = 65536
+
+-- the writer's start index: "from 1,025 keys up"
+abbrev pub mostUnindexed : ℕ
+mostUnindexed = 1024

@@ -1,4 +1,4 @@
--- Opening: what the frame gives, rules 13 to 15 over the contents of the sections, and the answer.
+-- Opening: what the frame gives, rules 13 to 15 and 37 over the contents of the sections, and the answer.
 use Prim.Native.Nat.{ℕ, zero, suc, _+_, _-_, _*_, _/_}
 use mathlib.Core.List.{List, []}
 use mathlib.Core.Bool.{Bool, true, not, _&&_, _||_}
@@ -22,7 +22,7 @@ unfoldable pub use Rattle.frame.specs.Frame.{recordFrom, recordOf, frame
 pub mod Laws
 
 -- ---- what a lookup sees of a file: the bytes of the known sections, the counts, the offset bits. "Without the section
--- every edge is live": no tombstones read as none.
+-- every edge is live": no tombstones read as none. Without the start index, none of its bytes are seen.
 
 pub record Known : Type 0 where
   pub keys : List ℕ
@@ -30,6 +30,8 @@ pub record Known : Type 0 where
   pub partners : List ℕ
   pub logs : List ℕ
   pub dead : List ℕ
+  pub indexed : Bool
+  pub starts : List ℕ
   pub keycount : ℕ
   pub edgecount : ℕ
   pub bits : ℕ
@@ -44,6 +46,8 @@ knownOf f o = record {
   partners = bytesAt f (o .partners);
   logs = bytesAt f (o .logs);
   dead = pick (o .marked) (bytesAt f (o .dead)) [];
+  indexed = o .indexed;
+  starts = pick (o .indexed) (bytesAt f (o .starts)) [];
   keycount = o .keycount;
   edgecount = o .edgecount;
   bits = o .bits;
@@ -51,10 +55,14 @@ knownOf f o = record {
 
 -- ---- rule 21, which is asked of a lent record: "opened record whose ranges leave the file or whose counts or offset bits
 -- break rule 12's bounds or lengths (edges below keys or without keys isn't asked); its file over 2^30 bytes". Without
--- tombstones their range is not looked at.
+-- tombstones their range is not looked at; nor is that of a start index which the record says is not there.
 
 abbrev pub inside : ℕ → Range → Bool
 inside size p = leb (p .start + p .len) size
+
+-- the two sections that may be missing
+abbrev pub optionsInside : ℕ → Opened → Bool
+optionsInside size o = (not (o .marked) || inside size (o .dead)) && (not (o .indexed) || inside size (o .starts))
 
 -- of a file of that size
 unfoldable pub recordWithin : ℕ → Opened → Bool
@@ -64,7 +72,7 @@ recordWithin size o =
     && (inside size (o .offsets)
     && (inside size (o .partners)
     && (inside size (o .logs)
-    && ((not (o .marked) || inside size (o .dead))
+    && (optionsInside size o
     && (widthGood (o .bits) && sizesGood o))))))
 
 abbrev pub recordGood : List ℕ → Opened → Bool
@@ -79,8 +87,8 @@ unfoldable pub keysFrom : ℕ → List ℕ → ℕ → Check
 keysFrom zero s k = Check.Fine
 keysFrom (suc d) s k = pick (ltb (keyAt s (k - 1)) (keyAt s k)) (keysFrom d s (k + 1)) (Check.Bad (Refusal.Key k))
 
--- ---- rule 14: of n + 1 offsets of w bytes "the first is 0, each is above the one before, the last is the partner
--- section's length"
+-- ---- rules 14 and 37: of n + 1 numbers of w bytes "the first is 0, each is above the one before, the last is" a number that
+-- is known
 
 abbrev pub offsetAt : List ℕ → ℕ → ℕ → ℕ
 offsetAt o w i = leAt o (i * w) w
@@ -90,10 +98,21 @@ offsetGood o w n len i =
     pick (eqb i 0) (eqb (offsetAt o w i) 0) (ltb (offsetAt o w (i - 1)) (offsetAt o w i))
     && (not (eqb i n) || eqb (offsetAt o w i) len)
 
--- d of them from i on
-unfoldable pub offsetsFrom : ℕ → List ℕ → ℕ → ℕ → ℕ → ℕ → Check
-offsetsFrom zero o w n len i = Check.Fine
-offsetsFrom (suc d) o w n len i = pick (offsetGood o w n len i) (offsetsFrom d o w n len (i + 1)) (Check.Bad (Refusal.Offset i))
+-- d of them from i on: the first that is not good is told
+unfoldable pub risingFrom : (ℕ → Refusal) → ℕ → List ℕ → ℕ → ℕ → ℕ → ℕ → Check
+risingFrom told zero o w n len i = Check.Fine
+risingFrom told (suc d) o w n len i = pick (offsetGood o w n len i) (risingFrom told d o w n len (i + 1)) (Check.Bad (told i))
+
+-- 14: offsets of w bytes; "the last is the partner section's length"
+abbrev pub offsetsCheck : List ℕ → ℕ → ℕ → ℕ → Check
+offsetsCheck o w n len = risingFrom Refusal.Offset (n + 1) o w n len 0
+
+-- 37: entries of the start index, which "starts at 0, strictly increases and ends at the edge count"
+abbrev pub startAt : List ℕ → ℕ → ℕ
+startAt s i = offsetAt s kind.startSize i
+
+abbrev pub startsCheck : List ℕ → ℕ → ℕ → Check
+startsCheck s n edges = risingFrom Refusal.Start (n + 1) s kind.startSize n edges 0
 
 -- ---- rule 15: "Stride u32 (at least 1); entry count u32 = key count divided by stride, rounded up; entries of key and
 -- u64 offset, entry i being key i·stride and 16·i·stride"
@@ -121,14 +140,19 @@ fencesGood x keys n =
 
 -- ---- opening
 
--- rules 13 to 15
+-- 37, where there is a start index
+abbrev pub indexedCheck : Known → Check
+indexedCheck k = pick (k .indexed) (startsCheck (k .starts) (k .keycount) (k .edgecount)) Check.Fine
+
+-- rules 13 to 15, then 37
 unfoldable pub contentCheck : Known → Bool → List ℕ → Check
 contentCheck k fenced fences =
     keysFrom (k .keycount - 1) (k .keys) 1
-    ⊳ offsetsFrom (k .keycount + 1) (k .offsets) (k .bits / 8) (k .keycount) (length (k .partners)) 0
+    ⊳ offsetsCheck (k .offsets) (k .bits / 8) (k .keycount) (length (k .partners))
     ⊳ refuse Refusal.Fences (fenced && not (fencesGood fences (k .keys) (k .keycount)))
+    ⊳ indexedCheck k
 
--- rules 1 to 15, with 36
+-- rules 1 to 15, with 36, then 37
 unfoldable pub fileCheck : List ℕ → Check
 fileCheck f =
     frameCheck (length f) f f ⊳ contentCheck (knownOf f (recordOf f)) (framedOf f .fenced) (bytesAt f (framedOf f .fences))

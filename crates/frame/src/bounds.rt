@@ -15,4 +15,7 @@ impl Bounds {
 
     // Keys that need no fences.
     pub const UNFENCED: u64 = 65536;
+
+    // Keys to which the writer gives no start index.
+    pub const UNINDEXED: u64 = 1024;
 }

@@ -170,6 +170,33 @@ impl Fences {
     }
 }
 
+// The start index: where each group's log numbers begin, and after the last the edge count.
+pub struct Starts {}
+
+impl Starts {
+    pub const KIND: u16 = 512;
+
+    pub const ROW: u64 = 8;
+
+    pub const SLOT: usize = 6;
+
+    // One more than there are keys.
+    pub fn bytes(keys: u64) -> u64
+        requires { ⌜ keys ≤ kind.mostBytes ⌝ }
+        ensures { λ r. ⌜ r ≡ kind.startsLen keys ⌝ }
+    {
+        (keys + 1) * Starts::ROW
+    }
+
+    // The table entry of such a section, from its place and its counts; it is not summed yet.
+    pub fn entry(start: u64, keys: u64) -> Row
+        requires { ⌜ keys ≤ kind.mostBytes ⌝ }
+        ensures { λ r. ⌜ r ≡ rawRow kind.starts start (kind.startsLen keys) 0 ⌝ }
+    {
+        Row::raw(Starts::KIND, start, Starts::bytes(keys), 0)
+    }
+}
+
 // Property streams: any number of them, not read.
 pub struct Properties {}
 
@@ -200,7 +227,7 @@ impl Reserved {
 pub struct Kinds {}
 
 impl Kinds {
-    pub const READ: usize = 6;
+    pub const READ: usize = 7;
 
     // The slot of a kind; READ where it is not read.
     pub fn slot(k: u16) -> usize
@@ -223,6 +250,9 @@ impl Kinds {
         }
         if k == Fences::KIND {
             return Fences::SLOT;
+        }
+        if k == Starts::KIND {
+            return Starts::SLOT;
         }
         Kinds::READ
     }

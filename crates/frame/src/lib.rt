@@ -63,7 +63,7 @@ impl Row {
 }
 
 // What a lookup reads of a file: where the sections lie, the counts, the offset bits. Anyone may fill one.
-// A section that is not there is an empty range, and `marked` says whether there are tombstones.
+// A section that is not there is an empty range; `marked` says whether there are tombstones, `indexed` whether there is a start index.
 pub struct Opened {
     pub keys: Range,
     pub offsets: Range,
@@ -71,6 +71,8 @@ pub struct Opened {
     pub logs: Range,
     pub marked: bool,
     pub dead: Range,
+    pub indexed: bool,
+    pub starts: Range,
     pub keycount: u64,
     pub edgecount: u64,
     pub bits: u8,

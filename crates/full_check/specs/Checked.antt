@@ -1,5 +1,5 @@
 -- The full check of a file that opens, from the answers of its parts.
-use mathlib.Core.Path.{_≡_, refl, sym, ap, ap₂, _∙_}
+use mathlib.Core.Path.{_≡_, refl, sym, ap, _∙_}
 use Prim.Native.Nat.{ℕ, zero, suc, _+_, _-_, _*_, _/_, _^_, _≤_}
 use native.Mathlib.Omega.{arith}
 use mathlib.Core.List.{List, []}
@@ -39,48 +39,48 @@ module _ (x : List ℕ) (n : ℕ) where
   marks-none e = rw e (λ i. record { dead = sym (dead-none n 0) i; unused = sym (dead-none (8 * 0 - n) n) i })
 
 -- rule 23 from what was read
-pub data-is : (flags e : ℕ) (s : List ℕ) (sum : ℕ) (dense : Bool) {g : ℕ} {m : Marks} {t u : Bool} → g ≡ flags → m ≡ marksOf s e
-    → t ≡ (eqb sum e && (Bool·beq (flag 1 g) (m .dead) && (Bool·beq (flag 2 g) dense && not (m .unused)))) → t ≡ u → dataGood flags e s sum dense ≡ u
+pub data-is : (flags e : ℕ) (s : List ℕ) (sum : ℕ) (dense stray : Bool) {g : ℕ} {m : Marks} {t u : Bool} → g ≡ flags → m ≡ marksOf s e
+    → t ≡ (eqb sum e && (Bool·beq (flag 1 g) (m .dead) && (Bool·beq (flag 2 g) dense && (not (m .unused) && not stray)))) → t ≡ u → dataGood flags e s sum dense stray ≡ u
 unfolding dataGood
-data-is flags e s sum dense p q r v =
-    (λ i. eqb sum e && (Bool·beq (flag 1 (sym p i)) (sym q i .dead) && (Bool·beq (flag 2 (sym p i)) dense && not (sym q i .unused)))) ∙ sym r ∙ v
+data-is flags e s sum dense stray p q r v =
+    (λ i. eqb sum e && (Bool·beq (flag 1 (sym p i)) (sym q i .dead) && (Bool·beq (flag 2 (sym p i)) dense && (not (sym q i .unused) && not stray)))) ∙ sym r ∙ v
 
 -- ---- the groups' answer, taken apart
 
-told-refused : (c : Check) (s : ℕ) (d : Bool) (r : Refusal) → groupsTold c s d ≡ Groups.Refused r → c ≡ Check.Bad r
+told-refused : (c : Check) (s : ℕ) (d v : Bool) (r : Refusal) → groupsTold c s d v ≡ Groups.Refused r → c ≡ Check.Bad r
 unfolding groupsTold
-told-refused Check.Fine s d r e = let z : _≡_ {A = ℕ} 0 1 = cc in absurd (omega arith)
-told-refused (Check.Bad q) s d r e = cc
+told-refused Check.Fine s d v r e = let z : _≡_ {A = ℕ} 0 1 = cc in absurd (omega arith)
+told-refused (Check.Bad q) s d v r e = cc
 
-told-good : (c : Check) (s : ℕ) (d : Bool) (t : ℕ) (b : Bool) → groupsTold c s d ≡ Groups.Good t b → (c ≡ Check.Fine) × (s ≡ t) × (d ≡ b)
+told-good : (c : Check) (s : ℕ) (d v : Bool) (t : ℕ) (b u : Bool) → groupsTold c s d v ≡ Groups.Good t b u → (c ≡ Check.Fine) × (s ≡ t) × (d ≡ b) × (v ≡ u)
 unfolding groupsTold
-told-good Check.Fine s d t b e = (refl, cc, cc)
-told-good (Check.Bad q) s d t b e = let z : _≡_ {A = ℕ} 0 1 = cc in absurd (omega arith)
+told-good Check.Fine s d v t b u e = (refl, cc, cc, cc)
+told-good (Check.Bad q) s d v t b u e = let z : _≡_ {A = ℕ} 0 1 = cc in absurd (omega arith)
 
 -- ---- groups, then rule 23
 
 module _ (flags : ℕ) (f : List ℕ) (o : Opened) where
   abbrev groups : Groups
-  groups = groupsSeen (bytesAt f (o .partners)) (bytesAt f (o .offsets)) (o .bits / 8) (o .keycount)
+  groups = groupsSeen (bytesAt f (o .partners)) (bytesAt f (o .offsets)) (o .bits / 8) (o .keycount) (o .indexed) (pick (o .indexed) (bytesAt f (o .starts)) [])
 
   abbrev pub tombstones : List ℕ
   tombstones = pick (o .marked) (bytesAt f (o .dead)) []
 
   pub edges-refused : (r : Refusal) → groups ≡ Groups.Refused r → edgesCheck flags (knownOf f o) ≡ Check.Bad r
   unfolding edgesCheck knownOf groupsSeen
-  edges-refused r e = bad-then _ (told-refused _ _ _ r e)
+  edges-refused r e = bad-then _ (told-refused _ _ _ _ r e)
 
-  module _ (s : ℕ) (d : Bool) (e : groups ≡ Groups.Good s d) where
-    parts : edgesCheck flags (knownOf f o) ≡ refuse Refusal.Data (not (dataGood flags (o .edgecount) tombstones s d))
+  module _ (s : ℕ) (d v : Bool) (e : groups ≡ Groups.Good s d v) where
+    parts : edgesCheck flags (knownOf f o) ≡ refuse Refusal.Data (not (dataGood flags (o .edgecount) tombstones s d v))
     unfolding edgesCheck knownOf groupsSeen
     parts =
-        let t = told-good _ _ _ s d e in
-        fine-then _ (t .0) ∙ ap₂ (λ (x : ℕ) (y : Bool). refuse Refusal.Data (not (dataGood flags (o .edgecount) tombstones x y))) (t .1) (t .2)
+        let t = told-good _ _ _ _ s d v e in
+        fine-then _ (t .0) ∙ (λ i. refuse Refusal.Data (not (dataGood flags (o .edgecount) tombstones (t .1 i) (t .2 i) (t .3 i))))
 
-    pub edges-good : dataGood flags (o .edgecount) tombstones s d ≡ true → Check.Fine ≡ edgesCheck flags (knownOf f o)
+    pub edges-good : dataGood flags (o .edgecount) tombstones s d v ≡ true → Check.Fine ≡ edgesCheck flags (knownOf f o)
     edges-good q = sym (parts ∙ rw q)
 
-    pub edges-bad : dataGood flags (o .edgecount) tombstones s d ≡ false → Check.Bad Refusal.Data ≡ edgesCheck flags (knownOf f o)
+    pub edges-bad : dataGood flags (o .edgecount) tombstones s d v ≡ false → Check.Bad Refusal.Data ≡ edgesCheck flags (knownOf f o)
     edges-bad q = sym (parts ∙ rw q)
 
 -- ---- the whole check

@@ -12,7 +12,7 @@ use Rattle.refusal.specs.Check.{_⊳_, refuse}
 use Rattle.frame.specs.declared.Row.{Row}
 use Rattle.frame.specs.Frame.{rangeOf, rowsOf, flag, flagsOf, bodyOf, recordOf}
 use Rattle.frame.specs.declared.Opening.{Opening}
-use Rattle.frame.specs.Open.{Known, knownOf, bytesAt, fileCheck, opening}
+use Rattle.frame.specs.Open.{Known, knownOf, bytesAt, startAt, fileCheck, opening}
 use Rattle.degrees.specs.Degrees.{groupAt}
 use Rattle.group.specs.Group.{Decoded, good, bad, groupOf, partnersOf}
 use Rattle.lookup.specs.Lookup.{groupCheck, markAt}
@@ -56,7 +56,13 @@ module _ (p o : List ℕ) (w : ℕ) where
   denseFrom zero i = false
   denseFrom (suc d) i = denseOf (groupIn i) || denseFrom d (i + 1)
 
--- ---- 23: "degree sum not the edge count; bit 1 or 2 not as the data; unused bits"
+  -- of the entries of the start index s from group i on, before which there are e edges, one is not as the degrees: "The full check
+  -- compares every entry with the degrees"
+  unfoldable pub strayFrom : List ℕ → ℕ → ℕ → ℕ → Bool
+  strayFrom s zero i e = not (eqb (startAt s i) e)
+  strayFrom s (suc d) i e = not (eqb (startAt s i) e) || strayFrom s d (i + 1) (e + length (partnersOf (groupIn i)))
+
+-- ---- 23: "degree sum not the edge count; bit 1 or 2 not as the data; unused bits", and an entry of the start index unlike the degrees
 
 -- one of d edges from edge e on is dead; s the tombstones
 unfoldable pub deadFrom : ℕ → List ℕ → ℕ → Bool
@@ -67,13 +73,17 @@ deadFrom (suc d) s e = eqb (markAt s e) 1 || deadFrom d s (e + 1)
 abbrev pub marksOf : List ℕ → ℕ → Marks
 marksOf s edges = record { dead = deadFrom edges s 0; unused = deadFrom (8 * length s - edges) s edges }
 
--- flags, edge count, tombstones; the groups' degree sum and whether one is dense
-unfoldable pub dataGood : ℕ → ℕ → List ℕ → ℕ → Bool → Bool
-dataGood flags edges s sum dense =
+-- flags, edge count, tombstones; the groups' degree sum, whether one is dense, and whether an entry of the start index is unlike them
+unfoldable pub dataGood : ℕ → ℕ → List ℕ → ℕ → Bool → Bool → Bool
+dataGood flags edges s sum dense stray =
     eqb sum edges
-    && (Bool·beq (flag 1 flags) (marksOf s edges .dead) && (Bool·beq (flag 2 flags) dense && not (marksOf s edges .unused)))
+    && (Bool·beq (flag 1 flags) (marksOf s edges .dead) && (Bool·beq (flag 2 flags) dense && (not (marksOf s edges .unused) && not stray)))
 
 -- ---- the check
+
+-- where there is a start index
+abbrev pub strayIn : Known → Bool
+strayIn k = k .indexed && strayFrom (k .partners) (k .offsets) (k .bits / 8) (k .starts) (k .keycount) 0 0
 
 -- of what is known of a file with these flags
 unfoldable pub edgesCheck : ℕ → Known → Check
@@ -82,7 +92,7 @@ edgesCheck flags k =
     let n : ℕ = k .keycount in
     groupsFrom (k .partners) (k .offsets) w n 0
     ⊳ refuse Refusal.Data
-    (not (dataGood flags (k .edgecount) (k .dead) (degreesFrom (k .partners) (k .offsets) w n 0) (denseFrom (k .partners) (k .offsets) w n 0)))
+    (not (dataGood flags (k .edgecount) (k .dead) (degreesFrom (k .partners) (k .offsets) w n 0) (denseFrom (k .partners) (k .offsets) w n 0) (strayIn k)))
 
 unfoldable pub fullCheck : List ℕ → Check
 fullCheck f =
@@ -90,12 +100,13 @@ fullCheck f =
 
 -- ---- what the pass over the groups answers
 
-unfoldable pub groupsTold : Check → ℕ → Bool → Groups
-groupsTold Check.Fine sum dense = Groups.Good sum dense
-groupsTold (Check.Bad r) sum dense = Groups.Refused r
+unfoldable pub groupsTold : Check → ℕ → Bool → Bool → Groups
+groupsTold Check.Fine sum dense stray = Groups.Good sum dense stray
+groupsTold (Check.Bad r) sum dense stray = Groups.Refused r
 
-unfoldable pub groupsSeen : List ℕ → List ℕ → ℕ → ℕ → Groups
-groupsSeen p o w n = groupsTold (groupsFrom p o w n 0) (degreesFrom p o w n 0) (denseFrom p o w n 0)
+-- with the start index s, where it is there
+unfoldable pub groupsSeen : List ℕ → List ℕ → ℕ → ℕ → Bool → List ℕ → Groups
+groupsSeen p o w n there s = groupsTold (groupsFrom p o w n 0) (degreesFrom p o w n 0) (denseFrom p o w n 0) (there && strayFrom p o w s n 0 0)
 
 -- the record of a file that passes
 unfoldable pub checkedOf : List ℕ → Opening

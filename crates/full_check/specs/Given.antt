@@ -22,7 +22,7 @@ use Rattle.group.specs.Fault.{refusalOf}
 use Rattle.group.specs.Fault.Laws.{faultNumbers, fault-once, fault-apart}
 use Rattle.lookup.specs.Lookup.{groupCheck}
 use Rattle.lookup.specs.Given.{group-numbers, group-fine, group-fault}
-use Rattle.full_check.specs.Full.{sumGood, sumsFrom, groupIn, groupsFrom, degreesFrom, denseFrom, dataGood, edgesCheck, fullCheck}
+use Rattle.full_check.specs.Full.{sumGood, sumsFrom, groupIn, groupsFrom, degreesFrom, denseFrom, dataGood, strayIn, edgesCheck, fullCheck}
 
 -- ---- the numbers: 22, then a group's, then 23
 
@@ -114,7 +114,7 @@ module _ (f : List ℕ) where
   groups = groupsFrom (k .partners) (k .offsets) (k .bits / 8) (k .keycount) 0
 
   abbrev broken : Bool
-  broken = not (dataGood (flagsOf f) (k .edgecount) (k .dead) (degreesFrom (k .partners) (k .offsets) (k .bits / 8) (k .keycount) 0) (denseFrom (k .partners) (k .offsets) (k .bits / 8) (k .keycount) 0))
+  broken = not (dataGood (flagsOf f) (k .edgecount) (k .dead) (degreesFrom (k .partners) (k .offsets) (k .bits / 8) (k .keycount) 0) (denseFrom (k .partners) (k .offsets) (k .bits / 8) (k .keycount) 0) (strayIn k))
 
   edges-numbers : Numbers fullNumbers edges
   unfolding edgesCheck

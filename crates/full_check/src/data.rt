@@ -36,10 +36,22 @@ fn marks_in(file: &[u8], o: Opened) -> Marks
     }
 }
 
+// The start index, no bytes where there is none.
+fn starts_in<'a>(file: &'a [u8], o: Opened) -> &'a [u8]
+    requires { ⌜ openOf (now file) ≡ Opening.Good o ⌝ }
+    ensures { λ s. ⌜ now s ≡ pick (o .indexed) (bytesAt (now (file .entry)) (o .starts)) [] ⌝ }
+{
+    if o.indexed {
+        let starts = o.starts;
+        return bytes_of(file, starts);
+    }
+    &file[0..0]
+}
+
 // All groups of a file.
 fn groups_in(file: &[u8], o: Opened) -> Groups
     requires { ⌜ openOf (now file) ≡ Opening.Good o ⌝ }
-    ensures { λ r. ⌜ r ≡ groupsSeen (bytesAt (now (file .entry)) (o .partners)) (bytesAt (now (file .entry)) (o .offsets)) (o .bits / 8) (o .keycount) ⌝ }
+    ensures { λ r. ⌜ r ≡ groupsSeen (bytesAt (now (file .entry)) (o .partners)) (bytesAt (now (file .entry)) (o .offsets)) (o .bits / 8) (o .keycount) (o .indexed) (pick (o .indexed) (bytesAt (now (file .entry)) (o .starts)) []) ⌝ }
 {
     let partners = o.partners;
     let offsets = o.offsets;
@@ -48,12 +60,15 @@ fn groups_in(file: &[u8], o: Opened) -> Groups
         bytes_of(file, offsets),
         (o.bits / 8) as usize,
         o.keycount as usize,
+        o.indexed,
+        starts_in(file, o),
     )
 }
 
-// Rule 23, of the flags, the edge count, the marks, the degrees' sum and whether a group is dense.
-fn data_good(flags: u64, count: u64, m: Marks, sum: u64, dense: bool) -> bool
-    ensures { λ r. ⌜ r ≡ (eqb sum count && (Bool·beq (flag 1 flags) (m .dead) && (Bool·beq (flag 2 flags) dense && not (m .unused)))) ⌝ }
+// Rule 23, of the flags, the edge count, the marks, the degrees' sum, whether a group is dense and whether the start index is unlike
+// the degrees.
+fn data_good(flags: u64, count: u64, m: Marks, sum: u64, dense: bool, stray: bool) -> bool
+    ensures { λ r. ⌜ r ≡ (eqb sum count && (Bool·beq (flag 1 flags) (m .dead) && (Bool·beq (flag 2 flags) dense && (not (m .unused) && not stray)))) ⌝ }
 {
     if sum != count {
         return false;
@@ -64,7 +79,10 @@ fn data_good(flags: u64, count: u64, m: Marks, sum: u64, dense: bool) -> bool
     if !alike(flag_of(flags, 4), dense) {
         return false;
     }
-    !m.unused
+    if m.unused {
+        return false;
+    }
+    !stray
 }
 
 // All groups, then rule 23, of a file that opens.
@@ -74,9 +92,13 @@ pub fn edges_check(file: &[u8], o: Opened) -> Check
 {
     match groups_in(file, o) {
         Groups::Refused { refusal } => Check::Bad { refusal },
-        Groups::Good { edges, dense } => {
+        Groups::Good {
+            edges,
+            dense,
+            stray,
+        } => {
             let m = marks_in(file, o);
-            if data_good(le32(file, 12), o.edgecount, m, edges, dense) {
+            if data_good(le32(file, 12), o.edgecount, m, edges, dense, stray) {
                 return Check::Fine;
             }
             let refusal = Refusal::Data;

@@ -11,6 +11,10 @@ use Rattle.index.proofs.offsets.offset_at as offset-at
 use Rattle.index.proofs.offsets.offset_at.Reads as offset-at-reads
 use Rattle.index.proofs.offsets.offsets_check as offsets-check
 use Rattle.index.proofs.offsets.offsets_check.Reads as offsets-check-reads
+use Rattle.index.proofs.starts.start_at as start-at
+use Rattle.index.proofs.starts.start_at.Reads as start-at-reads
+use Rattle.index.proofs.starts.starts_check as starts-check
+use Rattle.index.proofs.starts.starts_check.Reads as starts-check-reads
 use Rattle.index.proofs.fences.fences_good as fences-good
 use Rattle.index.proofs.fences.fences_good.Reads as fences-good-reads
 
@@ -31,3 +35,9 @@ offsets-check-determined κs a pre r₁ r₂ w₁ w₂ p q = (p ∙ sym q, refl)
 
 pub fences-good-determined : Determined fences-good.ended fences-good-reads.Pre fences-good-reads.Post
 fences-good-determined κs a pre r₁ r₂ w₁ w₂ p q = (p ∙ sym q, refl)
+
+pub start-at-determined : Determined start-at.ended start-at-reads.Pre start-at-reads.Post
+start-at-determined κs a pre r₁ r₂ w₁ w₂ p q = (p ∙ sym q, refl)
+
+pub starts-check-determined : Determined starts-check.ended starts-check-reads.Pre starts-check-reads.Post
+starts-check-determined κs a pre r₁ r₂ w₁ w₂ p q = (p ∙ sym q, refl)

@@ -1,4 +1,4 @@
--- Rules 13 to 15 by their cases, as the loops meet them.
+-- Rules 13 to 15 and 37 by their cases, as the loops meet them.
 use mathlib.Core.Path.{_≡_, sym, ap, _∙_}
 use Prim.Native.Nat.{ℕ, suc, _+_, _-_, _*_, _/_, _%_, _≤_, _<_}
 use native.Mathlib.Omega.{arith}
@@ -13,7 +13,7 @@ use Rattle.base.specs.Pick.{pick}
 use Rattle.codes.specs.Little.{leAt}
 use Rattle.refusal.specs.declared.Refusal.{Refusal}
 use Rattle.refusal.specs.declared.Check.{Check}
-use Rattle.frame.specs.Open.{keyAt, keysFrom, offsetAt, offsetGood, offsetsFrom, fenceGood, fencesFrom, fencesGood, strideOf, fencesTold}
+use Rattle.frame.specs.Open.{keyAt, keysFrom, offsetAt, offsetGood, risingFrom, fenceGood, fencesFrom, fencesGood, strideOf, fencesTold}
 
 -- ---- rule 13: of n keys, k is the next
 
@@ -30,7 +30,7 @@ pub keys-none : (s : List ℕ) (n k : ℕ) → n ≤ k → keysFrom (n - k) s k 
 unfolding keysFrom
 keys-none s n k h = let d : n - k ≡ 0 = omega arith in rw d
 
--- ---- rule 14: offset i is the last that was read
+-- ---- rules 14 and 37: offset i is the last that was read
 
 -- an offset as the number of so many bytes
 pub of-width : (o : List ℕ) (w i b : ℕ) → w ≡ b → leAt o (i * w) b ≡ offsetAt o w i
@@ -48,31 +48,31 @@ next-rises o w i h =
     let e : i + 1 - 1 ≡ i = omega arith in
     rw e (simp (ne-eqb (i + 1) 0 (λ q. omega arith), lt-ltb (offsetAt o w i) (offsetAt o w (i + 1)) h))
 
-module _ (o : List ℕ) (w n len : ℕ) where
-  pub offsets-first : (offsetAt o w 0 ≡ 0 → ⊥) → offsetsFrom (n + 1) o w n len 0 ≡ Check.Bad (Refusal.Offset 0)
-  unfolding offsetsFrom offsetGood
-  offsets-first ne = let d : n + 1 ≡ suc n = omega arith in rw d (simp (ne-eqb (offsetAt o w 0) 0 ne))
+module _ (told : ℕ → Refusal) (o : List ℕ) (w n len : ℕ) where
+  pub rising-first : (offsetAt o w 0 ≡ 0 → ⊥) → risingFrom told (n + 1) o w n len 0 ≡ Check.Bad (told 0)
+  unfolding risingFrom offsetGood
+  rising-first ne = let d : n + 1 ≡ suc n = omega arith in rw d (simp (ne-eqb (offsetAt o w 0) 0 ne))
 
   -- offset i stands before the last and rises, so that the next one decides
   module _ (i : ℕ) (lt : i < n) (up : risingKeys o w i ≡ true) where
-    pub offsets-on : offsetsFrom (n + 1 - i) o w n len i ≡ offsetsFrom (n + 1 - (i + 1)) o w n len (i + 1)
-    unfolding offsetsFrom offsetGood
-    offsets-on =
+    pub rising-on : risingFrom told (n + 1 - i) o w n len i ≡ risingFrom told (n + 1 - (i + 1)) o w n len (i + 1)
+    unfolding risingFrom offsetGood
+    rising-on =
         let d : n + 1 - i ≡ suc (n + 1 - (i + 1)) = omega arith in
         rw (d, up) (simp (ne-eqb i n (λ q. omega arith)))
 
-    pub offsets-bad : offsetAt o w (i + 1) ≤ offsetAt o w i → offsetsFrom (n + 1 - i) o w n len i ≡ Check.Bad (Refusal.Offset (i + 1))
-    unfolding offsetsFrom offsetGood
-    offsets-bad h =
+    pub rising-bad : offsetAt o w (i + 1) ≤ offsetAt o w i → risingFrom told (n + 1 - i) o w n len i ≡ Check.Bad (told (i + 1))
+    unfolding risingFrom offsetGood
+    rising-bad h =
         let d : n + 1 - (i + 1) ≡ suc (n - (i + 1)) = omega arith in
         let e : i + 1 - 1 ≡ i = omega arith in
-        offsets-on ∙ rw (d, e) (simp (ne-eqb (i + 1) 0 (λ q. omega arith), le-ltb (offsetAt o w i) (offsetAt o w (i + 1)) h))
+        rising-on ∙ rw (d, e) (simp (ne-eqb (i + 1) 0 (λ q. omega arith), le-ltb (offsetAt o w i) (offsetAt o w (i + 1)) h))
 
   -- the last one rises: its value decides
   module _ (i : ℕ) (eq : i ≡ n) (up : risingKeys o w i ≡ true) where
-    pub offsets-end : (b : Bool) → eqb (offsetAt o w i) len ≡ b → offsetsFrom (n + 1 - i) o w n len i ≡ pick b Check.Fine (Check.Bad (Refusal.Offset n))
-    unfolding offsetsFrom offsetGood
-    offsets-end b e =
+    pub rising-end : (b : Bool) → eqb (offsetAt o w i) len ≡ b → risingFrom told (n + 1 - i) o w n len i ≡ pick b Check.Fine (Check.Bad (told n))
+    unfolding risingFrom offsetGood
+    rising-end b e =
         let d : n + 1 - i ≡ suc 0 = omega arith in
         rw (d, up, e, eq-eqb i n eq, eq)
 

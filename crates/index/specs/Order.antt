@@ -1,5 +1,5 @@
--- What rules 13 and 14 leave where they are not broken: keys strictly increase, and offsets rise from 0 to the partners'
--- length.
+-- What rules 13, 14 and 37 leave where they are not broken: keys strictly increase, offsets rise from 0 to the partners' length, and
+-- the entries of the start index to the edge count.
 use mathlib.Core.Path.{_≡_, refl, ap}
 use Prim.Native.Nat.{ℕ, zero, suc, _+_, _-_, _≤_, _<_}
 use native.Mathlib.Omega.{arith}
@@ -10,7 +10,7 @@ use borrow.Author.Tests.{ltb-true, eqb-true, eq-eqb, ne-eqb}
 use Rattle.refusal.specs.declared.Refusal.{Refusal}
 use Rattle.refusal.specs.declared.Check.{Check}
 use Rattle.refusal.specs.Check.Laws.{pick-fine, and-parts}
-use Rattle.frame.specs.Open.{keyAt, keysFrom, offsetAt, offsetGood, offsetsFrom}
+use Rattle.frame.specs.Open.{keyAt, keysFrom, offsetAt, offsetGood, risingFrom}
 use Rattle.index.specs.Compare.{tri}
 use Rattle.index.specs.Cases.{risingKeys}
 
@@ -45,7 +45,7 @@ module _ (s : List ℕ) (n : ℕ) (up : KeysRise s n) where
   pub key-once : (i j : ℕ) → i < n → j < n → keyAt s i ≡ keyAt s j → i ≡ j
   key-once i j h g e = tri i j (λ l. absurd (omega (arith, up i j l g))) (λ q. q) (λ l. absurd (omega (arith, up j i l h)))
 
--- ---- offsets: n + 1 of them, of w bytes, into partners of len bytes
+-- ---- offsets: n + 1 of them, of w bytes, into partners of len bytes; and the entries of the start index, into len edges
 
 pub record OffsetsRise (o : List ℕ) (w n len : ℕ) : Type 0 where
   pub first : offsetAt o w 0 ≡ 0
@@ -53,13 +53,13 @@ pub record OffsetsRise (o : List ℕ) (w n len : ℕ) : Type 0 where
   pub last : offsetAt o w n ≡ len
   pub within : (i : ℕ) → i ≤ n → offsetAt o w i ≤ len
 
-module _ (o : List ℕ) (w n len : ℕ) where
+module _ (told : ℕ → Refusal) (o : List ℕ) (w n len : ℕ) where
   -- of d offsets from i on, each is good
-  offsets-good : (d i : ℕ) → offsetsFrom d o w n len i ≡ Check.Fine → (j : ℕ) → i ≤ j → j < i + d → offsetGood o w n len j ≡ true
-  unfolding offsetsFrom
+  offsets-good : (d i : ℕ) → risingFrom told d o w n len i ≡ Check.Fine → (j : ℕ) → i ≤ j → j < i + d → offsetGood o w n len j ≡ true
+  unfolding risingFrom
   offsets-good zero i e j a b = absurd (omega arith)
   offsets-good (suc d) i e j a b =
-      let p = pick-fine (offsetGood o w n len i) (offsetsFrom d o w n len (i + 1)) (Refusal.Offset i) e in
+      let p = pick-fine (offsetGood o w n len i) (risingFrom told d o w n len (i + 1)) (told i) e in
       let others = offsets-good d (i + 1) (p .1) j in
       tri i j (λ lt. others (omega arith) (omega arith)) (λ eq. (rw eq at (p .0))) (λ gt. absurd (omega arith))
 
@@ -84,7 +84,7 @@ module _ (o : List ℕ) (w n len : ℕ) where
   within-from up zero i q = let e : i ≡ n = omega arith in rw e (omega arith)
   within-from up (suc d) i q = omega (arith, up i (omega arith), within-from up d (i + 1) (omega arith))
 
-  pub offsets-rise : offsetsFrom (n + 1) o w n len 0 ≡ Check.Fine → OffsetsRise o w n len
+  pub offsets-rise : risingFrom told (n + 1) o w n len 0 ≡ Check.Fine → OffsetsRise o w n len
   offsets-rise e =
       let good : (i : ℕ) → i ≤ n → offsetGood o w n len i ≡ true = λ i h. offsets-good (n + 1) 0 e i (omega arith) (omega arith) in
       let up : (i : ℕ) → i < n → offsetAt o w i < offsetAt o w (i + 1) = λ i h. rises-above i (good-rises (i + 1) (good (i + 1) (omega arith))) in

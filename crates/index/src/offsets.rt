@@ -3,7 +3,7 @@ ghost use mathlib.Core.Path.{_≡_};
 ghost use Prim.Native.Nat.{_+_, _*_, _^_, _<_, _≤_};
 ghost use lib.ListN.{length};
 ghost use Rattle.frame.specs.Kind as kind;
-ghost use Rattle.frame.specs.Open.{offsetAt, offsetsFrom};
+ghost use Rattle.frame.specs.Open.{offsetAt, offsetsCheck};
 use codes::little::le24;
 use codes::little::le32;
 use codes::little::le40;
@@ -42,7 +42,7 @@ fn refused(i: usize) -> Check
 // is offset i, which rises, and only the very last is held against len.
 pub fn offsets_check(offs: &[u8], w: usize, n: usize, len: u64) -> Check
     requires { ⌜ (3 ≤ w) × (w ≤ 6) × (n ≤ kind.mostKeys) × (kind.offsetsLen n w ≤ length (now offs)) ⌝ }
-    ensures { λ r. ⌜ r ≡ offsetsFrom (n + 1) (now (offs .entry)) w n len 0 ⌝ }
+    ensures { λ r. ⌜ r ≡ offsetsCheck (now (offs .entry)) w n len ⌝ }
 {
     let mut last = offset_at(offs, w, 0);
     if last != 0 {

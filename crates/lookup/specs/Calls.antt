@@ -20,7 +20,7 @@ use Rattle.frame.specs.Open.{Known, knownOf, bytesAt, offsetAt}
 use Rattle.index.specs.declared.keys.Found.{Found}
 use Rattle.index.specs.Find.{findIn}
 use Rattle.degrees.specs.declared.Sum.{Sum}
-use Rattle.degrees.specs.Degrees.{edgesBefore, capped}
+use Rattle.degrees.specs.Degrees.{capped}
 use Rattle.group.specs.Group.{bytesOf}
 use Rattle.lookup.specs.declared.Looked.{Looked}
 use Rattle.lookup.specs.declared.groups.GroupSeen.{GroupSeen}
@@ -177,7 +177,7 @@ module _ (f : List ℕ) (o : Opened) (i : ℕ) where
 
     -- with log numbers and dead marks
     abbrev sum : Sum
-    sum = edgesBefore (bytesAt f (o .partners)) (bytesAt f (o .offsets)) (o .bits / 8) i
+    sum = before (knownOf f o) i d
 
     module _ (rooms : Rooms) (c : ℕ) where
       abbrev marks : List ℕ
@@ -186,7 +186,11 @@ module _ (f : List ℕ) (o : Opened) (i : ℕ) where
       whole-is : lookGroup true rooms (knownOf f o) i c
           ≡ outcome (lookCheck true rooms (knownOf f o) i d) (found i c (partnersAt true (alone 0) (knownOf f o) i) (logsFrom d (bytesAt f (o .logs)) (firstOf sum)) (marksFrom d marks (firstOf sum)))
       unfolding lookGroup knownOf
-      whole-is = ap (λ (m : ℕ). outcome (lookCheck true rooms (knownOf f o) i m) (found i c (partnersAt true (alone 0) (knownOf f o) i) (logsFrom m (bytesAt f (o .logs)) (firstOf sum)) (marksFrom m marks (firstOf sum)))) degree
+      whole-is =
+          ap (λ (m : ℕ).
+          outcome (lookCheck true rooms (knownOf f o) i m)
+          (found i c (partnersAt true (alone 0) (knownOf f o) i) (logsFrom m (bytesAt f (o .logs)) (firstOf (before (knownOf f o) i m))) (marksFrom m marks (firstOf (before (knownOf f o) i m)))))
+          degree
 
       -- after the group's own faults
       rest : (t u : Bool) → within (o .edgecount) d sum ≡ t → short true rooms d ≡ u

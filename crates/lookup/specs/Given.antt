@@ -18,7 +18,7 @@ use Rattle.refusal.specs.Check.Laws.{fine-parts, fine-both, bad-then, fine-then
 use Rattle.frame.specs.Open.{Known, offsetAt}
 use Rattle.index.specs.declared.keys.Found.{Found}
 use Rattle.index.specs.Find.{findIn}
-use Rattle.degrees.specs.Degrees.{misplaced, edgesBefore}
+use Rattle.degrees.specs.Degrees.{misplaced}
 use Rattle.group.specs.Group.{Decoded, good, bad, isGood, groupOf, partnersOf}
 use Rattle.group.specs.declared.fault.Fault.{Fault}
 use Rattle.group.specs.Fault.{refusalOf}
@@ -71,11 +71,11 @@ pub record GroupIn (k : Known) (key i : ℕ) (A : List ℕ → Type 0) : Type 0 
 abbrev pub FaultIn : Known → ℕ → ℕ → Fault → Type 0
 FaultIn k key i f = GroupIn k key i (λ g. groupOf g ≡ bad f)
 
--- it has none, and the edges before it cannot be summed, or pass the edge count with its own
+-- it has none, and where its edges begin cannot be told, or they pass the edge count
 abbrev pub UnsummedIn : Known → ℕ → ℕ → Type 0
 UnsummedIn k key i =
     GroupIn k key i
-    (λ g. (isGood (groupOf g) ≡ true) × (within (k .edgecount) (length (partnersOf (groupOf g))) (edgesBefore (k .partners) (k .offsets) (k .bits / 8) i) ≡ false))
+    (λ g. (isGood (groupOf g) ≡ true) × (within (k .edgecount) (length (partnersOf (groupOf g))) (before k i (length (partnersOf (groupOf g)))) ≡ false))
 
 -- the group of key i is found, and its two offsets fall or pass the partner range
 pub record MisplacedIn (k : Known) (key i : ℕ) : Type 0 where
@@ -84,17 +84,17 @@ pub record MisplacedIn (k : Known) (key i : ℕ) : Type 0 where
   pub misplaced : (offsetAt (k .offsets) (k .bits / 8) (i + 1) < offsetAt (k .offsets) (k .bits / 8) i) ⊎ (length (k .partners) < offsetAt (k .offsets) (k .bits / 8) (i + 1))
 
 module _ (full : Bool) (rooms : Rooms) (k : Known) where
-  abbrev starts : ℕ → ℕ
-  starts i = offsetAt (k .offsets) (k .bits / 8) i
+  abbrev begins : ℕ → ℕ
+  begins i = offsetAt (k .offsets) (k .bits / 8) i
 
   abbrev group : ℕ → List ℕ
-  group i = part (k .partners) (starts i) (starts (i + 1))
+  group i = part (k .partners) (begins i) (begins (i + 1))
 
   abbrev misses : ℕ → Bool
-  misses i = misplaced (k .partners) (starts i) (starts (i + 1))
+  misses i = misplaced (k .partners) (begins i) (begins (i + 1))
 
   abbrev unsummed : ℕ → ℕ → Bool
-  unsummed i d = full && not (within (k .edgecount) d (before full rooms k i))
+  unsummed i d = full && not (within (k .edgecount) d (before k i d))
 
   late-numbers : (i d : ℕ) → Numbers (19 ∷ 20 ∷ []) (refuse (Refusal.Degrees i) (unsummed i d) ⊳ refuse (Refusal.Room d) (short full rooms d))
   late-numbers i d =
@@ -139,26 +139,26 @@ module _ (full : Bool) (rooms : Rooms) (k : Known) where
       look-back j c q e = ap (onFound full rooms k) q ∙ group-refused j c r .1 e
 
     -- the two offsets of a group that is not misplaced
-    placed : (j : ℕ) → misses j ≡ false → (starts j ≤ starts (j + 1)) × (starts (j + 1) ≤ length (k .partners))
+    placed : (j : ℕ) → misses j ≡ false → (begins j ≤ begins (j + 1)) × (begins (j + 1) ≤ length (k .partners))
     placed j e =
-        let m = either-parts (Refusal.Offset j) (ltb (starts (j + 1)) (starts j)) (ltb (length (k .partners)) (starts (j + 1))) (refuse-fine (Refusal.Offset j) (misses j) .1 e) in
+        let m = either-parts (Refusal.Offset j) (ltb (begins (j + 1)) (begins j)) (ltb (length (k .partners)) (begins (j + 1))) (refuse-fine (Refusal.Offset j) (misses j) .1 e) in
         (ltb-false _ _ (m .0), ltb-false _ _ (m .1))
 
-    not-missed : (j : ℕ) → starts j ≤ starts (j + 1) → starts (j + 1) ≤ length (k .partners) → misses j ≡ false
-    not-missed j a b = rw (le-ltb (starts (j + 1)) (starts j) a, le-ltb (length (k .partners)) (starts (j + 1)) b)
+    not-missed : (j : ℕ) → begins j ≤ begins (j + 1) → begins (j + 1) ≤ length (k .partners) → misses j ≡ false
+    not-missed j a b = rw (le-ltb (begins (j + 1)) (begins j) a, le-ltb (length (k .partners)) (begins (j + 1)) b)
 
-    fallen : (j : ℕ) → misses j ≡ true → (starts (j + 1) < starts j) ⊎ (length (k .partners) < starts (j + 1))
+    fallen : (j : ℕ) → misses j ≡ true → (begins (j + 1) < begins j) ⊎ (length (k .partners) < begins (j + 1))
     fallen j e =
-        elim (decLt (starts (j + 1)) (starts j)) [
+        elim (decLt (begins (j + 1)) (begins j)) [
           | yes h ↦ inl h
-          | no h ↦ elim (decLt (length (k .partners)) (starts (j + 1))) [
+          | no h ↦ elim (decLt (length (k .partners)) (begins (j + 1))) [
             | yes g ↦ inr g
             | no g ↦ let z : _≡_ {A = ℕ} 0 1 = cc (e, not-missed j (omega arith) (omega arith)) in absurd (omega arith)
           ]
         ]
 
-    missed : (j : ℕ) → (starts (j + 1) < starts j) ⊎ (length (k .partners) < starts (j + 1)) → misses j ≡ true
-    missed j = ⊎-elim (λ h. rw (lt-ltb (starts (j + 1)) (starts j) h)) (λ h. second (ltb (starts (j + 1)) (starts j)) (lt-ltb (length (k .partners)) (starts (j + 1)) h))
+    missed : (j : ℕ) → (begins (j + 1) < begins j) ⊎ (length (k .partners) < begins (j + 1)) → misses j ≡ true
+    missed j = ⊎-elim (λ h. rw (lt-ltb (begins (j + 1)) (begins j) h)) (λ h. second (ltb (begins (j + 1)) (begins j)) (lt-ltb (length (k .partners)) (begins (j + 1)) h))
       where
         second : (a : Bool) {b : Bool} → b ≡ true → (a || b) ≡ true
         second true e = refl
@@ -252,7 +252,7 @@ module _ (full : Bool) (rooms : Rooms) (k : Known) where
         found : ((j : ℕ) × (c : ℕ) × (findIn (k .keys) (k .keycount) key ≡ Found.At j c) × Here j) → (full ≡ true) × UnsummedIn k key i
         found (j, c, q, t) =
             let o = placed j (t .0) in
-            let u = and-parts full (not (within (k .edgecount) (length (partnersAt full rooms k j)) (before full rooms k j))) (t .2) in
+            let u = and-parts full (not (within (k .edgecount) (length (partnersAt full rooms k j)) (before k j (length (partnersAt full rooms k j))))) (t .2) in
             let here : UnsummedIn k key j = record { compared = c; found = q; rises = o .0; inside = o .1; group = (t .1, not-true _ (u .1)) } in
             (u .0, rw (t .3) at here)
 

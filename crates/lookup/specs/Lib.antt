@@ -3,3 +3,5 @@ pub mod Record
 pub mod Groups
 pub mod Calls
 pub mod Given
+pub mod Starts
+pub mod Cases

@@ -18,7 +18,7 @@ use Rattle.frame.specs.Open.{Known, knownOf, recordGood, openOf, offsetAt}
 use Rattle.index.specs.declared.keys.Found.{Found}
 use Rattle.index.specs.Find.{findIn}
 use Rattle.degrees.specs.declared.Sum.{Sum}
-use Rattle.degrees.specs.Degrees.{misplaced, edgesBefore}
+use Rattle.degrees.specs.Degrees.{misplaced, edgesBefore, startOf}
 use Rattle.group.specs.Fault.{refusalOf}
 use Rattle.group.specs.Group.{Decoded, good, bad, groupOf, partnersOf, bytesOf}
 use Rattle.lookup.specs.declared.Looked.{Looked}
@@ -67,7 +67,11 @@ unfoldable pub marksFrom : ℕ → List ℕ → ℕ → List ℕ
 marksFrom zero s e = []
 marksFrom (suc d) s e = markAt s e ∷ marksFrom d s (e + 1)
 
--- "the sum through this group" is at most the edge count
+-- where the d edges of group i begin: by the start index where there is one, otherwise the sum of the earlier degrees
+unfoldable pub before : Known → ℕ → ℕ → Sum
+before k i d = pick (k .indexed) (startOf (k .starts) i d) (edgesBefore (k .partners) (k .offsets) (k .bits / 8) i)
+
+-- "the sum through this group" is at most the edge count; by the start index, "an end above the edge count" is refused
 unfoldable pub within : ℕ → ℕ → Sum → Bool
 within edges d (Sum.Total s) = leb (s + d) edges
 within edges d Sum.Bad = false
@@ -90,14 +94,11 @@ module _ (full : Bool) (rooms : Rooms) where
     abbrev pub partnersAt : ℕ → List Id
     partnersAt i = partnersOf (groupOf (part (k .partners) (offset i) (offset (i + 1))))
 
-    abbrev pub before : ℕ → Sum
-    before i = edgesBefore (k .partners) (k .offsets) (k .bits / 8) i
-
     -- "group faults in reading order, 19, 20"; "Partners alone never give 19"
     unfoldable pub lookCheck : ℕ → ℕ → Check
     lookCheck i d =
         groupFault (k .partners) (offset i) (offset (i + 1)) i
-        ⊳ refuse (Refusal.Degrees i) (full && not (within (k .edgecount) d (before i)))
+        ⊳ refuse (Refusal.Degrees i) (full && not (within (k .edgecount) d (before k i d)))
         ⊳ refuse (Refusal.Room d) (short full rooms d)
 
     -- the group of key i, after c comparisons
@@ -105,7 +106,7 @@ module _ (full : Bool) (rooms : Rooms) where
     lookGroup i c =
         let d : ℕ = length (partnersAt i) in
         outcome (lookCheck i d)
-        (found i c (partnersAt i) (pick full (logsFrom d (k .logs) (firstOf (before i))) []) (pick full (marksFrom d (k .dead) (firstOf (before i))) []))
+        (found i c (partnersAt i) (pick full (logsFrom d (k .logs) (firstOf (before k i d))) []) (pick full (marksFrom d (k .dead) (firstOf (before k i d))) []))
 
     unfoldable pub onFound : Found → Outcome
     onFound (Found.At i c) = lookGroup i c

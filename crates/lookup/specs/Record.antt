@@ -19,6 +19,7 @@ pub record Holds (f : List ℕ) (o : Opened) : Type 0 where
   pub partners : o .partners .start + o .partners .len ≤ length f
   pub logs : o .logs .start + o .logs .len ≤ length f
   pub dead : o .marked ≡ true → o .dead .start + o .dead .len ≤ length f
+  pub starts : o .indexed ≡ true → o .starts .start + o .starts .len ≤ length f
   pub few : o .keycount ≤ kind.mostKeys
   pub edges : o .edgecount ≤ kind.mostEdges
   pub narrow : 3 ≤ o .bits / 8
@@ -27,6 +28,7 @@ pub record Holds (f : List ℕ) (o : Opened) : Type 0 where
   pub offsetbytes : length (bytesAt f (o .offsets)) ≡ kind.offsetsLen (o .keycount) (o .bits / 8)
   pub logbytes : length (bytesAt f (o .logs)) ≡ kind.logsLen (o .edgecount)
   pub deadbytes : o .marked ≡ true → length (bytesAt f (o .dead)) ≡ kind.tombstonesLen (o .edgecount)
+  pub startbytes : o .indexed ≡ true → length (bytesAt f (o .starts)) ≡ kind.startsLen (o .keycount)
   pub partnerbytes : length (bytesAt f (o .partners)) ≤ kind.mostBytes
 
 -- a range within the file has its length
@@ -48,6 +50,7 @@ holds f o e =
       partners = r .partners;
       logs = r .logs;
       dead = r .dead;
+      starts = r .starts;
       few = s .few;
       edges = s .edges;
       narrow = w .0;
@@ -56,5 +59,6 @@ holds f o e =
       offsetbytes = long f (o .offsets) (kind.offsetsLen (o .keycount) (o .bits / 8)) (r .offsets) (s .offsets);
       logbytes = long f (o .logs) (kind.logsLen (o .edgecount)) (r .logs) (s .logs);
       deadbytes = λ m. long f (o .dead) (kind.tombstonesLen (o .edgecount)) (r .dead m) (s .dead m);
+      startbytes = λ m. long f (o .starts) (kind.startsLen (o .keycount)) (r .starts m) (s .starts m);
       partnerbytes = omega arith;
     }

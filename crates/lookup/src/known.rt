@@ -5,15 +5,16 @@ ghost use lib.ListN.{length};
 ghost use Rattle.base.specs.Over.{over};
 ghost use Rattle.codes.specs.Ids.{idNumber};
 ghost use Rattle.frame.specs.Kind.{logSize, mostEdges};
-ghost use Rattle.frame.specs.Open.{bytesAt, offsetAt};
+ghost use Rattle.frame.specs.Open.{bytesAt, knownOf, offsetAt};
 ghost use Rattle.index.specs.Find.{findIn};
-ghost use Rattle.degrees.specs.Degrees.{edgesBefore, capped};
-ghost use Rattle.lookup.specs.Lookup.{markAt, logsFrom, marksFrom};
+ghost use Rattle.degrees.specs.Degrees.{capped};
+ghost use Rattle.lookup.specs.Lookup.{before, markAt, logsFrom, marksFrom};
 ghost use Rattle.lookup.specs.Record.{Holds};
 use codes::ids::Id;
 use codes::little::le64;
 use degrees::Sum;
 use degrees::edges_before;
+use degrees::start_of;
 use frame::Opened;
 use frame::Row;
 use frame::bytes_of;
@@ -40,11 +41,16 @@ pub fn offset_of(file: &[u8], o: Opened, i: u64) -> usize
     offset_at(bytes_of(file, offsets), (o.bits / 8) as usize, i as usize) as usize
 }
 
-// The edges before group i, if they are no more than the file has.
-pub fn edges_of(file: &[u8], o: Opened, i: u64) -> Sum
+// Where the d edges of group i begin, if that is no more than the file has: as the start index says, or after all edges of the
+// groups before it.
+pub fn edges_of(file: &[u8], o: Opened, i: u64, d: u64) -> Sum
     requires { ⌜ Holds (now file) o × (i < o .keycount) ⌝ }
-    ensures { λ r. ⌜ r ≡ capped (o .edgecount) (edgesBefore (bytesAt (now (file .entry)) (o .partners)) (bytesAt (now (file .entry)) (o .offsets)) (o .bits / 8) i) ⌝ }
+    ensures { λ r. ⌜ r ≡ capped (o .edgecount) (before (knownOf (now (file .entry)) o) i d) ⌝ }
 {
+    if o.indexed {
+        let starts = o.starts;
+        return start_of(bytes_of(file, starts), i as usize, d, o.edgecount);
+    }
     let partners = o.partners;
     let offsets = o.offsets;
     edges_before(

@@ -62,7 +62,7 @@ fn give_marks(file: &[u8], o: Opened, first: u64, d: u64, out: &mut [u8])
     fill_marks(tombstones_of(file, o), first as usize, d as usize, out);
 }
 
-// An earlier degree that is unreadable or 0, or edges past the edge count.
+// An earlier degree that is unreadable or 0, a start index that gives the group another degree, or edges past the edge count.
 fn degrees_refused(i: u64) -> Looked
     ensures { λ r. ⌜ r ≡ Looked.Refused (Refusal.Degrees i) ⌝ }
 {
@@ -98,7 +98,7 @@ fn group_edges(
     requires { ⌜ Holds (now file) o × (i < o .keycount) × (group (now file) o i ≡ GroupSeen.Good degree) ⌝ }
     ensures { λ r. ⌜ WholeBy (λ rooms. lookGroup true rooms (knownOf (now (file .entry)) o) i compared) r (now (out .entry)) (now (out .exit)) (now (logs .entry)) (now (logs .exit)) (now (marks .entry)) (now (marks .exit)) ⌝ }
 {
-    match edges_of(file, o, i) {
+    match edges_of(file, o, i, degree) {
         Sum::Bad => degrees_refused(i),
         Sum::Total { edges } => {
             if o.edgecount - edges < degree {

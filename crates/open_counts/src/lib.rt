@@ -1,7 +1,7 @@
 // Rule 12: counts, lengths and presence.
 ghost use mathlib.Core.Path.{_≡_};
-ghost use mathlib.Core.Bool.{not, _||_, Bool·beq};
-ghost use Prim.Native.Nat.{_/_, _%_, _<_};
+ghost use mathlib.Core.Bool.{not, _&&_, _||_, Bool·beq};
+ghost use Prim.Native.Nat.{_/_, _%_, _≤_, _<_};
 ghost use lib.Dec.{eqb, leb};
 ghost use Rattle.frame.specs.Kind as kind;
 ghost use Rattle.frame.specs.Frame.{widthGood, sizesGood, presenceGood, countsGood};
@@ -11,6 +11,7 @@ use frame::bounds::Bounds;
 use frame::kind::Keys;
 use frame::kind::Logs;
 use frame::kind::Offsets;
+use frame::kind::Starts;
 use frame::kind::Tombstones;
 
 // Offset bits, which are asked of a lent record too.
@@ -29,6 +30,19 @@ pub fn width_good(bits: u8) -> bool
     bits == 48
 }
 
+// The lengths of the tombstones and of the start index, where there are some.
+fn options_good(o: Opened) -> bool
+    requires { ⌜ (o .keycount ≤ kind.mostKeys) × (o .edgecount ≤ kind.mostEdges) ⌝ }
+    ensures { λ r. ⌜ r ≡ ((not (o .marked) || eqb (o .dead .len) (kind.tombstonesLen (o .edgecount))) && (not (o .indexed) || eqb (o .starts .len) (kind.startsLen (o .keycount)))) ⌝ }
+{
+    let dead = o.dead;
+    let starts = o.starts;
+    if !implied(o.marked, dead.len == Tombstones::bytes(o.edgecount)) {
+        return false;
+    }
+    implied(o.indexed, starts.len == Starts::bytes(o.keycount))
+}
+
 // Bounds and lengths, which are asked of a lent record too.
 pub fn sizes_good(o: Opened) -> bool
     ensures { λ r. ⌜ r ≡ sizesGood o ⌝ }
@@ -44,7 +58,6 @@ pub fn sizes_good(o: Opened) -> bool
     let keys = o.keys;
     let offsets = o.offsets;
     let logs = o.logs;
-    let dead = o.dead;
     if keys.len != Keys::bytes(n) {
         return false;
     }
@@ -54,10 +67,7 @@ pub fn sizes_good(o: Opened) -> bool
     if logs.len != Logs::bytes(e) {
         return false;
     }
-    if !o.marked {
-        return true;
-    }
-    dead.len == Tombstones::bytes(e)
+    options_good(o)
 }
 
 // No edges without keys.

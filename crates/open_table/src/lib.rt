@@ -30,6 +30,7 @@ use frame::kind::Offsets;
 use frame::kind::Partners;
 use frame::kind::Properties;
 use frame::kind::Reserved;
+use frame::kind::Starts;
 use frame::kind::Tombstones;
 use refusal::Refusal;
 
@@ -217,6 +218,7 @@ fn framed_of(
     let partners = places[Partners::SLOT];
     let logs = places[Logs::SLOT];
     let dead = places[Tombstones::SLOT];
+    let starts = places[Starts::SLOT];
     let fences = places[Fences::SLOT];
     let keycount = le64(b, b.len() - Footer::COUNTS);
     let edgecount = le64(b, b.len() - 9);
@@ -227,6 +229,8 @@ fn framed_of(
         logs,
         marked: met[Tombstones::SLOT],
         dead,
+        indexed: met[Starts::SLOT],
+        starts,
         keycount,
         edgecount,
         bits: b[b.len() - 1],

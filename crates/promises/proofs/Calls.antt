@@ -28,7 +28,7 @@ use Rattle.reader.specs.Header.{headerOf}
 use Rattle.agreement.specs.SameEdges.{ofKey, Enough}
 use Rattle.agreement.specs.Heading.{headerFor}
 use Rattle.write_file.specs.declared.Written.{Written}
-use Rattle.demand2.specs.Demand2.{fileFor, flagsFor, Lawful, demand-2}
+use Rattle.demand2.specs.Demand2.{fileFor, minorFor, flagsFor, Lawful, demand-2}
 use Rattle.summary.specs.Summary.{summaryOf, summarisedOf}
 use Rattle.promises.specs.Summary.{summed, degree-summary}
 use Rattle.promises.specs.Calls.{needs, writes, reads, PartnersGiven, EdgesGiven, partners-given, edges-given}
@@ -75,7 +75,7 @@ module _ (s : List ℕ) (lawful : Lawful s) where
   -- ---- `header(file)`
 
   module _ (κs : Lfts (c-header.signature .lifetimes)) (a : Args c-header.signature κs) (r : Res c-header.signature κs) (w : Lasts c-header.ended κs a) where
-    pub header-written : now (a .0) ≡ fileFor s → c-header-reads.Post κs a r (atExit c-header.ended κs a w) → r ≡ HeaderRead.Good (headerFor 0 (flagsFor s) s)
+    pub header-written : now (a .0) ≡ fileFor s → c-header-reads.Post κs a r (atExit c-header.ended κs a w) → r ≡ HeaderRead.Good (headerFor (minorFor s) (flagsFor s) s)
     header-written file call = call ∙ ap headerOf file ∙ demand-2 s lawful .says-header
 
   -- ---- `check(file)` and `read_out(file, out)`

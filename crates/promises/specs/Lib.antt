@@ -6,3 +6,4 @@ pub mod Marked
 pub mod Running
 pub mod Summary
 pub mod Fakes
+pub mod Starts

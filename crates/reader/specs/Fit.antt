@@ -1,4 +1,4 @@
--- What rules 1 to 12 and 36 give rules 13 to 15: sections that lie within the file, and lengths that fit the counts.
+-- What rules 1 to 12 and 36 give rules 13 to 15 and 37: sections that lie within the file, and lengths that fit the counts.
 use mathlib.Core.Path.{_≡_, refl, sym, ap, _∙_}
 use Prim.Native.Nat.{ℕ, _+_, _-_, _/_, _≤_}
 use native.Mathlib.Omega.{arith}
@@ -14,7 +14,7 @@ use Rattle.frame.specs.declared.Framing.{Framing}
 use Rattle.frame.specs.declared.Opening.{Opening}
 use Rattle.frame.specs.Frame.{frameCheck}
 use Rattle.frame.specs.Kind as kind
-use Rattle.frame.specs.Open.{recordFrom, recordOf, framedFrom, framedOf, framing, bytesAt, knownOf, keysFrom, offsetsFrom, fencesGood, contentCheck, fileCheck, opening, openOf}
+use Rattle.frame.specs.Open.{recordFrom, recordOf, framedFrom, framedOf, framing, bytesAt, knownOf, keysFrom, offsetsCheck, fencesGood, indexedCheck, contentCheck, fileCheck, opening, openOf}
 use Rattle.frame.specs.Open.Laws.{Frames, frames-parts, frames-sized, frames-width, frames-within, width-bytes, good-framing, refused-framing}
 
 pub record Fit (size : ℕ) (x : Framed) : Type 0 where
@@ -22,9 +22,11 @@ pub record Fit (size : ℕ) (x : Framed) : Type 0 where
   pub offsets : x .opened .offsets .start + x .opened .offsets .len ≤ size
   pub partners : x .opened .partners .start + x .opened .partners .len ≤ size
   pub fences : x .fences .start + x .fences .len ≤ size
+  pub starts : x .opened .indexed ≡ true → x .opened .starts .start + x .opened .starts .len ≤ size
   pub few : x .opened .keycount ≤ kind.mostKeys
   pub keylen : x .opened .keys .len ≡ kind.keysLen (x .opened .keycount)
   pub offsetlen : x .opened .offsets .len ≡ kind.offsetsLen (x .opened .keycount) (x .opened .bits / 8)
+  pub startlen : x .opened .indexed ≡ true → x .opened .starts .len ≡ kind.startsLen (x .opened .keycount)
   pub narrow : 3 ≤ x .opened .bits / 8
   pub wide : x .opened .bits / 8 ≤ 6
 
@@ -33,15 +35,17 @@ pub fit-of : (f : List ℕ) → Frames f → Fit (length f) (framedOf f)
 unfolding framedOf framedFrom recordFrom recordOf
 fit-of f s =
     let z = frames-sized s in
-    let w = width-bytes _ (frames-width s) in
+    let w = width-bytes (framedOf f .opened .bits) (frames-width s) in
     let inside = frames-within s in record {
       keys = omega (arith, inside kind.keys);
       offsets = omega (arith, inside kind.offsets);
       partners = omega (arith, inside kind.partners);
       fences = omega (arith, inside kind.fences);
+      starts = λ m. omega (arith, inside kind.starts);
       few = z .few;
       keylen = z .keys;
       offsetlen = z .offsets;
+      startlen = z .starts;
       narrow = w .0;
       wide = w .1;
     }
@@ -90,20 +94,28 @@ module _ (f : List ℕ) where
     unfolding openOf opening
     open-good d = rw (check Check.Fine d) (ap Opening.Good (record-is ∙ ap (λ (y : Framed). y .opened) same))
 
--- ---- rules 13 to 15 over lent bytes
+-- ---- rules 13 to 15 over lent bytes, then 37
 
 pub content-is : (f : List ℕ) (x : Framed) {keys offsets fences : List ℕ} {len : ℕ} {r : Check}
     → keys ≡ bytesAt f (x .opened .keys) → offsets ≡ bytesAt f (x .opened .offsets) → fences ≡ bytesAt f (x .fences)
     → len ≡ length (bytesAt f (x .opened .partners))
     → r ≡ (keysFrom (x .opened .keycount - 1) keys 1
-    ⊳ offsetsFrom (x .opened .keycount + 1) offsets (x .opened .bits / 8) (x .opened .keycount) len 0
+    ⊳ offsetsCheck offsets (x .opened .bits / 8) (x .opened .keycount) len
     ⊳ refuse Refusal.Fences (x .fenced && not (fencesGood fences keys (x .opened .keycount))))
-    → r ≡ contents f x
+    → (r ⊳ indexedCheck (knownOf f (x .opened))) ≡ contents f x
 unfolding contentCheck knownOf
-content-is f x k o g l e = e
+content-is f x {keys} {offsets} {fences} {len} k o g l e =
+    let first : Check = keysFrom (x .opened .keycount - 1) keys 1 in
+    let second : Check = offsetsCheck offsets (x .opened .bits / 8) (x .opened .keycount) len in
+    let third : Check = refuse Refusal.Fences (x .fenced && not (fencesGood fences keys (x .opened .keycount))) in
+    let last : Check = indexedCheck (knownOf f (x .opened)) in
+    ap (λ (c : Check). c ⊳ last) e
+    ∙ then-assoc first (second ⊳ third) last
+    ∙ ap (λ (c : Check). first ⊳ c) (then-assoc second third last)
     ∙ (λ i. keysFrom (x .opened .keycount - 1) (k i) 1
-    ⊳ offsetsFrom (x .opened .keycount + 1) (o i) (x .opened .bits / 8) (x .opened .keycount) (l i) 0
-    ⊳ refuse Refusal.Fences (x .fenced && not (fencesGood (g i) (k i) (x .opened .keycount))))
+    ⊳ offsetsCheck (o i) (x .opened .bits / 8) (x .opened .keycount) (l i)
+    ⊳ refuse Refusal.Fences (x .fenced && not (fencesGood (g i) (k i) (x .opened .keycount)))
+    ⊳ last)
 
 -- ---- rules 13 to 15 with fences and without
 

@@ -29,6 +29,7 @@ module _ (f : List ℕ) (o : Opened) (op : openOf f ≡ Opening.Good o) where
     partners = lies kind.partners;
     logs = lies kind.logs;
     dead = λ m. lies kind.tombstones;
+    starts = λ m. lies kind.starts;
     width = frames-width (opens .frames);
     sized = frames-sized (opens .frames);
   })
@@ -43,4 +44,8 @@ module _ (f : List ℕ) (o : Opened) (op : openOf f ≡ Opening.Good o) where
 
   -- the offsets rise from 0 to the partner section's length
   pub opened-offsets : OffsetsRise (bytesAt f (o .offsets)) (o .bits / 8) (o .keycount) (length (bytesAt f (o .partners)))
-  opened-offsets = rw (← opens-record f o op) (offsets-rise _ _ _ _ (opens .offsets))
+  opened-offsets = rw (← opens-record f o op) (offsets-rise _ _ _ _ _ (opens .offsets))
+
+  -- the entries of the start index rise from 0 to the edge count
+  pub opened-starts : o .indexed ≡ true → OffsetsRise (bytesAt f (o .starts)) kind.startSize (o .keycount) (o .edgecount)
+  opened-starts = rw (← opens-record f o op) (λ m. offsets-rise _ _ _ _ _ (opens .starts m))

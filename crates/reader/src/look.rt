@@ -6,7 +6,7 @@ ghost use Prim.Native.Nat.{_+_};
 ghost use lib.Dec.{leb};
 ghost use lib.ListN.{length};
 ghost use Rattle.codes.specs.Ids.{idAt};
-ghost use Rattle.frame.specs.Open.{recordWithin};
+ghost use Rattle.frame.specs.Open.{optionsInside, recordWithin};
 ghost use Rattle.lookup.specs.declared.Looked.{Looked};
 ghost use Rattle.lookup.specs.Lookup.{lookOf, lookWith};
 ghost use Rattle.lookup.specs.Calls.{alone, Alone, WholeBy};
@@ -34,14 +34,26 @@ fn inside(size: u64, r: Range) -> bool
     r.len <= size - r.start
 }
 
-fn dead_inside(size: u64, o: Opened) -> bool
-    ensures { λ ok. ⌜ ok ≡ (not (o .marked) || leb (o .dead .start + o .dead .len) size) ⌝ }
+// The same of a range that is looked at only where its section is there.
+fn inside_if(there: bool, size: u64, r: Range) -> bool
+    ensures { λ ok. ⌜ ok ≡ (not there || leb (r .start + r .len) size) ⌝ }
 {
-    if !o.marked {
+    if !there {
         return true;
     }
+    inside(size, r)
+}
+
+// Tombstones and start index.
+fn options_inside(size: u64, o: Opened) -> bool
+    ensures { λ ok. ⌜ ok ≡ optionsInside size o ⌝ }
+{
     let dead = o.dead;
-    inside(size, dead)
+    let starts = o.starts;
+    if !inside_if(o.marked, size, dead) {
+        return false;
+    }
+    inside_if(o.indexed, size, starts)
 }
 
 // Rule 21, of a file of that size.
@@ -67,7 +79,7 @@ fn record_good(size: u64, o: Opened) -> bool
     if !inside(size, logs) {
         return false;
     }
-    if !dead_inside(size, o) {
+    if !options_inside(size, o) {
         return false;
     }
     if !width_good(o.bits) {

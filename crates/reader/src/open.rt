@@ -1,4 +1,4 @@
-// Opening a file: rules 1 to 15, with 36.
+// Opening a file: rules 1 to 15, with 36, then 37.
 ghost use mathlib.Core.Path.{_≡_};
 ghost use mathlib.Core.Bool.{not, _&&_};
 ghost use Prim.Native.Nat.{_+_, _-_, _*_, _≤_};
@@ -6,7 +6,7 @@ ghost use lib.ListN.{length};
 ghost use Rattle.refusal.specs.declared.Refusal.{Refusal};
 ghost use Rattle.refusal.specs.Check.{_⊳_, refuse};
 ghost use Rattle.frame.specs.Kind as kind;
-ghost use Rattle.frame.specs.Open.{keysFrom, offsetsFrom, fencesGood, knownOf, bytesAt, contentCheck, openOf};
+ghost use Rattle.frame.specs.Open.{keysFrom, offsetsCheck, fencesGood, indexedCheck, knownOf, bytesAt, contentCheck, openOf};
 ghost use Rattle.reader.specs.Fit.{Fit};
 use frame::Framed;
 use frame::Framing;
@@ -15,6 +15,7 @@ use frame::bytes_of;
 use index::fences::fences_good;
 use index::keys::keys_check;
 use index::offsets::offsets_check;
+use index::starts::starts_check;
 use open_file::frames::frame_of;
 use refusal::Check;
 use refusal::Refusal;
@@ -22,7 +23,7 @@ use refusal::Refusal;
 // Rules 13 and 14: keys, and offsets of w bytes into a partner section of `len` bytes.
 fn index_check(keys: &[u8], offsets: &[u8], n: usize, w: usize, len: u64) -> Check
     requires { ⌜ (n ≤ kind.mostKeys) × (n * kind.keySize ≤ length (now keys)) × (3 ≤ w) × (w ≤ 6) × (kind.offsetsLen n w ≤ length (now offsets)) ⌝ }
-    ensures { λ r. ⌜ r ≡ keysFrom (n - 1) (now (keys .entry)) 1 ⊳ offsetsFrom (n + 1) (now (offsets .entry)) w n len 0 ⌝ }
+    ensures { λ r. ⌜ r ≡ keysFrom (n - 1) (now (keys .entry)) 1 ⊳ offsetsCheck (now (offsets .entry)) w n len ⌝ }
 {
     match keys_check(keys, n) {
         Check::Bad { refusal } => Check::Bad { refusal },
@@ -53,7 +54,7 @@ fn content_check(
     len: u64,
 ) -> Check
     requires { ⌜ (n ≤ kind.mostKeys) × (n * kind.keySize ≤ length (now keys)) × (3 ≤ w) × (w ≤ 6) × (kind.offsetsLen n w ≤ length (now offsets)) ⌝ }
-    ensures { λ r. ⌜ r ≡ keysFrom (n - 1) (now (keys .entry)) 1 ⊳ offsetsFrom (n + 1) (now (offsets .entry)) w n len 0 ⊳ refuse Refusal.Fences (fenced && not (fencesGood (now (fences .entry)) (now (keys .entry)) n)) ⌝ }
+    ensures { λ r. ⌜ r ≡ keysFrom (n - 1) (now (keys .entry)) 1 ⊳ offsetsCheck (now (offsets .entry)) w n len ⊳ refuse Refusal.Fences (fenced && not (fencesGood (now (fences .entry)) (now (keys .entry)) n)) ⌝ }
 {
     if !fenced {
         return index_check(keys, offsets, n, w, len);
@@ -64,7 +65,20 @@ fn content_check(
     }
 }
 
-// The same of a file whose frame is known.
+// Rule 37, where there is a start index.
+fn starts_of(file: &[u8], x: Framed) -> Check
+    requires { ⌜ Fit (length (now file)) x ⌝ }
+    ensures { λ r. ⌜ r ≡ indexedCheck (knownOf (now (file .entry)) (x .opened)) ⌝ }
+{
+    let o = x.opened;
+    if o.indexed {
+        let starts = o.starts;
+        return starts_check(bytes_of(file, starts), o.keycount as usize, o.edgecount);
+    }
+    Check::Fine
+}
+
+// Rules 13 to 15 and 37 of a file whose frame is known.
 fn content_of(file: &[u8], x: Framed) -> Check
     requires { ⌜ Fit (length (now file)) x ⌝ }
     ensures { λ r. ⌜ r ≡ contentCheck (knownOf (now (file .entry)) (x .opened)) (x .fenced) (bytesAt (now (file .entry)) (x .fences)) ⌝ }
@@ -75,7 +89,7 @@ fn content_of(file: &[u8], x: Framed) -> Check
     let partners = o.partners;
     let fences = x.fences;
     let len = bytes_of(file, partners).len() as u64;
-    content_check(
+    match content_check(
         bytes_of(file, keys),
         bytes_of(file, offsets),
         x.fenced,
@@ -83,7 +97,10 @@ fn content_of(file: &[u8], x: Framed) -> Check
         o.keycount as usize,
         (o.bits / 8) as usize,
         len,
-    )
+    ) {
+        Check::Bad { refusal } => Check::Bad { refusal },
+        Check::Fine => starts_of(file, x),
+    }
 }
 
 // What opening gives for any bytes: where the sections lie and the counts, or the first refusal.

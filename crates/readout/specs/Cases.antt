@@ -9,7 +9,7 @@ use Rattle.xxh3_spec.specs.Xxh3.{mul, fold, xorshift, rotl, swap, rrmxmx, secre
 use Rattle.refusal.specs.declared.Refusal.{Refusal}
 use Rattle.refusal.specs.declared.Check.{Check}
 use Rattle.frame.specs.Frame.{rowAt, rowsFrom, endFrom, rowsOf, endOf, has, repeated, sectionOf, all, kindsGood, tableGood, eachRow, ranges, sizesGood, presenceGood, countsGood, bodyOf, sizeCheck, headCheck, tailCheck, sumCheck, frameCheck, recordFrom, recordOf, framedFrom, framedOf, shapeCheck, endsCheck, footerCheck, rowsCheck}
-use Rattle.frame.specs.Open.{knownOf, keysFrom, offsetGood, offsetsFrom, fenceGood, fencesFrom, fencesGood, contentCheck, fileCheck}
+use Rattle.frame.specs.Open.{knownOf, keysFrom, offsetGood, risingFrom, fenceGood, fencesFrom, fencesGood, contentCheck, fileCheck}
 use Rattle.frame.specs.Cases.{ids, headingOnly, oneEdge}
 use Rattle.group.specs.Group.{onVarint, splitStep, denseStep, stepAt, onStep, cons, walkFrom, degreeOf, headOf, onHead, groupOf, partnersOf}
 use Rattle.lookup.specs.Lookup.{groupCheck}
@@ -19,13 +19,13 @@ use Rattle.readout.specs.Edges.{edgesFrom, readFrom, edgesIn}
 use Rattle.readout.specs.ReadOut.{headingIn, batchIn}
 
 pub cases-pass : (fullCheck headingOnly ≡ Check.Fine) × (fullCheck oneEdge ≡ Check.Fine)
-unfolding headingOnly oneEdge leAt beAt idAt halvesAt lastByte varFrom varintAt mul fold xorshift rotl swap rrmxmx secret of1to3 of4to8 of9to16 small pair mixStep inward of17to128 onward of129to240 lane accumulate stir scramble turn runOn startLanes twice merge finish large xxh3 rowAt rowsFrom endFrom rowsOf endOf has repeated sectionOf all kindsGood tableGood eachRow ranges sizesGood presenceGood countsGood bodyOf sizeCheck headCheck tailCheck sumCheck frameCheck recordFrom recordOf framedFrom framedOf knownOf keysFrom offsetGood offsetsFrom fenceGood fencesFrom fencesGood contentCheck fileCheck onVarint splitStep denseStep stepAt onStep cons walkFrom degreeOf headOf onHead groupOf partnersOf groupCheck sumsFrom denseOf groupsFrom degreesFrom denseFrom deadFrom dataGood edgesCheck fullCheck shapeCheck endsCheck footerCheck rowsCheck
+unfolding headingOnly oneEdge leAt beAt idAt halvesAt lastByte varFrom varintAt mul fold xorshift rotl swap rrmxmx secret of1to3 of4to8 of9to16 small pair mixStep inward of17to128 onward of129to240 lane accumulate stir scramble turn runOn startLanes twice merge finish large xxh3 rowAt rowsFrom endFrom rowsOf endOf has repeated sectionOf all kindsGood tableGood eachRow ranges sizesGood presenceGood countsGood bodyOf sizeCheck headCheck tailCheck sumCheck frameCheck recordFrom recordOf framedFrom framedOf knownOf keysFrom offsetGood risingFrom fenceGood fencesFrom fencesGood contentCheck fileCheck onVarint splitStep denseStep stepAt onStep cons walkFrom degreeOf headOf onHead groupOf partnersOf groupCheck sumsFrom denseOf groupsFrom degreesFrom denseFrom deadFrom dataGood edgesCheck fullCheck shapeCheck endsCheck footerCheck rowsCheck
 cases-pass = (refl, refl)
 
 -- a byte of the log numbers; flag bit 2 without a dense group; a tag that is unknown, which its checksum tells first
 pub damaged : (fullCheck (set oneEdge 97 8) ≡ Check.Bad (Refusal.Sum 3)) × (fullCheck (set oneEdge 12 4) ≡ Check.Bad Refusal.Data)
     × (fullCheck (set oneEdge 87 2) ≡ Check.Bad (Refusal.Sum 2))
-unfolding oneEdge leAt beAt idAt halvesAt lastByte varFrom varintAt mul fold xorshift rotl swap rrmxmx secret of1to3 of4to8 of9to16 small pair mixStep inward of17to128 onward of129to240 lane accumulate stir scramble turn runOn startLanes twice merge finish large xxh3 rowAt rowsFrom endFrom rowsOf endOf has repeated sectionOf all kindsGood tableGood eachRow ranges sizesGood presenceGood countsGood bodyOf sizeCheck headCheck tailCheck sumCheck frameCheck recordFrom recordOf framedFrom framedOf knownOf keysFrom offsetGood offsetsFrom fenceGood fencesFrom fencesGood contentCheck fileCheck onVarint splitStep denseStep stepAt onStep cons walkFrom degreeOf headOf onHead groupOf partnersOf groupCheck sumsFrom denseOf groupsFrom degreesFrom denseFrom deadFrom dataGood edgesCheck fullCheck shapeCheck endsCheck footerCheck rowsCheck
+unfolding oneEdge leAt beAt idAt halvesAt lastByte varFrom varintAt mul fold xorshift rotl swap rrmxmx secret of1to3 of4to8 of9to16 small pair mixStep inward of17to128 onward of129to240 lane accumulate stir scramble turn runOn startLanes twice merge finish large xxh3 rowAt rowsFrom endFrom rowsOf endOf has repeated sectionOf all kindsGood tableGood eachRow ranges sizesGood presenceGood countsGood bodyOf sizeCheck headCheck tailCheck sumCheck frameCheck recordFrom recordOf framedFrom framedOf knownOf keysFrom offsetGood risingFrom fenceGood fencesFrom fencesGood contentCheck fileCheck onVarint splitStep denseStep stepAt onStep cons walkFrom degreeOf headOf onHead groupOf partnersOf groupCheck sumsFrom denseOf groupsFrom degreesFrom denseFrom deadFrom dataGood edgesCheck fullCheck shapeCheck endsCheck footerCheck rowsCheck
 damaged = (refl, refl, refl)
 
 pub read : (batchIn headingOnly ≡ 3 ∷ 0 ∷ ids)

@@ -27,7 +27,7 @@ numberOf Refusal.FooterLength = 7
 numberOf Refusal.FooterSum = 8
 -- the table does not fill the body, section count, name rules, a kind missing or doubled
 numberOf Refusal.Table = 9
--- a section of kind 1 to 6 is not raw
+-- a section of kind 1 to 6 or 0x0200 is not raw
 numberOf (Refusal.Codec entry) = 10
 -- a section's range breaks a rule
 numberOf (Refusal.Range entry) = 11
@@ -41,7 +41,7 @@ numberOf (Refusal.Offset index) = 14
 numberOf Refusal.Fences = 15
 -- the group's tag is unknown
 numberOf (Refusal.Tag byte group) = 16
--- an earlier degree is unreadable or 0, or the sum through this group is above the edge count
+-- an earlier degree is unreadable or 0, or the sum through this group is above the edge count; by a record with a start index instead: its two entries do not differ by the degree, or the later one is above the edge count
 numberOf (Refusal.Degrees group) = 19
 -- an output is too short
 numberOf (Refusal.Room needed) = 20
@@ -49,7 +49,7 @@ numberOf (Refusal.Room needed) = 20
 numberOf Refusal.Record = 21
 -- a section's checksum is another, skipped kinds too
 numberOf (Refusal.Sum entry) = 22
--- the degree sum is not the edge count, bit 1 or 2 is not as the data, an unused tombstone bit is set
+-- the degree sum is not the edge count, bit 1 or 2 is not as the data, an unused tombstone bit is set, an entry of the start index is not the sum of the degrees before it
 numberOf Refusal.Data = 23
 -- a batch's record is unknown, cut or misplaced
 numberOf (Refusal.Batch at) = 24
@@ -77,13 +77,15 @@ numberOf (Refusal.VarintLong byte group) = 34
 numberOf (Refusal.VarintLarge byte group) = 35
 -- a section is of a kind of the reserved range, 0x0007 to 0x00FF
 numberOf (Refusal.Reserved entry) = 36
+-- an entry of the start index breaks a rule: the first is not 0, one is not above the one before, or the last is not the edge count
+numberOf (Refusal.Start index) = 37
 
 -- numbers: to here
 
 -- the last of them
 abbrev pub lastNumber : ℕ
 -- last: from refusals.txt
-lastNumber = 36
+lastNumber = 37
 
 -- last: to here
 
@@ -130,6 +132,7 @@ placeOf (Refusal.VarintCut byte group) = byte
 placeOf (Refusal.VarintLong byte group) = byte
 placeOf (Refusal.VarintLarge byte group) = byte
 placeOf (Refusal.Reserved entry) = entry
+placeOf (Refusal.Start index) = index
 
 -- places: to here
 
@@ -170,6 +173,7 @@ besideOf (Refusal.VarintCut byte group) = group
 besideOf (Refusal.VarintLong byte group) = group
 besideOf (Refusal.VarintLarge byte group) = group
 besideOf (Refusal.Reserved entry) = 0
+besideOf (Refusal.Start index) = 0
 
 -- places beside: to here
 
@@ -180,7 +184,7 @@ refusalsAt p q =
     Refusal.Size ∷ Refusal.Magic ∷ Refusal.Major ∷ Refusal.HeaderSize ∷ Refusal.Flags ∷ Refusal.TailMagic ∷ Refusal.FooterLength ∷ Refusal.FooterSum ∷ Refusal.Table ∷ Refusal.Codec p
     ∷ Refusal.Range p ∷ Refusal.Counts ∷ Refusal.Key p ∷ Refusal.Offset p ∷ Refusal.Fences ∷ Refusal.Tag p q ∷ Refusal.Size ∷ Refusal.Size ∷ Refusal.Degrees p ∷ Refusal.Room p
     ∷ Refusal.Record ∷ Refusal.Sum p ∷ Refusal.Data ∷ Refusal.Batch p ∷ Refusal.Unordered p ∷ Refusal.Bounds ∷ Refusal.Chunk ∷ Refusal.DegreeZero p q ∷ Refusal.PartnerOrder p q ∷ Refusal.UpperHalf p q
-    ∷ Refusal.GroupCut p q ∷ Refusal.SpareBytes p q ∷ Refusal.VarintCut p q ∷ Refusal.VarintLong p q ∷ Refusal.VarintLarge p q ∷ Refusal.Reserved p ∷ []
+    ∷ Refusal.GroupCut p q ∷ Refusal.SpareBytes p q ∷ Refusal.VarintCut p q ∷ Refusal.VarintLong p q ∷ Refusal.VarintLarge p q ∷ Refusal.Reserved p ∷ Refusal.Start p ∷ []
 
 -- all: to here
 

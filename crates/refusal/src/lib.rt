@@ -46,6 +46,8 @@ pub enum Refusal {
     VarintLarge { byte: u64, group: u64 },
     // sections that change what the others mean
     Reserved { entry: u64 },
+    // where a group's log numbers begin
+    Start { index: u64 },
     // cases: to here
 }
 
@@ -112,6 +114,7 @@ pub fn told_of(r: Refusal) -> Told
         Refusal::VarintLong { byte, group } => tell(34, byte, group),
         Refusal::VarintLarge { byte, group } => tell(35, byte, group),
         Refusal::Reserved { entry } => tell(36, entry, 0),
+        Refusal::Start { index } => tell(37, index, 0),
         // told: to here
     }
 }

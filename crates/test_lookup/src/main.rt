@@ -308,6 +308,8 @@ fn read_record() -> Opened {
     let keycount = read_word();
     let edgecount = read_word();
     let bits = read_byte();
+    let starts = read_range();
+    let indexed = read_byte();
     Opened {
         keys,
         offsets,
@@ -315,6 +317,8 @@ fn read_record() -> Opened {
         logs,
         marked: marked == 1,
         dead,
+        indexed: indexed == 1,
+        starts,
         keycount,
         edgecount,
         bits: low_byte(bits),
@@ -330,6 +334,8 @@ fn nothing() -> Opened {
         logs: none,
         marked: false,
         dead: none,
+        indexed: false,
+        starts: none,
         keycount: 0,
         edgecount: 0,
         bits: 24,

@@ -23,9 +23,9 @@ fn range(r: Range) {
     number(r.len);
 }
 
-fn tombstones(marked: bool, r: Range) {
-    word(b" dead");
-    if marked {
+// A section that may be missing.
+fn range_if(there: bool, r: Range) {
+    if there {
         range(r);
         return;
     }
@@ -38,6 +38,7 @@ fn record(o: Opened) {
     let partners = o.partners;
     let logs = o.logs;
     let dead = o.dead;
+    let starts = o.starts;
     word(b"opens keys");
     range(keys);
     word(b" offsets");
@@ -46,7 +47,10 @@ fn record(o: Opened) {
     range(partners);
     word(b" logs");
     range(logs);
-    tombstones(o.marked, dead);
+    word(b" dead");
+    range_if(o.marked, dead);
+    word(b" starts");
+    range_if(o.indexed, starts);
     word(b" n");
     number(o.keycount);
     word(b" e");

@@ -1,13 +1,12 @@
 -- The footer body over sections that stand in the output.
-use mathlib.Core.Path.{_≡_, refl, sym, ap, ap₂, subst, _∙_}
-use Prim.Native.Nat.{ℕ, _+_, _*_, _/_, _≤_}
+use mathlib.Core.Path.{_≡_, refl, sym, ap, subst, _∙_}
+use Prim.Native.Nat.{ℕ, _+_, _*_, _≤_}
 use native.Mathlib.Omega.{arith}
 use native.Mathlib.Nat.{add-zero}
-use mathlib.Core.List.{List, [], _∷_, _++_, append-nil, append-assoc}
+use mathlib.Core.List.{List, [], _++_, append-nil, append-assoc}
 use mathlib.Core.Bool.{Bool, true, false}
-use lib.ListN.{length, length-append}
+use lib.ListN.{length}
 use Rattle.base.specs.Pick.{pick}
-use Rattle.base.specs.Over.{part}
 use Rattle.base.specs.Put as P
 use Rattle.base.specs.Put.{Put, Left}
 use Rattle.codes.specs.Little.{leBytes}
@@ -17,11 +16,11 @@ use Rattle.frame.specs.Frame.{rawRow}
 use Rattle.frame.specs.Layout.{Section, rawSection, payload, entry, entries, bodyBytes}
 use Rattle.batch.specs.declared.Edge.{Edge}
 use Rattle.batch_groups.specs.Groups.{groupsOf}
-use Rattle.write_image.specs.Image.{bit, fenced, sectionsBy}
-use Rattle.write_frame.specs.Standing.{Extent, entryIn, entriesIn, entries-on, entries-none, total, entries-append, extents, length-extents, part-below, entries-standing}
+use Rattle.write_image.specs.Image.{fenced, indexed, sectionsBy}
+use Rattle.write_frame.specs.Standing.{Extent, entryIn, entriesIn, total, entries-append, part-below, entries-standing}
 use Rattle.write_frame.specs.Runs.{countBytes}
-use Rattle.write_plan.specs.Size.{tombSize, fencesSize, sectionCount, Fitting}
-use Rattle.write_plan.specs.Parts.{four, four-is, lastBy, extents-are, sections-raw, count-sections, body-parts}
+use Rattle.write_plan.specs.Size.{tombSize, fencesSize, startsSize, sectionCount, Fitting}
+use Rattle.write_plan.specs.Parts.{four, extentIf, total-if, lastBy, extents-are, sections-raw, count-sections, body-parts}
 
 unfoldable pub bodyIn : List ℕ → ℕ → ℕ → ℕ → ℕ → Bool → List ℕ
 bodyIn s keys w partners n dead =
@@ -84,21 +83,29 @@ pub length-four : (s : List ℕ) (keys w partners n : ℕ) → length (entriesIn
 unfolding entriesIn four entry leBytes
 length-four s keys w partners n = refl
 
--- the last two, each there or not
-last-of : (s : List ℕ) (start : ℕ) (d e : Bool) (t f : ℕ)
-    → entriesIn s start (pick d (record { kind = kind.tombstones; len = pick d t 0 } ∷ []) [] ++ pick e (record { kind = kind.fences; len = f } ∷ []) [])
-    ≡ pick d (entryIn s kind.tombstones start (pick d t 0)) [] ++ pick e (entryIn s kind.fences (start + pick d t 0) f) []
+-- the last three, each there or not
+entries-if : (s : List ℕ) (start : ℕ) (b : Bool) (k len : ℕ) → entriesIn s start (extentIf b k len) ≡ pick b (entryIn s k start len) []
 unfolding entriesIn
-last-of s start true true t f = ap (λ (x : List ℕ). entryIn s kind.tombstones start t ++ x) (append-nil (entryIn s kind.fences (start + t) f))
-last-of s start true false t f = refl
-last-of s start false true t f =
-    append-nil (entryIn s kind.fences start f) ∙ ap (λ (x : ℕ). entryIn s kind.fences x f) (sym (add-zero start))
-last-of s start false false t f = refl
+entries-if s start true k len = append-nil (entryIn s k start len)
+entries-if s start false k len = refl
 
 pub last-entries : (s : List ℕ) (start n : ℕ) (dead : Bool) (keys : ℕ) → entriesIn s start (lastBy n dead keys)
-    ≡ pick dead (entryIn s kind.tombstones start (tombSize n dead)) [] ++ pick (fenced keys) (entryIn s kind.fences (start + tombSize n dead) (fencesSize keys)) []
+    ≡ pick dead (entryIn s kind.tombstones start (tombSize n dead)) []
+    ++ (pick (fenced keys) (entryIn s kind.fences (start + tombSize n dead) (fencesSize keys)) []
+    ++ pick (indexed keys) (entryIn s kind.starts (start + tombSize n dead + fencesSize keys) (startsSize keys)) [])
 unfolding lastBy
-last-entries s start n dead keys = last-of s start dead (fenced keys) ((n + 7) / 8) (fencesSize keys)
+last-entries s start n dead keys =
+    let tombs : List Extent = extentIf dead kind.tombstones (tombSize n dead) in
+    let fences : List Extent = extentIf (fenced keys) kind.fences (fencesSize keys) in
+    let starts : List Extent = extentIf (indexed keys) kind.starts (startsSize keys) in
+    let t : total tombs ≡ tombSize n dead = total-if dead kind.tombstones (kind.tombstonesLen n) in
+    let f : total fences ≡ fencesSize keys = total-if (fenced keys) kind.fences (kind.fencesLen (kind.fenceCount keys)) in
+    let u : ℕ = start + tombSize n dead in
+    entries-append s start tombs (fences ++ starts)
+    ∙ ap (λ (x : List ℕ). entriesIn s start tombs ++ x) (entries-append s (start + total tombs) fences starts)
+    ∙ (λ j. entriesIn s start tombs ++ (entriesIn s (start + t j) fences ++ entriesIn s (start + t j + f j) starts))
+    ∙ (λ j. entries-if s start dead kind.tombstones (tombSize n dead) j
+    ++ (entries-if s u (fenced keys) kind.fences (fencesSize keys) j ++ entries-if s (u + fencesSize keys) (indexed keys) kind.starts (startsSize keys) j))
 
 -- ---- an entry that is there or not
 

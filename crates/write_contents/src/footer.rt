@@ -1,14 +1,13 @@
 // The footer body, over the sections that stand in the output from 64 on.
-ghost use mathlib.Core.Path.{_≡_};
 ghost use Prim.Native.Nat.{_+_, _*_, _≤_};
 ghost use mathlib.Core.List.{[]};
 ghost use lib.ListN.{length};
 ghost use Rattle.base.specs.Pick.{pick};
 ghost use Rattle.base.specs.Put.{Put};
-ghost use Rattle.frame.specs.Kind.{tombstones, fences, headerSize, entrySize, keysLen, offsetsLen, logsLen, mostEdges, mostBytes};
-ghost use Rattle.write_image.specs.Image.{fenced};
+ghost use Rattle.frame.specs.Kind.{tombstones, fences, starts, headerSize, entrySize, keysLen, offsetsLen, logsLen, mostEdges, mostBytes};
+ghost use Rattle.write_image.specs.Image.{fenced, indexed};
 ghost use Rattle.write_frame.specs.Standing.{entryIn, entriesIn, total};
-ghost use Rattle.write_plan.specs.Size.{tombSize, fencesSize, sectionsSize};
+ghost use Rattle.write_plan.specs.Size.{tombSize, fencesSize, startsSize, sectionsSize};
 ghost use Rattle.write_plan.specs.Parts.{four, lastBy};
 ghost use Rattle.write_contents.specs.Footer.{bodyIn};
 use codes::little::put_le;
@@ -19,9 +18,11 @@ use frame::kind::Keys;
 use frame::kind::Logs;
 use frame::kind::Offsets;
 use frame::kind::Partners;
+use frame::kind::Starts;
 use frame::kind::Tombstones;
 use write_frame::put_counts;
 use write_frame::put_entry;
+use write_plan::fences_size;
 use write_plan::section_count;
 use write_plan::tomb_size;
 
@@ -69,14 +70,27 @@ fn put_fences_entry(out: &mut [u8], at: usize, start: usize, keys: usize) -> usi
     at
 }
 
-// The entries of tombstones and fences, each there or not, that stand from `start` on.
+// The same of the start index.
+fn put_starts_entry(out: &mut [u8], at: usize, start: usize, keys: usize) -> usize
+    requires { ⌜ (keys ≤ mostEdges) × (start + startsSize keys ≤ length (now out)) × (at + length (pick (indexed keys) (entryIn (now out) starts start (startsSize keys)) []) ≤ length (now out)) × (at ≤ 4294967296) ⌝ }
+    ensures { λ r. ⌜ Put (now (out .entry)) (now (out .exit)) at r (pick (indexed keys) (entryIn (now (out .entry)) starts start (startsSize keys)) []) ⌝ }
+{
+    if (Bounds::UNINDEXED as usize) < keys {
+        return put_entry(out, at, Starts::entry(start as u64, keys as u64));
+    }
+    at
+}
+
+// The entries of tombstones, fences and start index, each there or not, that stand from `start` on.
 fn put_last(out: &mut [u8], at: usize, start: usize, n: usize, dead: bool, keys: usize) -> usize
     requires { ⌜ (n ≤ mostEdges) × (keys ≤ mostEdges) × (start + total (lastBy n dead keys) ≤ at) × (at + length (entriesIn (now out) start (lastBy n dead keys)) ≤ length (now out)) × (at ≤ 2147483648) ⌝ }
     ensures { λ r. ⌜ Put (now (out .entry)) (now (out .exit)) at r (entriesIn (now (out .entry)) start (lastBy n dead keys)) ⌝ }
 {
-    let tombs = tomb_size(n, dead);
+    let after_tombs = start + tomb_size(n, dead);
+    let after_fences = after_tombs + fences_size(keys);
     let p = put_tombs_entry(out, at, start, n, dead);
-    put_fences_entry(out, p, start + tombs, keys)
+    let q = put_fences_entry(out, p, after_tombs, keys);
+    put_starts_entry(out, q, after_fences, keys)
 }
 
 // The body: section count, entries, counts.

@@ -4,9 +4,10 @@ ghost use Prim.Native.Nat.{_≤_};
 ghost use lib.ListN.{length};
 ghost use Rattle.base.specs.Over.{over};
 ghost use Rattle.batch_groups.specs.Groups.{groupsOf, Grouped};
-ghost use Rattle.write_image.specs.Image.{bit, flagsBy, fileOf};
+ghost use Rattle.write_image.specs.Image.{bit, flagsBy, minorOf, fileOf};
 ghost use Rattle.write_source.specs.Source.{sourceEdges};
 ghost use Rattle.write_plan.specs.Bounds.{PlanFits};
+use frame::bounds::Bounds;
 use frame::ends::Header;
 use write_contents::footer::put_body;
 use write_contents::payload::put_payload;
@@ -32,6 +33,13 @@ fn flags_for(direction: u8, dense: bool, dead: bool) -> u64
     8 * direction as u64 + (4 * two + 2 * one)
 }
 
+// Minor 1: a start index.
+fn minor_for(keys: usize) -> u8
+    ensures { λ r. ⌜ r ≡ minorOf keys ⌝ }
+{
+    bit_of((Bounds::UNINDEXED as usize) < keys) as u8
+}
+
 // Writes the file of the edges over the start of out.
 pub fn put_file(kind: u8, a: &[u8], b: &[u8], direction: u8, ids: &[u8], plan: Plan, out: &mut [u8])
     requires { ⌜ PlanFits (sourceEdges kind (now a) (now b)) plan × Grouped 0 (groupsOf (sourceEdges kind (now a) (now b))) × (length (now ids) ≡ 48) × (plan .bytes ≤ length (now out)) ⌝ }
@@ -43,7 +51,7 @@ pub fn put_file(kind: u8, a: &[u8], b: &[u8], direction: u8, ids: &[u8], plan: P
     let partners = plan.partners;
     let dead = plan.dead;
     let flags = flags_for(direction, plan.dense, dead);
-    put_header(out, flags, ids);
+    put_header(out, minor_for(keys), flags, ids);
     let p = put_payload(kind, a, b, n, keys, w, dead, out, Header::SIZE);
     let q = put_body(out, p, keys, w, partners, n, dead);
     put_trailer(out, p, q);

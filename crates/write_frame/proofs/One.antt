@@ -1,5 +1,5 @@
 -- Each contract of the crate leaves one result and one content of lent memory.
-use mathlib.Core.Path.{_≡_, refl, sym, ap, _∙_}
+use mathlib.Core.Path.{refl, sym, ap, _∙_}
 use mathlib.Core.List.{List}
 use Prim.Native.Nat.{ℕ}
 use Rattle.base.proofs.Determined.{Determined}
@@ -14,7 +14,7 @@ use Rattle.write_frame.proofs.put_trailer.Reads as put-trailer-reads
 
 pub put-header-determined : Determined put-header.ended put-header-reads.Pre put-header-reads.Post
 put-header-determined κs a pre r₁ r₂ w₁ w₂ p q =
-    (refl, ap (λ (l : List ℕ). (l, (tt {0}, (tt {0}, tt {0})))) (p ∙ sym q))
+    (refl, ap (λ (l : List ℕ). (l, (tt {0}, (tt {0}, (tt {0}, tt {0}))))) (p ∙ sym q))
 
 pub put-entry-determined : Determined put-entry.ended put-entry-reads.Pre put-entry-reads.Post
 put-entry-determined κs a pre r₁ r₂ w₁ w₂ p q =

@@ -1,9 +1,9 @@
 -- Runs of numbers, written one after the other: header, table entries, counts, trailer.
-use mathlib.Core.Path.{_≡_, refl, sym, ap, ap₂, _∙_}
+use mathlib.Core.Path.{_≡_, refl, sym, ap, _∙_}
 use Prim.Native.Nat.{ℕ, _+_, _%_, _^_, _<_}
 use native.Mathlib.Omega.{arith}
-use mathlib.Core.List.{List, [], _∷_, _++_, append-nil}
-use lib.ListN.{length, length-append}
+use mathlib.Core.List.{List, [], _∷_, _++_}
+use lib.ListN.{length}
 use lib.Seq.{sets}
 use Rattle.base.specs.Put as P
 use Rattle.base.specs.Put.{Put, Left}
@@ -21,25 +21,31 @@ number : {out : List ℕ} {to : ℕ} {o : List ℕ} {at : ℕ} {ys : List ℕ} {
 number {out} {to} {out′ = out′} {to′ = to′} n x l e p =
     let q : Put out out′ to to′ (leBytes n x) = record { place = p ∙ ap (λ (t : ℕ). to + t) (sym (length-leBytes n x)); bytes = e } in P.put l q
 
--- ---- the header: minor 0
+byte : (x : ℕ) → x < 2 ^ 8 → leBytes 1 x ≡ x ∷ []
+unfolding leBytes
+byte x h = let q : x % 256 ≡ x = omega arith in ap (λ (t : ℕ). t ∷ []) q
 
-module _ (o : List ℕ) (flags : ℕ) (ids : List ℕ) where
-  pub head-parts : {o₁ o₂ o₃ o₄ o₅ o₆ : List ℕ}
-      → o₁ ≡ sets o 0 (leBytes 8 kind.magic) → o₂ ≡ sets o₁ 8 (leBytes 1 1) → o₃ ≡ sets o₂ 9 (leBytes 1 0) → o₄ ≡ sets o₃ 10 (leBytes 2 64)
-      → o₅ ≡ sets o₄ 12 (leBytes 4 flags) → o₆ ≡ sets o₅ 16 ids → o₆ ≡ sets o 0 (headBytes 0 flags ids)
+-- ---- the header
+
+module _ (o : List ℕ) (minor flags : ℕ) (ids : List ℕ) where
+  pub head-parts : minor < 2 ^ 8 → {o₁ o₂ o₃ o₄ o₅ o₆ : List ℕ}
+      → o₁ ≡ sets o 0 (leBytes 8 kind.magic) → o₂ ≡ sets o₁ 8 (leBytes 1 1) → o₃ ≡ sets o₂ 9 (leBytes 1 minor) → o₄ ≡ sets o₃ 10 (leBytes 2 64)
+      → o₅ ≡ sets o₄ 12 (leBytes 4 flags) → o₆ ≡ sets o₅ 16 ids → o₆ ≡ sets o 0 (headBytes minor flags ids)
   unfolding headBytes leBytes
-  head-parts {o₁} {o₂} {o₃} {o₄} {o₅} {o₆} a b c d e f =
-      let l₀ = P.start o 0 (headBytes 0 flags ids) in
-      let l₁ : Left o₁ 8 (leBytes 1 1 ++ (leBytes 1 0 ++ (leBytes 2 64 ++ (leBytes 4 flags ++ ids)))) o 0 (headBytes 0 flags ids) = number 8 kind.magic l₀ a refl in
-      let l₂ : Left o₂ 9 (leBytes 1 0 ++ (leBytes 2 64 ++ (leBytes 4 flags ++ ids))) o 0 (headBytes 0 flags ids) = number 1 1 l₁ b refl in
-      let l₃ : Left o₃ 10 (leBytes 2 64 ++ (leBytes 4 flags ++ ids)) o 0 (headBytes 0 flags ids) = number 1 0 l₂ c refl in
-      let l₄ : Left o₄ 12 (leBytes 4 flags ++ ids) o 0 (headBytes 0 flags ids) = number 2 64 l₃ d refl in
-      let l₅ : Left o₅ 16 ids o 0 (headBytes 0 flags ids) = number 4 flags l₄ e refl in
+  head-parts small {o₁} {o₂} {o₃} {o₄} {o₅} {o₆} a b c d e f =
+      let all : List ℕ = headBytes minor flags ids in
+      let one : leBytes 1 minor ≡ minor ∷ [] = byte minor small in
+      let l₁ : Left o₁ 8 (leBytes 1 1 ++ ((minor ∷ []) ++ (leBytes 2 64 ++ (leBytes 4 flags ++ ids)))) o 0 all = number 8 kind.magic (P.start o 0 all) a refl in
+      let l₂ : Left o₂ 9 ((minor ∷ []) ++ (leBytes 2 64 ++ (leBytes 4 flags ++ ids))) o 0 all = number 1 1 l₁ b refl in
+      let l₃ : Left o₃ 10 (leBytes 2 64 ++ (leBytes 4 flags ++ ids)) o 0 all =
+      number 1 minor (P.is (ap (λ (t : List ℕ). t ++ (leBytes 2 64 ++ (leBytes 4 flags ++ ids))) (sym one)) l₂) c refl in
+      let l₄ : Left o₄ 12 (leBytes 4 flags ++ ids) o 0 all = number 2 64 l₃ d refl in
+      let l₅ : Left o₅ 16 ids o 0 all = number 4 flags l₄ e refl in
       f ∙ l₅ .whole
 
-  pub length-head : length (headBytes 0 flags ids) ≡ 16 + length ids
-  unfolding headBytes leBytes
-  length-head = omega arith
+pub length-head : (minor flags : ℕ) (ids : List ℕ) → length (headBytes minor flags ids) ≡ 16 + length ids
+unfolding headBytes leBytes
+length-head minor flags ids = omega arith
 
 -- ---- an entry without its name
 
@@ -92,10 +98,6 @@ length-trailer body = refl
 pub length-counts : (n e bits : ℕ) → length (countBytes n e bits) ≡ 17
 unfolding countBytes leBytes
 length-counts n e bits = refl
-
-byte : (x : ℕ) → x < 2 ^ 8 → leBytes 1 x ≡ x ∷ []
-unfolding leBytes
-byte x h = let q : x % 256 ≡ x = omega arith in ap (λ (t : ℕ). t ∷ []) q
 
 module _ (o : List ℕ) (at : ℕ) where
   pub count-parts : (n e bits : ℕ) → bits < 2 ^ 8 → {o₁ o₂ o₃ : List ℕ}

@@ -1,12 +1,12 @@
 -- What stands in an output that is written from its first byte on, and the table entries of sections that stand there.
-use mathlib.Core.Path.{_≡_, refl, sym, ap, ap₂, subst, _∙_}
-use Prim.Native.Nat.{ℕ, zero, suc, _+_, _-_, _≤_, _<_}
+use mathlib.Core.Path.{_≡_, refl, sym, ap, ap₂, _∙_}
+use Prim.Native.Nat.{ℕ, suc, _+_, _-_, _≤_}
 use native.Mathlib.Omega.{arith}
-use native.Mathlib.Nat.{add-zero, add-assoc}
+use native.Mathlib.Nat.{zero-add, add-zero, add-assoc}
 use native.Mathlib.Decide.{decLt}
 use mathlib.Core.List.{List, [], _∷_, _++_, append-assoc}
 use lib.ListN.{length, take, drop, set, length-append, take-append-drop}
-use lib.Seq.{sets, sets-eq, take-at, drop-append-seam, take-append-seam, length-take-le, drop-set-add, take-set-le}
+use lib.Seq.{sets, sets-eq, take-at, length-take-le, drop-set-add, take-set-le}
 use Rattle.base.specs.Over.{part, part-mid}
 use Rattle.base.specs.Put.{Left}
 use Rattle.frame.specs.Layout.{Section, rawSection, payload, entry, entries}
@@ -95,6 +95,11 @@ entries-append s at (x ∷ xs) ys =
     (entries-append s (at + x .len) xs ys ∙ ap (λ (t : ℕ). entriesIn s (at + x .len) xs ++ entriesIn s t ys) (add-assoc at (x .len) (total xs)))
     ∙ sym (append-assoc (entryIn s (x .kind) at (x .len)) (entriesIn s (at + x .len) xs) (entriesIn s (at + (x .len + total xs)) ys))
 
+pub total-append : (xs ys : List Extent) → total (xs ++ ys) ≡ total xs + total ys
+unfolding total
+total-append [] ys = sym (zero-add (total ys))
+total-append (x ∷ xs) ys = let ih = total-append xs ys in omega arith
+
 -- entries of sections below what is written stay
 pub entries-below : {out : List ℕ} {to : ℕ} {ws : List ℕ} {o : List ℕ} {at : ℕ} {ys : List ℕ} → Left out to ws o at ys → (xs : List Extent) (i : ℕ) → i + total xs ≤ at → at ≤ to → entriesIn out i xs ≡ entriesIn o i xs
 unfolding entriesIn total
@@ -113,10 +118,30 @@ unfolding extents
 length-extents [] = refl
 length-extents (s ∷ ss) = ap suc (length-extents ss)
 
+pub extents-append : (ss ts : List Section) → extents (ss ++ ts) ≡ extents ss ++ extents ts
+unfolding extents
+extents-append [] ts = refl
+extents-append (s ∷ ss) ts = ap (λ (t : List Extent). record { kind = s .kind; len = length (s .bytes) } ∷ t) (extents-append ss ts)
+
+pub payload-append : (ss ts : List Section) → payload (ss ++ ts) ≡ payload ss ++ payload ts
+unfolding payload
+payload-append [] ts = refl
+payload-append (s ∷ ss) ts = ap (λ (t : List ℕ). s .bytes ++ t) (payload-append ss ts) ∙ sym (append-assoc (s .bytes) (payload ss) (payload ts))
+
+pub total-extents : (ss : List Section) → total (extents ss) ≡ length (payload ss)
+unfolding total extents payload
+total-extents [] = refl
+total-extents (s ∷ ss) = ap (λ (t : ℕ). length (s .bytes) + t) (total-extents ss) ∙ sym (length-append (s .bytes) (payload ss))
+
 -- sections that are raw, with their sums
 unfoldable pub PlainSections : List Section → Type 0
 PlainSections [] = Unit {0}
 PlainSections (s ∷ ss) = (s ≡ rawSection (s .kind) (s .bytes)) × PlainSections ss
+
+pub plain-append : (ss ts : List Section) → PlainSections ss → PlainSections ts → PlainSections (ss ++ ts)
+unfolding PlainSections
+plain-append [] ts p q = q
+plain-append (s ∷ ss) ts p q = (p .0, plain-append ss ts (p .1) q)
 
 -- the entries of the sections that stand after q are their entries
 pub entries-standing : (ss : List Section) (q r : List ℕ) (at : ℕ) → at ≡ length q → PlainSections ss → entriesIn (q ++ (payload ss ++ r)) at (extents ss) ≡ entries at ss

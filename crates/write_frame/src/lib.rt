@@ -1,6 +1,6 @@
 // The two ends of a file, written: header, and footer with trailer.
 ghost use mathlib.Core.Path.{_≡_};
-ghost use Prim.Native.Nat.{_+_, _*_, _%_, _<_, _≤_, _^_};
+ghost use Prim.Native.Nat.{_+_, _%_, _<_, _≤_};
 ghost use lib.ListN.{length};
 ghost use lib.Seq.{sets};
 ghost use Rattle.base.specs.Over.{part};
@@ -31,14 +31,14 @@ fn put_words(out: &mut [u8], at: usize, s: &[u8])
     }
 }
 
-// Writes the header: magic, major 1, minor 0, header size, flags, the three ids.
-pub fn put_header(out: &mut [u8], flags: u64, ids: &[u8])
+// Writes the header: magic, major 1, minor, header size, flags, the three ids.
+pub fn put_header(out: &mut [u8], minor: u8, flags: u64, ids: &[u8])
     requires { ⌜ (16 + length (now ids) ≤ length (now out)) × (length (now ids) ≡ 48) ⌝ }
-    ensures { λ _. ⌜ now (out .exit) ≡ sets (now (out .entry)) 0 (headBytes 0 flags (now (ids .entry))) ⌝ }
+    ensures { λ _. ⌜ now (out .exit) ≡ sets (now (out .entry)) 0 (headBytes minor flags (now (ids .entry))) ⌝ }
 {
     put_le(out, 0, 8, Header::MAGIC);
     put_le(out, Header::MAJOR, 1, 1);
-    put_le(out, Header::MINOR, 1, 0);
+    put_le(out, Header::MINOR, 1, minor as u64);
     put_le(out, Header::OWN_SIZE, 2, Header::SIZE as u64);
     put_le(out, Header::FLAGS, 4, flags);
     put_words(out, Header::EDGE_TYPE, ids);

@@ -12,6 +12,8 @@ use Rattle.write_group.specs.Span.{Spans}
 use Rattle.base.proofs.Determined.{Determined}
 use Rattle.write_group.proofs.span_at as span-at
 use Rattle.write_group.proofs.span_at.Reads as span-at-reads
+use Rattle.write_group.proofs.group_end as group-end
+use Rattle.write_group.proofs.group_end.Reads as group-end-reads
 use Rattle.write_group.proofs.dense_by as dense-by
 use Rattle.write_group.proofs.dense_by.Reads as dense-by-reads
 use Rattle.write_group.proofs.block_size as block-size
@@ -27,6 +29,9 @@ span-one es i s t p q =
 
 pub span-at-determined : Determined span-at.ended span-at-reads.Pre span-at-reads.Post
 span-at-determined κs a pre r₁ r₂ w₁ w₂ p q = (span-one _ _ _ _ p q, refl)
+
+pub group-end-determined : Determined group-end.ended group-end-reads.Pre group-end-reads.Post
+group-end-determined κs a pre r₁ r₂ w₁ w₂ p q = (end-one _ _ _ _ p q, refl)
 
 pub dense-by-determined : Determined dense-by.ended dense-by-reads.Pre dense-by-reads.Post
 dense-by-determined κs a pre r₁ r₂ w₁ w₂ p q = (p ∙ sym q, refl)

@@ -1,5 +1,5 @@
 -- A group found by going on from its first edge: where it ends, and what it costs.
-use mathlib.Core.Path.{_≡_, refl, sym, ap, ap₂, subst, _∙_}
+use mathlib.Core.Path.{_≡_, sym, ap, ap₂, subst, _∙_}
 use Prim.Native.Nat.{ℕ, _+_, _-_, _*_, _≤_, _<_}
 use native.Mathlib.Nat.{zero-add, sub-zero}
 use native.Mathlib.Omega.{arith}
@@ -53,6 +53,49 @@ module _ (es : List Edge) (i : ℕ) (s : Span) (h : Spans es i s) (keys : ℕ) w
       ∙ ap (λ (b : Bool). length (varBytes (length ps)) + 1 + pick b (16 * length ps) (splitCost 0 ps)) (sym span-dense)
       ∙ ap₂ (λ (d c : ℕ). length (varBytes d) + 1 + pick (denseBy keys (s .end - i) (s .cost)) (16 * d) c) degree-is (sym (h .costs)))
 
+-- ---- where it ends
+
+-- edge j, whose key is compared with that of edge i
+module _ (es : List Edge) (i j : ℕ) (above : i < j) (h : j < length es) (x : Edge) (e : x ≡ getD es j none) (key : Id) (k : key ≡ getD es i none .key) where
+  key-is : idNumber key ≡ idNumber (getD es i none .key)
+  key-is = ap idNumber k
+
+  here : idNumber (x .key) ≡ idNumber (getD es j none .key)
+  here = ap (λ (t : Edge). idNumber (t .key)) e
+
+  other : eqb (idNumber (x .key)) (idNumber key) ≡ false → OtherKey (idNumber (getD es i none .key)) (drop j es)
+  other n = other-key es _ j h (λ z. eqb-false _ _ n (here ∙ z ∙ sym key-is))
+
+  still : SameKey (idNumber (getD es i none .key)) (take (j - (i + 1)) (drop (i + 1) es)) → eqb (idNumber (x .key)) (idNumber key) ≡ true
+      → SameKey (idNumber (getD es i none .key)) (take (j + 1 - (i + 1)) (drop (i + 1) es))
+  still s n = same-more es i j above h s (sym here ∙ eqb-true _ _ n ∙ key-is)
+
+-- the edges from i up to j are of one key
+pub record Same (es : List Edge) (i j : ℕ) : Type 0 where
+  pub above : i < j
+  pub within : j ≤ length es
+  pub same : SameKey (idNumber (getD es i none .key)) (take (j - (i + 1)) (drop (i + 1) es))
+
+pub same-first : (es : List Edge) (i : ℕ) → i < length es → Same es i (i + 1)
+same-first es i h = record { above = omega arith; within = omega arith; same = same-none es i }
+
+module _ (es : List Edge) (i j : ℕ) (s : Same es i j) where
+  -- no edge is left
+  pub same-end : j ≡ length es → GroupEnd es i j
+  same-end z = group-end es i j (s .above) (s .within) (s .same) (other-none es _ j z)
+
+  -- edge j
+  module _ (h : j < length es) (x : Edge) (e : x ≡ getD es j none) (key : Id) (k : key ≡ getD es i none .key) where
+    pub same-other : eqb (idNumber (x .key)) (idNumber key) ≡ false → GroupEnd es i j
+    same-other n = group-end es i j (s .above) (s .within) (s .same) (other es i j (s .above) h x e key k n)
+
+    pub same-on : eqb (idNumber (x .key)) (idNumber key) ≡ true → Same es i (j + 1)
+    same-on n =
+        let a = s .above in
+        record { above = omega arith; within = omega arith; same = still es i j a h x e key k (s .same) n }
+
+-- ---- what it costs
+
 -- the edges from i up to j are of one key; their split cost is `cost`, and `hi` is the upper half after which the next
 -- partner is written. What follows them, ps, adds its own cost.
 pub record Going (es : List Edge) (i j hi cost : ℕ) : Type 0 where
@@ -105,26 +148,20 @@ module _ (es : List Edge) (i j hi cost : ℕ) (g : Going es i j hi cost) where
 
     -- its key is compared with the group's
     module _ (above : i < j) (key : Id) (k : key ≡ getD es i none .key) where
-      key-is : idNumber key ≡ idNumber (getD es i none .key)
-      key-is = ap idNumber k
-
-      here : idNumber (x .key) ≡ idNumber (getD es j none .key)
-      here = ap (λ (t : Edge). idNumber (t .key)) e
-
       pub going-other : eqb (idNumber (x .key)) (idNumber key) ≡ false → Spans es i (record { end = j; cost = cost })
-      going-other n = ends above (other-key es _ j h (λ z. eqb-false _ _ n (here ∙ z ∙ sym key-is)))
+      going-other n = ends above (other es i j above h x e key k n)
 
       module _ (n : eqb (idNumber (x .key)) (idNumber key) ≡ true) where
-        still : SameKey (idNumber (getD es i none .key)) (take (j + 1 - (i + 1)) (drop (i + 1) es))
-        still = same-more es i j above h (g .same) (sym here ∙ eqb-true _ _ n ∙ key-is)
+        longer-same : SameKey (idNumber (getD es i none .key)) (take (j + 1 - (i + 1)) (drop (i + 1) es))
+        longer-same = still es i j above h x e key k (g .same) n
 
         pub going-up : Grouped 0 (groupsOf (drop i es)) → hi ≤ x .partner .hi
         going-up o =
-            let r : Rise 0 (partnersIn (part es i (j + 1))) = run-rises (getD es i none .key) (part es i (j + 1)) (begin-run es i (j + 1) (omega arith) (omega arith) still o) in
+            let r : Rise 0 (partnersIn (part es i (j + 1))) = run-rises (getD es i none .key) (part es i (j + 1)) (begin-run es i (j + 1) (omega arith) (omega arith) longer-same o) in
             rise-on hi (x .partner) [] (g .rise (x .partner ∷ []) (subst (Rise 0) longer r)) .0
 
         pub going-on : (m : ℕ) → m ≡ length (varBytes (x .partner .hi - hi)) + 8 → Going es i (j + 1) (x .partner .hi) (cost + m)
-        going-on m v = next still m v
+        going-on m v = next longer-same m v
 
 -- the first edge
 module _ (es : List Edge) (i : ℕ) (h : i < length es) (x : Edge) (e : x ≡ getD es i none) where

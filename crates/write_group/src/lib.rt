@@ -11,7 +11,7 @@ ghost use Rattle.codes.specs.Varint.{varBytes};
 ghost use Rattle.frame.specs.Kind.{mostEdges};
 ghost use Rattle.group.specs.Group.{bytesOf};
 ghost use Rattle.group.specs.Written.{splitFrom, writtenAs};
-ghost use Rattle.batch_groups.specs.Groups.{groupsOf, Grouped};
+ghost use Rattle.batch_groups.specs.Groups.{groupsOf, GroupEnd, Grouped};
 ghost use Rattle.write_image.specs.Image.{denseBy};
 ghost use Rattle.write_image.specs.Image.Laws.{Rise};
 ghost use Rattle.write_source.specs.Source.{sourceEdges};
@@ -61,6 +61,24 @@ pub fn span_at(kind: u8, a: &[u8], b: &[u8], n: usize, i: usize) -> Span
         j = j + 1;
     }
     Span { end: j, cost }
+}
+
+// Where it ends, alone: only keys are compared.
+pub fn group_end(kind: u8, a: &[u8], b: &[u8], n: usize, i: usize) -> usize
+    requires { ⌜ (n ≡ length (sourceEdges kind (now a) (now b))) × (i < n) ⌝ }
+    ensures { λ r. ⌜ GroupEnd (sourceEdges kind (now (a .entry)) (now (b .entry))) i r ⌝ }
+{
+    let first = edge_of(kind, a, b, i);
+    let key = first.key;
+    let mut j = i + 1;
+    while j < n {
+        let next = edge_of(kind, a, b, j);
+        if !same_id(next.key, key) {
+            return j;
+        }
+        j = j + 1;
+    }
+    j
 }
 
 // The rule that makes a group dense.

@@ -17,9 +17,12 @@ use Rattle.group.specs.Group.{bytesOf}
 use Rattle.group.specs.Written.{splitFrom, splitBytes, denseBytes}
 use Rattle.batch.specs.declared.Edge.{Edge}
 use Rattle.batch.specs.Batch.{headingOf, edgeAt, edgesAt, edgesOf, partnersIn, logsIn, marksIn}
-use Rattle.batch_groups.specs.Groups.{anyDead, Group, join, groupsOf}
-use Rattle.write_image.specs.Image.{keysIn, splitCost, denseBy, isDense, groupBytes, anyDense, numbers, partnerBytes, startsFrom, widthOf, octet, octets, fenced, fenceBytes, fenceKeysFrom, fencesOf, keyBytes, offsetBytes, logBytes, tombBytes, lastSections, sectionsBy, layoutBy, layoutOf, fileOf}
+use Rattle.batch_groups.specs.Groups.{none, anyDead, Group, join, groupsOf}
+use Rattle.write_image.specs.Image.{keysIn, splitCost, denseBy, isDense, groupBytes, anyDense, numbers, partnerBytes, startsFrom, widthOf, octet, octets, fenced, fenceBytes, fenceKeysFrom, fencesOf, firstsFrom, startBytes, indexed, minorOf, keyBytes, offsetBytes, logBytes, tombBytes, lastSections, sectionsBy, layoutBy, layoutOf, fileOf}
 use Rattle.write_image.specs.Image.Laws.{length-fences}
+
+abbrev zeros7 : List ℕ → List ℕ
+zeros7 xs = 0 ∷ 0 ∷ 0 ∷ 0 ∷ 0 ∷ 0 ∷ 0 ∷ xs
 
 -- ---- a group: dense or split
 
@@ -53,7 +56,7 @@ pub marks :
 unfolding octet octets
 marks = (refl, refl, refl)
 
--- ---- fences: "6 only above 65,536 keys, stride 256", and tombstones: "5 only if an edge is dead"
+-- ---- fences: "6 only above 65,536 keys, stride 256", tombstones: "5 only if an edge is dead", and the start index
 
 module _ (w : ℕ) (es : List Edge) (gs : List Group) where
   -- the sections of a file of these edges and keys
@@ -74,15 +77,43 @@ module _ (w : ℕ) (es : List Edge) (gs : List Group) where
   abbrev fences : Section
   fences = rawSection kind.fences (fencesOf (keysIn gs))
 
-  pub unfenced-at : length gs ≡ 65536 → (sections false ≡ four []) × (sections true ≡ four (tombstones ∷ []))
-  unfolding sectionsBy lastSections
-  unfenced-at n =
-      (ap (λ (k : ℕ). four (lastSections false (fenced k) es gs)) n, ap (λ (k : ℕ). four (lastSections true (fenced k) es gs)) n)
+  abbrev starts : Section
+  starts = rawSection kind.starts (startBytes gs)
 
-  pub fenced-at : length gs ≡ 65537 → (sections false ≡ four (fences ∷ [])) × (sections true ≡ four (tombstones ∷ fences ∷ []))
+  -- with that many keys
+  abbrev withKeys : Bool → ℕ → List Section
+  withKeys dead k = four (lastSections dead (fenced k) (indexed k) es gs)
+
+  -- the start index: "from 1,025 keys up", the last section
+  pub unindexed-at : length gs ≡ 1024 → (sections false ≡ four []) × (sections true ≡ four (tombstones ∷ []))
   unfolding sectionsBy lastSections
-  fenced-at n =
-      (ap (λ (k : ℕ). four (lastSections false (fenced k) es gs)) n, ap (λ (k : ℕ). four (lastSections true (fenced k) es gs)) n)
+  unindexed-at n = (ap (withKeys false) n, ap (withKeys true) n)
+
+  pub indexed-at : length gs ≡ 1025 → (sections false ≡ four (starts ∷ [])) × (sections true ≡ four (tombstones ∷ starts ∷ []))
+  unfolding sectionsBy lastSections
+  indexed-at n = (ap (withKeys false) n, ap (withKeys true) n)
+
+  pub unfenced-at : length gs ≡ 65536 → (sections false ≡ four (starts ∷ [])) × (sections true ≡ four (tombstones ∷ starts ∷ []))
+  unfolding sectionsBy lastSections
+  unfenced-at n = (ap (withKeys false) n, ap (withKeys true) n)
+
+  pub fenced-at : length gs ≡ 65537 → (sections false ≡ four (fences ∷ starts ∷ [])) × (sections true ≡ four (tombstones ∷ fences ∷ starts ∷ []))
+  unfolding sectionsBy lastSections
+  fenced-at n = (ap (withKeys false) n, ap (withKeys true) n)
+
+-- "with minor version 1": exactly where there is a start index
+pub minor : (minorOf 0 ≡ 0) × (minorOf 1 ≡ 0) × (minorOf 1024 ≡ 0) × (minorOf 1025 ≡ 1) × (minorOf 65536 ≡ 1) × (minorOf 65537 ≡ 1)
+minor = (refl, refl, refl, refl, refl, refl)
+
+-- "entry i being the number of edges before group i, the last the edge count": groups of 2 edges, 1 and 3; and no group
+abbrev groupOf : List Edge → Group
+groupOf es = record { key = none .key; edges = es }
+
+pub starts-of : (startBytes (groupOf (none ∷ none ∷ []) ∷ groupOf (none ∷ []) ∷ groupOf (none ∷ none ∷ none ∷ []) ∷ [])
+    ≡ 0 ∷ zeros7 (2 ∷ zeros7 (3 ∷ zeros7 (6 ∷ zeros7 []))))
+    × (startBytes [] ≡ 0 ∷ zeros7 [])
+unfolding firstsFrom numbers leBytes
+starts-of = (refl, refl)
 
 -- 65,537 keys at stride 256 make 257 entries, and 65,536 would make 256; a million make 3,907
 pub fence-count : (kind.fenceCount 65536 ≡ 256) × (kind.fenceCount 65537 ≡ 257) × (kind.fenceCount 1000000 ≡ 3907)
@@ -99,9 +130,6 @@ fence-head ks n =
     (head 0, head 4, length-fences ks ∙ ap (λ (m : ℕ). 8 + 24 * m) count)
 
 -- ---- a batch of an inverse heading and three edges: a dead one and a live one of the same key, and one whose group is dense
-
-abbrev zeros7 : List ℕ → List ℕ
-zeros7 xs = 0 ∷ 0 ∷ 0 ∷ 0 ∷ 0 ∷ 0 ∷ 0 ∷ xs
 
 unfoldable pub mixed : List ℕ
 mixed =

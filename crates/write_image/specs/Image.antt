@@ -1,5 +1,5 @@
 -- The file that the writer makes: "Sections in order 1 to 6 without gaps, 5 only if an edge is dead, 6 only above 65,536
--- keys, stride 256. Minor 0."
+-- keys, stride 256. Minor 0."; and the start index "last, from 1,025 keys up, with minor version 1".
 use Prim.Native.Nat.{ℕ, zero, suc, _+_, _-_, _*_, _/_, _^_}
 use mathlib.Core.List.{List, [], _∷_, _++_}
 use mathlib.Core.Bool.{Bool, true, false, _&&_, _||_}
@@ -116,6 +116,17 @@ fencesOf ks = leBytes 4 kind.fenceStride ++ (leBytes 4 (kind.fenceCount (length 
 abbrev pub fenced : ℕ → Bool
 fenced keys = ltb kind.mostUnfenced keys
 
+-- 0x0200: "entry i being the number of edges before group i, the last the edge count"; before the first there are e
+unfoldable pub firstsFrom : ℕ → List Group → List ℕ
+firstsFrom e [] = e ∷ []
+firstsFrom e (g ∷ gs) = e ∷ firstsFrom (e + length (g .edges)) gs
+
+abbrev pub startBytes : List Group → List ℕ
+startBytes gs = numbers kind.startSize (firstsFrom 0 gs)
+
+abbrev pub indexed : ℕ → Bool
+indexed keys = ltb kind.mostUnindexed keys
+
 -- ---- the file
 
 -- "Bit 2 is set exactly if a group is dense, bit 1 exactly if an edge is dead, bit 0 never"; bit 3 says inverse, and so does
@@ -123,10 +134,12 @@ fenced keys = ltb kind.mostUnfenced keys
 abbrev pub flagsBy : ℕ → Bool → Bool → ℕ
 flagsBy direction dense dead = 8 * direction + (4 * bit dense + 2 * bit dead)
 
--- tombstones and fences, each there or not
-unfoldable pub lastSections : Bool → Bool → List Edge → List Group → List Section
-lastSections dead fence es gs =
-    pick dead (rawSection kind.tombstones (tombBytes es) ∷ []) [] ++ pick fence (rawSection kind.fences (fencesOf (keysIn gs)) ∷ []) []
+-- tombstones, fences and start index, each there or not
+unfoldable pub lastSections : Bool → Bool → Bool → List Edge → List Group → List Section
+lastSections dead fence index es gs =
+    pick dead (rawSection kind.tombstones (tombBytes es) ∷ []) []
+    ++ (pick fence (rawSection kind.fences (fencesOf (keysIn gs)) ∷ []) []
+    ++ pick index (rawSection kind.starts (startBytes gs) ∷ []) [])
 
 -- of that many keys, with offsets of w bytes
 unfoldable pub sectionsBy : ℕ → ℕ → Bool → List Edge → List Group → List Section
@@ -135,13 +148,17 @@ sectionsBy keys w dead es gs =
     ∷ rawSection kind.offsets (offsetBytes w keys 0 gs)
     ∷ rawSection kind.partners (partnerBytes keys gs)
     ∷ rawSection kind.logs (logBytes es)
-    ∷ lastSections dead (fenced keys) es gs
+    ∷ lastSections dead (fenced keys) (indexed keys) es gs
+
+-- minor version 1 exactly where there is a start index
+abbrev pub minorOf : ℕ → ℕ
+minorOf keys = bit (indexed keys)
 
 -- the same from what is counted of the edges: keys, bytes of an offset, whether a group is dense, whether an edge is dead
 unfoldable pub layoutBy : Heading → ℕ → ℕ → Bool → Bool → List Edge → List Group → Layout
 layoutBy h keys w dense dead es gs =
     record {
-      head = headBytes 0 (flagsBy (h .direction) dense dead) (h .ids);
+      head = headBytes (minorOf keys) (flagsBy (h .direction) dense dead) (h .ids);
       sections = sectionsBy keys w dead es gs;
       keycount = keys;
       edgecount = length es;

@@ -1,6 +1,6 @@
 -- Each public contract of the crate leaves one result and one content of lent memory.
-use mathlib.Core.Path.{_≡_, refl, sym, ap, ap₂, _∙_}
-use Prim.Native.Nat.{ℕ, _≤_}
+use mathlib.Core.Path.{_≡_, refl, sym, ap, _∙_}
+use Prim.Native.Nat.{ℕ}
 use native.Mathlib.Omega.{arith}
 use mathlib.Core.List.{List}
 use mathlib.Core.Bool.{true≢false}
@@ -13,17 +13,22 @@ use Rattle.write_plan.specs.declared.Plan.{Plan}
 use Rattle.write_plan.specs.declared.Counted.{Counted}
 use Rattle.write_plan.specs.Size.{fileSize}
 use Rattle.write_plan.specs.Parts.{length-file}
-use Rattle.write_plan.specs.Bounds.{tooMany, few, PlanFits, Measured, fits-measured, many-measured}
+use Rattle.write_plan.specs.Bounds.{few, PlanFits, Measured, fits-measured, many-measured}
 use Rattle.base.proofs.Determined.{Determined}
 use Rattle.write_plan.proofs.measure as measure
 use Rattle.write_plan.proofs.measure.Reads as measure-reads
 use Rattle.write_plan.proofs.tomb_size as tomb-size
 use Rattle.write_plan.proofs.tomb_size.Reads as tomb-size-reads
+use Rattle.write_plan.proofs.fences_size as fences-size
+use Rattle.write_plan.proofs.fences_size.Reads as fences-size-reads
 use Rattle.write_plan.proofs.section_count as section-count
 use Rattle.write_plan.proofs.section_count.Reads as section-count-reads
 
 pub tomb-size-determined : Determined tomb-size.ended tomb-size-reads.Pre tomb-size-reads.Post
 tomb-size-determined κs a pre r₁ r₂ w₁ w₂ p q = (p .0 ∙ sym (q .0), refl)
+
+pub fences-size-determined : Determined fences-size.ended fences-size-reads.Pre fences-size-reads.Post
+fences-size-determined κs a pre r₁ r₂ w₁ w₂ p q = (p .0 ∙ sym (q .0), refl)
 
 pub section-count-determined : Determined section-count.ended section-count-reads.Pre section-count-reads.Post
 section-count-determined κs a pre r₁ r₂ w₁ w₂ p q = (p .0 ∙ sym (q .0), refl)

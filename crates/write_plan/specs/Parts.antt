@@ -1,7 +1,8 @@
 -- The parts of the writer's file and their lengths.
-use mathlib.Core.Path.{_≡_, refl, sym, ap, ap₂, subst, _∙_}
-use Prim.Native.Nat.{ℕ, suc, _+_, _*_, _/_, _≤_, _<_}
+use mathlib.Core.Path.{_≡_, refl, sym, ap, _∙_}
+use Prim.Native.Nat.{ℕ, _+_, _*_, _/_}
 use native.Mathlib.Omega.{arith}
+use native.Mathlib.Nat.{add-zero}
 use mathlib.Core.List.{List, [], _∷_, _++_, append-nil, append-assoc}
 use mathlib.Core.Bool.{Bool, true, false}
 use lib.ListN.{length, length-append}
@@ -13,44 +14,79 @@ use Rattle.frame.specs.Layout.{Section, Layout, rawSection, headBytes, payload,
 use Rattle.batch.specs.declared.Edge.{Edge}
 use Rattle.batch.specs.Batch.{Heading}
 use Rattle.batch_groups.specs.Groups.{Group, groupsOf}
-use Rattle.write_image.specs.Image.{keysIn, anyDense, keyBytes, offsetBytes, partnerBytes, widthOf, logBytes, bit, tombBytes, fencesOf, fenced, flagsBy, lastSections, sectionsBy, layoutBy, layoutOf, fileOf}
-use Rattle.write_image.specs.Image.Laws.{length-keys, length-keysIn, length-offsets, length-logBytes, length-tombs, length-fences}
-use Rattle.write_frame.specs.Standing.{Extent, entriesIn, total, extents, PlainSections}
-use Rattle.write_frame.specs.Runs.{length-head, rowBytes, length-row, entry-row, length-trailer, countBytes, length-counts}
-use Rattle.write_plan.specs.Size.{tombSize, fencesSize, sectionsSize, sectionCount, fileSize, Fitting}
+use Rattle.write_image.specs.Image.{keysIn, anyDense, keyBytes, offsetBytes, partnerBytes, widthOf, logBytes, bit, tombBytes, fencesOf, fenced, startBytes, indexed, flagsBy, lastSections, minorOf, sectionsBy, layoutBy, layoutOf, fileOf}
+use Rattle.write_image.specs.Image.Laws.{length-keys, length-keysIn, length-offsets, length-logBytes, length-tombs, length-fences, length-startBytes}
+use Rattle.write_frame.specs.Standing.{Extent, total, total-append, extents, extents-append, payload-append, total-extents, PlainSections, plain-append}
+use Rattle.write_frame.specs.Runs.{length-head, length-trailer, countBytes, length-counts}
+use Rattle.write_plan.specs.Size.{tombSize, fencesSize, startsSize, sectionsSize, sectionCount, fileSize, Fitting}
 
 -- ---- sections
 
-last-payload : (d f : Bool) (es : List Edge) (gs : List Group) → payload (lastSections d f es gs) ≡ pick d (tombBytes es) [] ++ pick f (fencesOf (keysIn gs)) []
-unfolding payload lastSections
-last-payload true true es gs = ap (λ (t : List ℕ). tombBytes es ++ t) (append-nil (fencesOf (keysIn gs)))
-last-payload true false es gs = refl
-last-payload false true es gs = append-nil (fencesOf (keysIn gs))
-last-payload false false es gs = refl
+-- a raw section that is there or not
+module _ (b : Bool) (k : ℕ) (bytes : List ℕ) where
+  abbrev rawIf : List Section
+  rawIf = pick b (rawSection k bytes ∷ []) []
+
+payload-if : (b : Bool) (k : ℕ) (bytes : List ℕ) → payload (rawIf b k bytes) ≡ pick b bytes []
+unfolding payload
+payload-if true k bytes = append-nil bytes
+payload-if false k bytes = refl
+
+plain-if : (b : Bool) (k : ℕ) (bytes : List ℕ) → PlainSections (rawIf b k bytes)
+unfolding PlainSections
+plain-if true k bytes = (refl, tt)
+plain-if false k bytes = tt
+
+count-if : (b : Bool) (k : ℕ) (bytes : List ℕ) → length (rawIf b k bytes) ≡ bit b
+count-if true k bytes = refl
+count-if false k bytes = refl
+
+module _ (d f x : Bool) (es : List Edge) (gs : List Group) where
+  abbrev tombs : List Section
+  tombs = rawIf d kind.tombstones (tombBytes es)
+
+  abbrev fences : List Section
+  fences = rawIf f kind.fences (fencesOf (keysIn gs))
+
+  abbrev starts : List Section
+  starts = rawIf x kind.starts (startBytes gs)
+
+  last-payload : payload (lastSections d f x es gs) ≡ pick d (tombBytes es) [] ++ (pick f (fencesOf (keysIn gs)) [] ++ pick x (startBytes gs) [])
+  unfolding lastSections
+  last-payload =
+      payload-append tombs (fences ++ starts)
+      ∙ ap (λ (t : List ℕ). payload tombs ++ t) (payload-append fences starts)
+      ∙ (λ j. payload-if d kind.tombstones (tombBytes es) j ++ (payload-if f kind.fences (fencesOf (keysIn gs)) j ++ payload-if x kind.starts (startBytes gs) j))
+
+  last-raw : PlainSections (lastSections d f x es gs)
+  unfolding lastSections
+  last-raw =
+      plain-append tombs (fences ++ starts) (plain-if d kind.tombstones (tombBytes es))
+      (plain-append fences starts (plain-if f kind.fences (fencesOf (keysIn gs))) (plain-if x kind.starts (startBytes gs)))
+
+  count-last : length (lastSections d f x es gs) ≡ bit d + (bit f + bit x)
+  unfolding lastSections
+  count-last =
+      length-append tombs (fences ++ starts)
+      ∙ ap (λ (t : ℕ). length tombs + t) (length-append fences starts)
+      ∙ (λ j. count-if d kind.tombstones (tombBytes es) j + (count-if f kind.fences (fencesOf (keysIn gs)) j + count-if x kind.starts (startBytes gs) j))
 
 -- 1 to 3, which are written side by side, then the others
 pub payload-parts : (keys w : ℕ) (dead : Bool) (es : List Edge) (gs : List Group)
     → payload (sectionsBy keys w dead es gs)
     ≡ (keyBytes gs ++ (offsetBytes w keys 0 gs ++ partnerBytes keys gs))
-    ++ (logBytes es ++ (pick dead (tombBytes es) [] ++ pick (fenced keys) (fencesOf (keysIn gs)) []))
+    ++ (logBytes es ++ (pick dead (tombBytes es) [] ++ (pick (fenced keys) (fencesOf (keysIn gs)) [] ++ pick (indexed keys) (startBytes gs) [])))
 unfolding payload sectionsBy
 payload-parts keys w dead es gs =
-    let rest : List ℕ = logBytes es ++ (pick dead (tombBytes es) [] ++ pick (fenced keys) (fencesOf (keysIn gs)) []) in
-    ap (λ (t : List ℕ). keyBytes gs ++ (offsetBytes w keys 0 gs ++ (partnerBytes keys gs ++ (logBytes es ++ t)))) (last-payload dead (fenced keys) es gs)
+    let rest : List ℕ = logBytes es ++ (pick dead (tombBytes es) [] ++ (pick (fenced keys) (fencesOf (keysIn gs)) [] ++ pick (indexed keys) (startBytes gs) [])) in
+    ap (λ (t : List ℕ). keyBytes gs ++ (offsetBytes w keys 0 gs ++ (partnerBytes keys gs ++ (logBytes es ++ t)))) (last-payload dead (fenced keys) (indexed keys) es gs)
     ∙ sym
     (append-assoc (keyBytes gs) (offsetBytes w keys 0 gs ++ partnerBytes keys gs) rest
     ∙ ap (λ (t : List ℕ). keyBytes gs ++ t) (append-assoc (offsetBytes w keys 0 gs) (partnerBytes keys gs) rest))
 
-last-raw : (d f : Bool) (es : List Edge) (gs : List Group) → PlainSections (lastSections d f es gs)
-unfolding PlainSections lastSections
-last-raw true true es gs = (refl, (refl, tt))
-last-raw true false es gs = (refl, tt)
-last-raw false true es gs = (refl, tt)
-last-raw false false es gs = tt
-
 pub sections-raw : (keys w : ℕ) (dead : Bool) (es : List Edge) (gs : List Group) → PlainSections (sectionsBy keys w dead es gs)
 unfolding PlainSections sectionsBy
-sections-raw keys w dead es gs = (refl, (refl, (refl, (refl, last-raw dead (fenced keys) es gs))))
+sections-raw keys w dead es gs = (refl, (refl, (refl, (refl, last-raw dead (fenced keys) (indexed keys) es gs))))
 
 -- ---- the extents of the sections, from the counts
 
@@ -62,10 +98,14 @@ four keys w bytes n =
     ∷ record { kind = kind.logs; len = kind.logsLen n }
     ∷ []
 
+-- an extent that is there or not
+abbrev pub extentIf : Bool → ℕ → ℕ → List Extent
+extentIf b k len = pick b (record { kind = k; len = len } ∷ []) []
+
 unfoldable pub lastBy : ℕ → Bool → ℕ → List Extent
 lastBy n dead keys =
-    pick dead (record { kind = kind.tombstones; len = tombSize n dead } ∷ []) []
-    ++ pick (fenced keys) (record { kind = kind.fences; len = fencesSize keys } ∷ []) []
+    extentIf dead kind.tombstones (tombSize n dead)
+    ++ (extentIf (fenced keys) kind.fences (fencesSize keys) ++ extentIf (indexed keys) kind.starts (startsSize keys))
 
 pub four-is : (keys w bytes n : ℕ) → four keys w bytes n
     ≡ record { kind = kind.keys; len = kind.keysLen keys }
@@ -80,26 +120,25 @@ pub total-four : (keys w bytes n : ℕ) → total (four keys w bytes n) ≡ 16 *
 unfolding total four
 total-four keys w bytes n = omega arith
 
--- the last two, each there or not, of the lengths t and f
-abbrev lastOf : Bool → ℕ → Bool → ℕ → List Extent
-lastOf d t e f = pick d (record { kind = kind.tombstones; len = t } ∷ []) [] ++ pick e (record { kind = kind.fences; len = f } ∷ []) []
-
-total-of : (d : Bool) (t : ℕ) (e : Bool) (f : ℕ) → total (lastOf d t e f) ≡ pick d t 0 + pick e f 0
+pub total-if : (b : Bool) (k len : ℕ) → total (extentIf b k (pick b len 0)) ≡ pick b len 0
 unfolding total
-total-of true t true f = omega arith
-total-of true t false f = omega arith
-total-of false t true f = omega arith
-total-of false t false f = refl
+total-if true k len = add-zero len
+total-if false k len = refl
 
-same-pick : (d : Bool) (t : ℕ) → pick d (pick d t 0) 0 ≡ pick d t 0
-same-pick true t = refl
-same-pick false t = refl
-
-pub total-last : (n : ℕ) (dead : Bool) (keys : ℕ) → total (lastBy n dead keys) ≡ tombSize n dead + fencesSize keys
+pub total-last : (n : ℕ) (dead : Bool) (keys : ℕ) → total (lastBy n dead keys) ≡ tombSize n dead + (fencesSize keys + startsSize keys)
 unfolding lastBy
 total-last n dead keys =
-    total-of dead (tombSize n dead) (fenced keys) (fencesSize keys)
-    ∙ ap₂ (λ (x y : ℕ). x + y) (same-pick dead ((n + 7) / 8)) (same-pick (fenced keys) (kind.fencesHead + kind.fenceSize * kind.fenceCount keys))
+    let tombs : List Extent = extentIf dead kind.tombstones (tombSize n dead) in
+    let fences : List Extent = extentIf (fenced keys) kind.fences (fencesSize keys) in
+    let starts : List Extent = extentIf (indexed keys) kind.starts (startsSize keys) in
+    total-append tombs (fences ++ starts)
+    ∙ ap (λ (t : ℕ). total tombs + t) (total-append fences starts)
+    ∙ (λ j. total-if dead kind.tombstones (kind.tombstonesLen n) j + (total-if (fenced keys) kind.fences (kind.fencesLen (kind.fenceCount keys)) j + total-if (indexed keys) kind.starts (kind.startsLen keys) j))
+
+extents-if : (b : Bool) (k : ℕ) (bytes : List ℕ) (len : ℕ) → length bytes ≡ len → extents (rawIf b k bytes) ≡ extentIf b k (pick b len 0)
+unfolding extents
+extents-if true k bytes len e = ap (λ (t : ℕ). record { kind = k; len = t } ∷ []) e
+extents-if false k bytes len e = refl
 
 -- ---- lengths
 
@@ -126,13 +165,20 @@ module _ (es : List Edge) (n keys w bytes : ℕ) (dense dead : Bool) (f : Fittin
   fences-long =
       length-fences (keysIn gs) ∙ ap (λ (t : ℕ). kind.fencesHead + kind.fenceSize * kind.fenceCount t) (length-keysIn gs ∙ sym (f .keys-is))
 
-  extents-last : (d e : Bool) → extents (lastSections d e es gs) ≡ lastOf d (pick d ((n + 7) / 8) 0) e (pick e (kind.fencesHead + kind.fenceSize * kind.fenceCount keys) 0)
-  unfolding extents lastSections
-  extents-last true true =
-      ap₂ (λ (t u : ℕ). record { kind = kind.tombstones; len = t } ∷ record { kind = kind.fences; len = u } ∷ []) tombs-long fences-long
-  extents-last true false = ap (λ (t : ℕ). record { kind = kind.tombstones; len = t } ∷ []) tombs-long
-  extents-last false true = ap (λ (u : ℕ). record { kind = kind.fences; len = u } ∷ []) fences-long
-  extents-last false false = refl
+  starts-long : length (startBytes gs) ≡ kind.startsLen keys
+  starts-long = length-startBytes gs ∙ ap kind.startsLen (sym (f .keys-is))
+
+  extents-last : extents (lastSections dead (fenced keys) (indexed keys) es gs) ≡ lastBy n dead keys
+  unfolding lastSections lastBy
+  extents-last =
+      let d : List Section = tombs dead (fenced keys) (indexed keys) es gs in
+      let e : List Section = fences dead (fenced keys) (indexed keys) es gs in
+      let x : List Section = starts dead (fenced keys) (indexed keys) es gs in
+      extents-append d (e ++ x)
+      ∙ ap (λ (t : List Extent). extents d ++ t) (extents-append e x)
+      ∙ (λ j. extents-if dead kind.tombstones (tombBytes es) (kind.tombstonesLen n) tombs-long j
+      ++ (extents-if (fenced keys) kind.fences (fencesOf (keysIn gs)) (kind.fencesLen (kind.fenceCount keys)) fences-long j
+      ++ extents-if (indexed keys) kind.starts (startBytes gs) (kind.startsLen keys) starts-long j))
 
   -- the sections are as long as the counts say
   pub extents-are : extents ss ≡ four keys w bytes n ++ lastBy n dead keys
@@ -143,29 +189,15 @@ module _ (es : List Edge) (n keys w bytes : ℕ) (dense dead : Bool) (f : Fittin
       ∷ record { kind = kind.offsets; len = offsets-long j }
       ∷ record { kind = kind.partners; len = sym (f .bytes-is) j }
       ∷ record { kind = kind.logs; len = logs-long j }
-      ∷ extents-last dead (fenced keys) j)
-
-  last-long : (d e : Bool) → length (payload (lastSections d e es gs)) ≡ pick d ((n + 7) / 8) 0 + pick e (kind.fencesHead + kind.fenceSize * kind.fenceCount keys) 0
-  last-long d e = ap length (last-payload d e es gs) ∙ length-append (pick d (tombBytes es) []) (pick e (fencesOf (keysIn gs)) []) ∙ ap₂ (λ (x y : ℕ). x + y) (one d) (two e)
-    where
-      one : (d : Bool) → length (pick d (tombBytes es) []) ≡ pick d ((n + 7) / 8) 0
-      one true = tombs-long
-      one false = refl
-
-      two : (e : Bool) → length (pick e (fencesOf (keysIn gs)) []) ≡ pick e (kind.fencesHead + kind.fenceSize * kind.fenceCount keys) 0
-      two true = fences-long
-      two false = refl
+      ∷ extents-last j)
 
   pub length-payload : length (payload ss) ≡ sectionsSize keys w bytes n dead
-  unfolding payload sectionsBy sectionsSize
+  unfolding sectionsSize
   length-payload =
-      let last : List ℕ = payload (lastSections dead (fenced keys) es gs) in
-      let a = length-append (keyBytes gs) (offsetBytes w keys 0 gs ++ (partnerBytes keys gs ++ (logBytes es ++ last))) in
-      let b = length-append (offsetBytes w keys 0 gs) (partnerBytes keys gs ++ (logBytes es ++ last)) in
-      let c = length-append (partnerBytes keys gs) (logBytes es ++ last) in
-      let d = length-append (logBytes es) last in
-      let p = f .bytes-is in
-      omega (arith, keys-long, offsets-long, logs-long, last-long dead (fenced keys))
+      sym (total-extents ss)
+      ∙ ap total extents-are
+      ∙ total-append (four keys w bytes n) (lastBy n dead keys)
+      ∙ omega (arith, total-four keys w bytes n, total-last n dead keys)
 
 -- ---- the body
 
@@ -180,16 +212,9 @@ length-entries at (s ∷ ss) r =
     let one : length (entry at s) ≡ 28 = ap (λ (t : Section). length (entry at t)) (r .0) ∙ length-entry at (s .kind) (s .bytes) in
     length-append (entry at s) (entries (at + length (s .bytes)) ss) ∙ omega (arith, one, length-entries (at + length (s .bytes)) ss (r .1))
 
-count-last : (d f : Bool) (es : List Edge) (gs : List Group) → length (lastSections d f es gs) ≡ bit d + bit f
-unfolding lastSections
-count-last true true es gs = refl
-count-last true false es gs = refl
-count-last false true es gs = refl
-count-last false false es gs = refl
-
 pub count-sections : (keys w : ℕ) (dead : Bool) (es : List Edge) (gs : List Group) → length (sectionsBy keys w dead es gs) ≡ sectionCount keys dead
 unfolding sectionsBy
-count-sections keys w dead es gs = let l = count-last dead (fenced keys) es gs in omega arith
+count-sections keys w dead es gs = let l = count-last dead (fenced keys) (indexed keys) es gs in omega arith
 
 pub body-parts : (ss : List Section) (n e bits : ℕ) → bodyBytes ss n e bits ≡ leBytes 2 (length ss) ++ (entries 64 ss ++ countBytes n e bits)
 unfolding bodyBytes countBytes
@@ -228,7 +253,7 @@ module _ (h : Heading) (es : List Edge) (n keys w bytes : ℕ) (dense dead : Boo
   unfolding layoutBy fileSize
   length-file i =
       let ss : List Section = sectionsBy keys w dead es (groupsOf es) in
-      let head : List ℕ = headBytes 0 (flagsBy (h .direction) dense dead) (h .ids) in
+      let head : List ℕ = headBytes (minorOf keys) (flagsBy (h .direction) dense dead) (h .ids) in
       let body : List ℕ = bodyBytes ss keys (length es) (8 * w) in
       let a = length-append head (payload ss ++ (body ++ trailer body)) in
       let b = length-append (payload ss) (body ++ trailer body) in
@@ -236,7 +261,7 @@ module _ (h : Heading) (es : List Edge) (n keys w bytes : ℕ) (dense dead : Boo
       let whole : length (fileOf h es) ≡ length (head ++ (payload ss ++ (body ++ trailer body))) = ap length (sym file-is ∙ file-parts (layoutBy h keys w dense dead es (groupsOf es))) in
       omega (
         arith,
-        length-head [] (flagsBy (h .direction) dense dead) (h .ids),
+        length-head (minorOf keys) (flagsBy (h .direction) dense dead) (h .ids),
         length-payload es n keys w bytes dense dead f,
         length-body ss keys (length es) (8 * w) (sections-raw keys w dead es (groupsOf es)),
         count-sections keys w dead es (groupsOf es),

@@ -2,13 +2,12 @@
 // within the bounds.
 ghost use mathlib.Core.Path.{_≡_};
 ghost use Prim.Native.Nat.{_≤_};
-ghost use lib.ListN.{length};
 ghost use Rattle.base.specs.Pick.{pick};
-ghost use Rattle.frame.specs.Kind.{mostEdges};
+ghost use Rattle.frame.specs.Kind.{startsLen, mostEdges};
 ghost use Rattle.batch_groups.specs.Groups.{groupsOf, Grouped};
 ghost use Rattle.write_image.specs.Image.{widthOf};
 ghost use Rattle.write_source.specs.Source.{sourceEdges};
-ghost use Rattle.write_plan.specs.Size.{tombSize, fencesSize, sectionCount, fileSize, Tallied};
+ghost use Rattle.write_plan.specs.Size.{tombSize, fencesSize, startsSize, sectionCount, fileSize, Tallied};
 ghost use Rattle.write_plan.specs.Bounds.{Measured};
 use frame::Row;
 use frame::bounds::Bounds;
@@ -19,6 +18,7 @@ use frame::kind::Fences;
 use frame::kind::Keys;
 use frame::kind::Logs;
 use frame::kind::Offsets;
+use frame::kind::Starts;
 use frame::kind::Tombstones;
 use write_sections::by_key::partners_size;
 
@@ -68,7 +68,7 @@ pub fn tomb_size(n: usize, dead: bool) -> usize
 }
 
 // The bytes of the fences.
-fn fences_size(keys: usize) -> usize
+pub fn fences_size(keys: usize) -> usize
     requires { ⌜ keys ≤ mostEdges ⌝ }
     ensures { λ r. ⌜ (r ≡ fencesSize keys) × (r ≤ mostEdges) ⌝ }
 {
@@ -78,13 +78,25 @@ fn fences_size(keys: usize) -> usize
     )
 }
 
+// The bytes of the start index.
+fn starts_size(keys: usize) -> usize
+    requires { ⌜ keys ≤ mostEdges ⌝ }
+    ensures { λ r. ⌜ (r ≡ startsSize keys) × (r ≤ startsLen mostEdges) ⌝ }
+{
+    counted_if(
+        (Bounds::UNINDEXED as usize) < keys,
+        Starts::bytes(keys as u64) as usize,
+    )
+}
+
 // How many sections there are.
 pub fn section_count(keys: usize, dead: bool) -> usize
-    ensures { λ r. ⌜ (r ≡ sectionCount keys dead) × (r ≤ 6) ⌝ }
+    ensures { λ r. ⌜ (r ≡ sectionCount keys dead) × (r ≤ 7) ⌝ }
 {
     let tombs = counted_if(dead, 1);
     let fences = counted_if((Bounds::UNFENCED as usize) < keys, 1);
-    4 + (tombs + fences)
+    let starts = counted_if((Bounds::UNINDEXED as usize) < keys, 1);
+    4 + (tombs + (fences + starts))
 }
 
 fn file_size(keys: usize, w: usize, bytes: usize, n: usize, dead: bool) -> usize
@@ -93,9 +105,10 @@ fn file_size(keys: usize, w: usize, bytes: usize, n: usize, dead: bool) -> usize
 {
     let t = tomb_size(n, dead);
     let f = fences_size(keys);
+    let s = starts_size(keys);
     let count = section_count(keys, dead);
     let sections = (Keys::ROW as usize) * keys
-        + ((keys + 1) * w + (bytes + ((Logs::ROW as usize) * n + (t + f))));
+        + ((keys + 1) * w + (bytes + ((Logs::ROW as usize) * n + (t + (f + s)))));
     Header::SIZE + (sections + (Footer::EMPTY + Row::ENTRY * count + Trailer::SIZE))
 }
 

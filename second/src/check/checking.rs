@@ -1,6 +1,8 @@
 //! Checks of the full check, of read-out and of their corpus; those of the
 //! summary stand beside.
 
+mod starts;
+
 use super::groups::{check_fault, group_bytes, Spots, FAULTS};
 use super::{check_framed, check_names, opening, summaries, Named, Tally};
 use crate::batch;
@@ -38,13 +40,14 @@ pub fn check(tally: &mut Tally) {
     check_refusals(tally, &files);
     check_spots(tally, &files);
     check_changed_bytes(tally, &files);
+    starts::check(tally, &files);
     summaries::check(tally, &files);
 }
 
 fn check_sizes(tally: &mut Tally, files: &[CheckFile]) {
     let input = check_files::stdin(files).len();
     let output = check_files::stdout(files).len();
-    tally.same("check input at most 2450000", input <= 2_450_000, true);
+    tally.same("check input at most 2900000", input <= 2_900_000, true);
     for file in files {
         let within = file.bytes.len() <= LONGEST;
         tally.same(&format!("size of {}", file.name), within, true);
@@ -82,9 +85,8 @@ fn keys(file: &CheckFile, record: &OpenedRecord) -> Vec<Id> {
         .collect()
 }
 
-/// The edges of a key, by a lookup with enough room for any group.
-fn looked_up(file: &CheckFile, record: &OpenedRecord, key: &Id) -> Option<Vec<Edge>> {
-    let room = file.bytes.len();
+/// The edges of a key, by a lookup with room for so many.
+fn looked_up(file: &CheckFile, record: &OpenedRecord, key: &Id, room: usize) -> Option<Vec<Edge>> {
     let (mut partners, mut logs, mut marks) = (vec![0; 16 * room], vec![0; room], vec![0; room]);
     let outputs = Outputs {
         partners: &mut partners,
@@ -103,14 +105,24 @@ fn looked_up(file: &CheckFile, record: &OpenedRecord, key: &Id) -> Option<Vec<Ed
     Some((0..degree as usize).map(edge).collect())
 }
 
-/// The lookup of each key finds what the full check has read.
+/// The lookup of each key finds what the full check has read, and if there is a
+/// start index, the lookup without it finds the same.
 fn check_contents(tally: &mut Tally, file: &CheckFile, record: &OpenedRecord, contents: &Contents) {
     let keys = keys(file, record);
     tally.same(&file.name, contents.groups.len(), keys.len());
+    let without_starts = record.starts.map(|_| OpenedRecord {
+        starts: None,
+        ..record.clone()
+    });
     for (key, group) in keys.iter().zip(&contents.groups) {
-        let found = looked_up(file, record, key);
         tally.same(&file.name, group.key, *key);
-        tally.same(&file.name, found.as_ref(), Some(&group.edges));
+        for record in [Some(record), without_starts.as_ref()]
+            .into_iter()
+            .flatten()
+        {
+            let found = looked_up(file, record, key, group.edges.len());
+            tally.same(&file.name, found.as_ref(), Some(&group.edges));
+        }
     }
 }
 
@@ -179,7 +191,7 @@ fn check_refusals(tally: &mut Tally, files: &[CheckFile]) {
         let places: BTreeSet<u64> = told.iter().map(|refusal| refusal.place).collect();
         let groups: BTreeSet<u64> = told.iter().map(|refusal| refusal.beside).collect();
         let enough = match number {
-            10 | 11 | 13 | 14 | 36 => places.len() >= 4,
+            10 | 11 | 13 | 14 | 36 | 37 => places.len() >= 4,
             22 => places.len() >= 8,
             28 => places == BTreeSet::from([0]) && groups.len() >= 3,
             _ if FAULTS.contains(&number) => places.len() >= 5 && groups.len() >= 3,
@@ -214,7 +226,14 @@ fn check_spots(tally: &mut Tally, files: &[CheckFile]) {
 /// if not earlier; a change in a gap is not; and the read-out of a header with
 /// another minor or other ids is told.
 fn check_changed_bytes(tally: &mut Tally, files: &[CheckFile]) {
-    for name in ["example", "board", "full", "check-gaps-of-ones"] {
+    for name in [
+        "example",
+        "board",
+        "full",
+        "check-gaps-of-ones",
+        "indexed",
+        "starts-gaps-everywhere",
+    ] {
         let found = files.iter().find(|file| file.name == name);
         let file = &found.expect("a file of the corpus").bytes;
         let rows = open(file).expect("a sound file").rows;

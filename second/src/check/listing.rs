@@ -37,8 +37,8 @@ fn check_chosen(tally: &mut Tally, files: &[OpenFile]) {
         let some = (1..=OF_EACH_COUNT).contains(&found);
         tally.same(&format!("{count} sections listed"), some, true);
     }
-    let few = (150..=185).contains(&files.len());
-    tally.same("150 to 185 listed", few, true);
+    let few = (160..=200).contains(&files.len());
+    tally.same("160 to 200 listed", few, true);
     tally.notes.push(format!(
         "corpus of the section list: {} files, {} bytes in, {} bytes out",
         files.len(),

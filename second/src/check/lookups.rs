@@ -1,5 +1,7 @@
 //! Checks of the lookups and of their corpus.
 
+mod starts;
+
 use super::groups::{self, check_fault, group_bytes, Spots, FAULTS};
 use super::Tally;
 use crate::corpus::lookup_calls::{
@@ -26,6 +28,7 @@ pub fn check(tally: &mut Tally) {
     check_input(tally, &files);
     let mut told = BTreeMap::new();
     let mut spots = HandMade::default();
+    let mut indexed = Vec::new();
     for file in &files {
         let opened = open(&file.bytes).map(|opened| opened.record);
         for call in &file.calls {
@@ -44,19 +47,32 @@ pub fn check(tally: &mut Tally) {
             check_group(tally, file, call, &outcome, record);
             check_refused(tally, file, call, &outcome, record);
             spots.note(file, call, record);
+            starts::check_call(tally, file, call, &outcome, record);
+            indexed.extend(starts::case(file, call, record, opened.as_ref().ok()));
             if call.record.is_none() {
-                // The record of opening gives what the one call gives.
-                let again = call.outcome_with(&file.bytes, Some(record));
-                let what = format!("{} by the record of opening", call.name);
-                tally.same(&what, again, outcome);
+                check_by_opening(tally, file, call, &outcome, record);
             }
         }
     }
     check_told(tally, told);
+    starts::check_sorts(tally, &indexed);
     spots.one_call.check(tally, "lookups on the file alone");
     spots.by_record.check(tally, "lookups by a record");
     check_bounds(tally);
     check_changed_bytes(tally, &files);
+}
+
+/// The record of opening gives what the one call gives.
+fn check_by_opening(
+    tally: &mut Tally,
+    file: &LookupFile,
+    call: &Call,
+    outcome: &Outcome,
+    record: &OpenedRecord,
+) {
+    let again = call.outcome_with(&file.bytes, Some(record));
+    let what = format!("{} by the record of opening", call.name);
+    tally.same(&what, &again, outcome);
 }
 
 fn check_names(tally: &mut Tally, files: &[LookupFile]) {
@@ -88,8 +104,8 @@ fn check_names(tally: &mut Tally, files: &[LookupFile]) {
 fn check_sizes(tally: &mut Tally, files: &[LookupFile]) {
     let input = lookup_calls::stdin(files).len();
     let output = lookup_calls::stdout(files).len();
-    tally.same("lookup input at most 1900000", input <= 1_900_000, true);
-    tally.same("lookup output at most 1250000", output <= 1_250_000, true);
+    tally.same("lookup input at most 2300000", input <= 2_300_000, true);
+    tally.same("lookup output at most 1550000", output <= 1_550_000, true);
     for file in files {
         let within = file.bytes.len() <= LONGEST_FILE;
         tally.same(&format!("size of {}", file.name), within, true);
@@ -185,6 +201,11 @@ impl<'a> Reader<'a> {
             key_count: self.number(8),
             edge_count: self.number(8),
             offset_bits: self.number(1) as u8,
+            starts: Range {
+                offset: self.number(8),
+                length: self.number(8),
+            },
+            indexed: self.number(1) == 1,
         }
     }
 }
@@ -422,12 +443,13 @@ fn check_told(tally: &mut Tally, mut told: BTreeMap<String, Told>) {
     };
     enough(FOUND, true, true, 10);
     enough(ABSENT, true, true, 1);
-    for number in (1..=16).chain(19..=21).chain(28..=36) {
+    for number in (1..=16).chain(19..=21).chain(28..=37) {
         let answer = &refusal_word(number)[..];
         match number {
             14 => enough(answer, true, true, 4),
             21 => enough(answer, false, true, 1),
             36 => enough(answer, true, false, 4),
+            37 => enough(answer, true, false, 2),
             1..=15 => enough(answer, true, false, 1),
             20 => enough(answer, true, true, 8),
             19 => enough(answer, true, true, 3),
@@ -485,6 +507,7 @@ fn record_at_0(keys: u64, edges: u64) -> OpenedRecord {
         key_count: keys,
         edge_count: edges,
         offset_bits: 24,
+        starts: Some(range(8 * (keys + 1))),
     }
 }
 
@@ -544,7 +567,13 @@ fn check_longest_search(tally: &mut Tally, file: &mut [u8]) {
 /// Lookups have an answer for any bytes, and one of the right form: each byte
 /// of some files changed, with the record of the unchanged file.
 fn check_changed_bytes(tally: &mut Tally, files: &[LookupFile]) {
-    for name in ["one-edge", "three-groups-24-bits", "full", "tombstones"] {
+    for name in [
+        "one-edge",
+        "three-groups-24-bits",
+        "full",
+        "tombstones",
+        "indexed",
+    ] {
         let found = files.iter().find(|file| file.name == name);
         let file = found.expect("a file of the corpus");
         let record = open(&file.bytes).expect("a sound file").record;

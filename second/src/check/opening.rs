@@ -1,6 +1,7 @@
 //! Checks of opening and of its corpus.
 
 mod reserved;
+mod starts;
 
 use super::{check_framed, check_names, Named, Tally};
 use crate::corpus::open_files::{self, OpenFile, Verdict};
@@ -14,7 +15,7 @@ use crate::refusal::Refusal;
 use std::collections::{BTreeMap, BTreeSet};
 
 /// The refusals of opening, in the order of its checks.
-pub const NUMBERS: [u8; 16] = [1, 2, 3, 4, 5, 6, 7, 8, 9, 36, 10, 11, 12, 13, 14, 15];
+pub const NUMBERS: [u8; 17] = [1, 2, 3, 4, 5, 6, 7, 8, 9, 36, 10, 11, 12, 13, 14, 15, 37];
 
 pub fn check(tally: &mut Tally) {
     let small = open_files::small();
@@ -32,6 +33,7 @@ pub fn check(tally: &mut Tally) {
     }
     check_refusals(tally, &small);
     reserved::check(tally, &small);
+    starts::check(tally, &small, &large);
     check_bounds(tally);
     check_any_bytes(tally, &small);
 }
@@ -90,8 +92,8 @@ fn check_headers(tally: &mut Tally, files: &[OpenFile]) {
 
 fn check_sizes(tally: &mut Tally, small: &[OpenFile], large: &[OpenFile]) {
     let size = open_files::stdin(small).len();
-    tally.same("small corpus at most 750000", size <= 750_000, true);
-    tally.same("large files at most 8", large.len() <= 8, true);
+    tally.same("small corpus at most 1020000", size <= 1_020_000, true);
+    tally.same("large files at most 12", large.len() <= 12, true);
     let longest = large.iter().map(|file| file.bytes.len()).max();
     let within = longest.is_some_and(|longest| longest <= 3_500_000);
     tally.same("large files at most 3500000", within, true);
@@ -171,7 +173,7 @@ fn check_refusals(tally: &mut Tally, files: &[OpenFile]) {
         let distinct: BTreeSet<&u64> = places.iter().collect();
         let what = format!("refusal {number}");
         let enough = match number {
-            10 | 11 | 13 | 14 | 36 => distinct.len() >= 4,
+            10 | 11 | 13 | 14 | 36 | 37 => distinct.len() >= 4,
             _ => distinct.len() == 1 && places[0] == 0,
         };
         tally.same(&format!("{what} at its places"), enough, true);
@@ -248,7 +250,7 @@ fn file_of_zeros(keys: u64, edges: u64) -> Vec<u8> {
 /// Opening has an answer for any bytes, and one of the right form: each
 /// beginning of some files, with a trailer put on, and each byte changed.
 fn check_any_bytes(tally: &mut Tally, files: &[OpenFile]) {
-    for name in ["heading-only", "one-edge", "full"] {
+    for name in ["heading-only", "one-edge", "full", "indexed"] {
         let found = files.iter().find(|file| file.name == name);
         let whole = &found.expect("a file of the corpus").bytes;
         for size in 0..whole.len() {
@@ -281,7 +283,7 @@ fn check_answer(tally: &mut Tally, file: &[u8]) {
             beside: 0,
         }) => match number {
             10 | 11 | 36 => place < 64,
-            13 | 14 => place <= bound::KEYS,
+            13 | 14 | 37 => place <= bound::KEYS,
             _ => NUMBERS.contains(&number) && place == 0,
         },
         Err(_) => false,

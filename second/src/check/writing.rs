@@ -10,8 +10,8 @@ use crate::full_check::{full_check, Contents};
 use crate::groups::{self, Edge, Form, Group};
 use crate::header::header;
 use crate::lookup::{lookup, Answer, Outputs};
-use crate::numbers::{id_of, Id};
-use crate::open::open;
+use crate::numbers::{id_of, read_le, Id};
+use crate::open::{bytes_of, open};
 use crate::read_out::read_out;
 use crate::refusal::Refusal;
 use crate::write::{form, needed, over_bounds, split_cost, write};
@@ -28,10 +28,12 @@ pub fn check(tally: &mut Tally) {
         check_batch(tally, batch, ROOM, 1);
     }
     for batch in &large {
-        // Not each key, as each lookup sums the degrees of all before it.
+        // Not each key, as each lookup opens the file again.
         check_batch(tally, batch, LARGE_ROOM, 997);
     }
     check_large_degrees(tally, &large);
+    let all: Vec<&WriteBatch> = small.iter().chain(&large).collect();
+    check_start_counts(tally, &all);
     check_refusals(tally, &small);
     check_beginnings(tally, &small);
     check_example(tally, &small);
@@ -188,6 +190,7 @@ fn check_batch(tally: &mut Tally, batch: &WriteBatch, room: usize, stride: usize
     tally.same(name, summary, summaries::line_of(&batch.bytes));
     let contents = full_check(file).expect("what reads back has passed");
     check_choices(tally, name, file, &contents);
+    check_starts(tally, batch, file);
     for group in contents.groups.iter().step_by(stride) {
         check_lookup(tally, name, file, group);
     }
@@ -195,6 +198,49 @@ fn check_batch(tally: &mut Tally, batch: &WriteBatch, room: usize, stride: usize
     let place = size as u64;
     tally.same(name, short.told, Err(Refusal::at(20, place)));
     tally.same(name, short.output == fresh_output(size - 1), true);
+}
+
+/// The start index of a written file, if there is one, by the records of the
+/// batch: each entry counts those of the keys before.
+fn check_starts(tally: &mut Tally, batch: &WriteBatch, file: &[u8]) {
+    let record = open(file).expect("a sound file").record;
+    let edges = batch::parse(&batch.bytes).expect("a batch").edges;
+    let keys: BTreeSet<Id> = edges.iter().map(|keyed| keyed.key).collect();
+    let what = format!("start index of {}", batch.name);
+    tally.same(&what, record.starts.is_some(), keys.len() >= 1_025);
+    let Some(range) = record.starts else {
+        return;
+    };
+    let before = |key: Id| edges.partition_point(|keyed| keyed.key < key) as u64;
+    let mut counted: Vec<u64> = keys.into_iter().map(before).collect();
+    counted.push(edges.len() as u64);
+    let entries = bytes_of(file, range).chunks_exact(8);
+    let found: Vec<u64> = entries.map(read_le).collect();
+    tally.same(&what, found == counted, true);
+}
+
+/// There are batches of 1,024, 1,025 and 65,537 keys, with dead edges and
+/// without.
+fn check_start_counts(tally: &mut Tally, batches: &[&WriteBatch]) {
+    let mut found = BTreeSet::new();
+    for batch in batches {
+        let Ok(parsed) = batch::parse(&batch.bytes) else {
+            continue;
+        };
+        let keys = parsed.edges.chunk_by(|a, b| a.key == b.key).count();
+        let any_dead = parsed.edges.iter().any(|keyed| keyed.edge.dead);
+        found.insert((keys, any_dead));
+    }
+    for (keys, any_dead) in [
+        (1_024, false),
+        (1_024, true),
+        (1_025, false),
+        (1_025, true),
+        (65_537, false),
+    ] {
+        let what = format!("a batch of {keys} keys, dead edges {any_dead}");
+        tally.same(&what, found.contains(&(keys, any_dead)), true);
+    }
 }
 
 /// The large batches have degrees on both sides of each power of two that the
@@ -218,19 +264,15 @@ fn check_large_degrees(tally: &mut Tally, batches: &[WriteBatch]) {
 fn check_choices(tally: &mut Tally, name: &str, file: &[u8], contents: &Contents) {
     let opened = open(file).expect("a sound file");
     let groups = &contents.groups;
-    let mut kinds = vec![kind::KEYS, kind::OFFSETS, kind::PARTNERS, kind::LOGS];
     let any_dead = groups::edges(groups).any(|edge| edge.dead);
-    if any_dead {
-        kinds.push(kind::TOMBSTONES);
-    }
     if groups.len() > 65_536 {
-        kinds.push(kind::FENCES);
-        let fences = opened.rows.last().expect("the fences").range;
-        let head = &file[fences.offset as usize..][..4];
+        let fences = opened.rows.iter().find(|row| row.kind == kind::FENCES);
+        let at = fences.map_or(0, |row| row.range.offset as usize);
+        let head = &file[at..][..4];
         tally.same(name, head, &256u32.to_le_bytes()[..]);
     }
     let found: Vec<u16> = opened.rows.iter().map(|row| row.kind).collect();
-    tally.same(name, &found, &kinds);
+    tally.same(name, found, kinds_of(groups.len(), any_dead));
     let mut end = HEADER as u64;
     for row in &opened.rows {
         tally.same(
@@ -247,11 +289,27 @@ fn check_choices(tally: &mut Tally, name: &str, file: &[u8], contents: &Contents
         + u32::from(any_dense) * flag::DENSE
         + u32::from(contents.inverse) * flag::INVERSE;
     let header = header(file).expect("a sound file");
-    tally.same(name, (header.minor, header.flags), (0, flags));
+    let minor = u8::from(groups.len() > 1_024);
+    tally.same(name, (header.minor, header.flags), (minor, flags));
     tally.same(name, opened.record.offset_bits, 24);
     for group in groups {
         tally.same(name, group.form, shorter_form(group, groups.len()));
     }
+}
+
+/// The kinds of a written file, in order.
+fn kinds_of(key_count: usize, any_dead: bool) -> Vec<u16> {
+    let mut kinds = vec![kind::KEYS, kind::OFFSETS, kind::PARTNERS, kind::LOGS];
+    if any_dead {
+        kinds.push(kind::TOMBSTONES);
+    }
+    if key_count > 65_536 {
+        kinds.push(kind::FENCES);
+    }
+    if key_count > 1_024 {
+        kinds.push(kind::START_INDEX);
+    }
+    kinds
 }
 
 /// The choice of the form by another way: by the bytes that each would have.

@@ -6,6 +6,7 @@ mod chance;
 mod order;
 pub mod samples;
 mod sound;
+mod starts;
 mod summaries;
 mod sums;
 mod totals;
@@ -41,6 +42,7 @@ pub fn files() -> Vec<CheckFile> {
     sums::add(&mut files);
     bad_groups::add(&mut files);
     totals::add(&mut files);
+    starts::add(&mut files);
     order::add(&mut files);
     chance::add(&mut files);
     summaries::add(&mut files);

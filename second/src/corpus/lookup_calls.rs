@@ -12,6 +12,7 @@ mod records;
 mod rooms;
 mod searches;
 mod sound;
+mod starts;
 mod unsorted;
 
 pub use call::{Call, Intended, LentRecord, Outcome, Rooms, LONGEST_FILE};
@@ -47,6 +48,7 @@ pub fn files() -> Vec<LookupFile> {
     fields::add(&mut files);
     ranges::add(&mut files);
     unsorted::add(&mut files);
+    starts::add(&mut files);
     chance::add(&mut files);
     files.0
 }
@@ -199,7 +201,7 @@ impl LookupFile {
     }
 
     /// Both lookups, where only the partners alone are to be had: an earlier
-    /// degree is at fault, or the edge count.
+    /// degree is at fault, the start index or the edge count.
     fn misplaced(&mut self, name: impl Display, question: Question, degree: u64, index: u64) {
         self.full(&name, question.clone(), expect(19, index));
         self.alone(&name, question, found(degree, index));

@@ -14,6 +14,7 @@ mod ranges;
 mod reserved;
 pub(super) mod samples;
 mod sound;
+mod starts;
 mod table;
 mod unread;
 
@@ -58,12 +59,14 @@ pub fn small() -> Vec<OpenFile> {
     keys_and_offsets::add(&mut files);
     fences::add(&mut files);
     reserved::add(&mut files);
+    starts::add(&mut files);
     pairs::add(&mut files);
     changed::add(&mut files);
     files.0
 }
 
-/// Files about the key count above which fences are required.
+/// Files about the key count above which fences are required, and with many
+/// starts.
 pub fn large() -> Vec<OpenFile> {
     let mut files = Files::default();
     large::add(&mut files);
@@ -124,9 +127,11 @@ fn range_text(range: Range) -> String {
 }
 
 fn record_text(record: &OpenedRecord) -> String {
-    let dead = record.tombstones.map_or("none".to_string(), range_text);
+    let or_none = |range: Option<Range>| range.map_or("none".to_string(), range_text);
+    let dead = or_none(record.tombstones);
+    let starts = or_none(record.starts);
     format!(
-        "opens keys {} offsets {} partners {} logs {} dead {dead} n {} e {} bits {}",
+        "opens keys {} offsets {} partners {} logs {} dead {dead} starts {starts} n {} e {} bits {}",
         range_text(record.keys),
         range_text(record.offsets),
         range_text(record.partners),

@@ -12,7 +12,7 @@ pub const MOST_EDGES: u64 = 40;
 pub const OF_EACH_REFUSAL: usize = 2;
 
 /// Files that pass, by name.
-const CHOSEN: [&str; 40] = [
+const CHOSEN: [&str; 43] = [
     "example",
     "board",
     "check-heading-only",
@@ -42,6 +42,9 @@ const CHOSEN: [&str; 40] = [
     "check-minor-200-unknown-section",
     "check-minor-255-unknown-sections",
     "check-property-streams",
+    "check-starts-five",
+    "check-starts-no-keys",
+    "check-starts-at-0-minor-200",
     "check-65536-bytes",
     "check-chance-0",
     "check-chance-1",

@@ -2,7 +2,7 @@
 //! numbers may stand in the record, so all sums and products are taken where
 //! none can pass the end.
 
-use crate::format::{bound, OFFSET_BITS};
+use crate::format::{bound, OFFSET_BITS, START};
 use crate::open::OpenedRecord;
 use crate::refusal::Refusal;
 
@@ -19,12 +19,13 @@ pub fn check(file: &[u8], record: &OpenedRecord) -> Result<(), Refusal> {
     Ok(())
 }
 
-/// The five ranges alone are asked, and only whether they end in the file: not
+/// The six ranges alone are asked, and only whether they end in the file: not
 /// where they begin, nor whether they overlap each other or the footer.
 fn a_range_leaves(size: u64, record: &OpenedRecord) -> bool {
     [record.keys, record.offsets, record.partners, record.logs]
         .into_iter()
         .chain(record.tombstones)
+        .chain(record.starts)
         .any(|range| range.end() > u128::from(size))
 }
 
@@ -43,4 +44,7 @@ fn a_length_is_wrong(record: &OpenedRecord) -> bool {
         || record
             .tombstones
             .is_some_and(|range| u128::from(range.length) != edges.div_ceil(8))
+        || record
+            .starts
+            .is_some_and(|range| u128::from(range.length) != START as u128 * (keys + 1))
 }

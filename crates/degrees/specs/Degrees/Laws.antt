@@ -8,16 +8,17 @@ use native.Mathlib.Omega.{arith}
 use mathlib.Core.List.{List}
 use mathlib.Core.Bool.{Bool, true, false}
 use lib.ListN.{length}
-use lib.Dec.{leb}
+use lib.Dec.{leb, eqb}
 use borrow.Author.Tests.{lt-ltb, le-ltb, le-leb, lt-leb, eq-eqb, ne-eqb}
+use Rattle.base.specs.Pick.{pick}
 use Rattle.base.specs.Over.{part}
 use Rattle.codes.specs.declared.varint.Varint.{Varint}
 use Rattle.codes.specs.declared.varint.Unread.{Unread}
 use Rattle.codes.specs.Varint.{varintAt}
-use Rattle.frame.specs.Open.{offsetAt}
+use Rattle.frame.specs.Open.{offsetAt, startAt}
 use Rattle.degrees.specs.declared.Degree.{Degree}
 use Rattle.degrees.specs.declared.Sum.{Sum}
-use Rattle.degrees.specs.Degrees.{positive, degreeIn, degreeAt, plus, edgesBefore, capped}
+use Rattle.degrees.specs.Degrees.{positive, degreeIn, degreeAt, plus, edgesBefore, startOf, capped}
 
 -- ---- one degree
 
@@ -49,6 +50,11 @@ module _ (p : List ℕ) (a e : ℕ) where
       in-unread why q = reads ∙ rw q
 
 -- ---- the sum
+
+-- a sum that is at most so many
+pub capped-is : (most : ℕ) (x : Sum) (s : ℕ) → x ≡ Sum.Total s → s ≤ most → capped most x ≡ Sum.Total s
+unfolding capped
+capped-is most x s e h = rw e (simp (le-leb s most h))
 
 -- what is not told stays untold, and a sum that is too large stays too large
 cap-bad : (most : ℕ) (s : Sum) (d : Degree) → capped most s ≡ Sum.Bad → capped most (plus s d) ≡ Sum.Bad
@@ -97,9 +103,31 @@ module _ (p o : List ℕ) (w : ℕ) where
       before-on = next (Degree.Is d) q
 
   pub before-all : (most n sum : ℕ) → edgesBefore p o w n ≡ Sum.Total sum → sum ≤ most → capped most (edgesBefore p o w n) ≡ Sum.Total sum
-  unfolding capped
-  before-all most n sum e h = rw e (simp (le-leb sum most h))
+  before-all most n sum e h = capped-is most (edgesBefore p o w n) sum e h
 
 pub degree-is : (p o : List ℕ) (w j : ℕ) {a e : ℕ} {d : Degree} → a ≡ offsetAt o w j → e ≡ offsetAt o w (j + 1) → degreeIn p a e ≡ d → degreeAt p o w j ≡ d
 unfolding degreeAt
 degree-is p o w j q r h = (λ i. degreeIn p (sym q i) (sym r i)) ∙ h
+
+-- ---- the start index
+
+-- entries that differ by the degree
+pub start-is : (s : List ℕ) (i d : ℕ) → startAt s i + d ≡ startAt s (i + 1) → startOf s i d ≡ Sum.Total (startAt s i)
+unfolding startOf
+start-is s i d e = rw (eq-eqb (startAt s i + d) (startAt s (i + 1)) e)
+
+module _ (most : ℕ) (s : List ℕ) (i d : ℕ) where
+  pub start-over : most < startAt s i → capped most (startOf s i d) ≡ Sum.Bad
+  unfolding capped startOf
+  start-over h = go (eqb (startAt s i + d) (startAt s (i + 1)))
+    where
+      go : (b : Bool) → capped most (pick b (Sum.Total (startAt s i)) Sum.Bad) ≡ Sum.Bad
+      go true = simp (lt-leb (startAt s i) most h)
+      go false = refl
+
+  pub start-unlike : (startAt s i + d ≡ startAt s (i + 1) → ⊥) → capped most (startOf s i d) ≡ Sum.Bad
+  unfolding capped startOf
+  start-unlike h = simp (ne-eqb (startAt s i + d) (startAt s (i + 1)) h)
+
+  pub start-told : startAt s i ≤ most → startAt s i + d ≡ startAt s (i + 1) → capped most (startOf s i d) ≡ Sum.Total (startAt s i)
+  start-told h e = capped-is most (startOf s i d) (startAt s i) (start-is s i d e) h

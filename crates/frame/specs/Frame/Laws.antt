@@ -1,6 +1,6 @@
 -- The laws of the section table and of rules 9 to 12 and 36, and what the rules do not see: sections of unknown kinds and the minor
 -- version.
-use mathlib.Core.Path.{_≡_, refl, sym, ap, _∙_}
+use mathlib.Core.Path.{_≡_, refl, sym, ap, subst, _∙_}
 use mathlib.Core.Logic.{_↔_, _⊎_, inl, inr, ⊎-elim}
 use Prim.Native.Nat.{ℕ, zero, suc, _+_, _-_, _*_, _≤_, _<_}
 use native.Mathlib.Decide.{ℕ-discrete, decLt}
@@ -161,15 +161,19 @@ module _ (good : Row → Bool) (told : ℕ → Refusal) where
 
 -- ---- "Every other kind is skipped"
 
--- the kinds that are read are 1 to 6
-slot-kinds : (i : ℕ) → i < 6 → (1 ≤ numberAt i) × (numberAt i ≤ 6)
-slot-kinds zero h = (omega arith, omega arith)
-slot-kinds (suc zero) h = (omega arith, omega arith)
-slot-kinds (suc (suc zero)) h = (omega arith, omega arith)
-slot-kinds (suc (suc (suc zero))) h = (omega arith, omega arith)
-slot-kinds (suc (suc (suc (suc zero)))) h = (omega arith, omega arith)
-slot-kinds (suc (suc (suc (suc (suc zero))))) h = (omega arith, omega arith)
-slot-kinds (suc (suc (suc (suc (suc (suc i)))))) h = absurd (omega arith)
+-- the kinds that are read are 1 to 6 and 0x0200
+abbrev pub ReadKind : ℕ → Type 0
+ReadKind k = ((1 ≤ k) × (k ≤ 6)) ⊎ (k ≡ 0x0200)
+
+slot-kinds : (i : ℕ) → i < 7 → ReadKind (numberAt i)
+slot-kinds zero h = inl (omega arith, omega arith)
+slot-kinds (suc zero) h = inl (omega arith, omega arith)
+slot-kinds (suc (suc zero)) h = inl (omega arith, omega arith)
+slot-kinds (suc (suc (suc zero))) h = inl (omega arith, omega arith)
+slot-kinds (suc (suc (suc (suc zero)))) h = inl (omega arith, omega arith)
+slot-kinds (suc (suc (suc (suc (suc zero))))) h = inl (omega arith, omega arith)
+slot-kinds (suc (suc (suc (suc (suc (suc zero)))))) h = inr refl
+slot-kinds (suc (suc (suc (suc (suc (suc (suc i))))))) h = absurd (omega arith)
 
 fixed-low : (k : ℕ) → 1 ≤ k → k ≤ 6 → kind.fixed k ≡ true
 fixed-low zero a b = absurd (omega arith)
@@ -181,14 +185,12 @@ fixed-low (suc (suc (suc (suc (suc zero))))) a b = refl
 fixed-low (suc (suc (suc (suc (suc (suc zero)))))) a b = refl
 fixed-low (suc (suc (suc (suc (suc (suc (suc k))))))) a b = absurd (omega arith)
 
-pub fixed-kinds : (k : ℕ) → (kind.fixed k ≡ true) ↔ ((1 ≤ k) × (k ≤ 6))
+pub fixed-kinds : (k : ℕ) → (kind.fixed k ≡ true) ↔ ReadKind k
 fixed-kinds k = (
   λ e.
       let l = ltb-true (kind.slotOf k) (length kind.kinds) e in
-      let q = slot-found k kind.kinds l in
-      let w = slot-kinds (kind.slotOf k) l in
-      (omega arith, omega arith),
-  λ h. fixed-low k (h .0) (h .1),
+      subst ReadKind (slot-found k kind.kinds l) (slot-kinds (kind.slotOf k) l),
+  ⊎-elim (λ h. fixed-low k (h .0) (h .1)) (λ e. rw e),
 )
 
 -- the reserved range: "0x0007 to 0x00FF"
@@ -203,7 +205,8 @@ reserved-kinds k = (
 
 -- a kind that is read is not reserved
 pub fixed-unreserved : (k : ℕ) → kind.fixed k ≡ true → kind.reserved k ≡ false
-fixed-unreserved k e = let w = fixed-kinds k .0 e in simp (lt-leb 7 k (omega arith))
+fixed-unreserved k e =
+    ⊎-elim (λ w. simp (lt-leb 7 k (omega (arith, w .1)))) (λ w. rw w) (fixed-kinds k .0 e)
 
 -- a kind is read, a property stream's, reserved, or unknown
 unknown-parts : (k : ℕ) → kind.unknown k ≡ true → (kind.fixed k ≡ false) × (eqb k kind.properties ≡ false) × (kind.reserved k ≡ false)
@@ -215,18 +218,18 @@ unknown-parts k = go (kind.fixed k) (eqb k kind.properties) (kind.reserved k)
     go false false true e = let q : _≡_ {A = ℕ} 0 1 = cc in absurd (omega arith)
     go false false false e = (refl, refl, refl)
 
--- which kinds are unknown: "kind 0 and kinds from 0x0101 up"
-pub unknown-kinds : (k : ℕ) → (kind.unknown k ≡ true) ↔ ((k ≡ 0) ⊎ (0x0101 ≤ k))
+-- which kinds are unknown: "kind 0 and kinds from 0x0101 up", but for 0x0200
+pub unknown-kinds : (k : ℕ) → (kind.unknown k ≡ true) ↔ ((k ≡ 0) ⊎ ((0x0101 ≤ k) × (k ≡ 0x0200 → ⊥)))
 unknown-kinds k = (λ u. there (unknown-parts k u), ⊎-elim (λ e. rw e) large)
   where
     clash : {t : Bool} → t ≡ true → t ≡ false → ⊥
     clash e d = let q : _≡_ {A = ℕ} 0 1 = cc in omega arith
 
-    there : (kind.fixed k ≡ false) × (eqb k kind.properties ≡ false) × (kind.reserved k ≡ false) → (k ≡ 0) ⊎ (0x0101 ≤ k)
+    there : (kind.fixed k ≡ false) × (eqb k kind.properties ≡ false) × (kind.reserved k ≡ false) → (k ≡ 0) ⊎ ((0x0101 ≤ k) × (k ≡ 0x0200 → ⊥))
     there (x, y, z) = elim (ℕ-discrete k 0) [
       | yes e ↦ inl e
       | no e ↦ elim (decLt 0x0100 k) [
-        | yes h ↦ inr (omega arith)
+        | yes h ↦ inr (omega arith, λ q. clash (fixed-kinds k .1 (inr q)) x)
         | no h ↦ elim (decLt 6 k) [
           | yes g ↦ let other = eqb-false k 0x0100 y in absurd (clash (reserved-kinds k .1 (omega arith, omega arith)) z)
           | no g ↦ absurd (clash (fixed-low k (omega arith) (omega arith)) x)
@@ -234,11 +237,11 @@ unknown-kinds k = (λ u. there (unknown-parts k u), ⊎-elim (λ e. rw e) large)
       ]
     ]
 
-    large : 0x0101 ≤ k → kind.unknown k ≡ true
-    large h = go (kind.fixed k) refl
+    large : (0x0101 ≤ k) × (k ≡ 0x0200 → ⊥) → kind.unknown k ≡ true
+    large (h, other) = go (kind.fixed k) refl
       where
         go : (x : Bool) → kind.fixed k ≡ x → not (x || (eqb k 0x0100 || kind.reserved k)) ≡ true
-        go true p = let w = fixed-kinds k .0 p in absurd (omega arith)
+        go true p = ⊎-elim (λ w. absurd (omega (arith, w .1))) (λ w. absurd (other w)) (fixed-kinds k .0 p)
         go false p = simp (ne-eqb k 0x0100 (λ e. omega arith), le-leb 7 k (omega arith), lt-leb k 255 (omega arith))
 
 -- what the rules ask a table of known kinds is the same of both: whether one is there, whether twice, and how long it is
@@ -260,7 +263,7 @@ module _ (rs ts : List Row) (s : SameKnown rs ts) where
       → countsGood flags (framedFrom c ts) ≡ countsGood flags (framedFrom b rs)
   unfolding countsGood sizesGood presenceGood framedFrom recordFrom
   counts-known flags b c n e w =
-      rw (n, e, w, s .len kind.keys refl, s .len kind.offsets refl, s .len kind.logs refl, s .len kind.tombstones refl, s .there kind.tombstones refl, s .there kind.fences refl, s .there kind.properties refl)
+      rw (n, e, w, s .len kind.keys refl, s .len kind.offsets refl, s .len kind.logs refl, s .len kind.tombstones refl, s .len kind.starts refl, s .there kind.tombstones refl, s .there kind.starts refl, s .there kind.fences refl, s .there kind.properties refl)
 
 -- a table with the kinds of rule 9 has an entry
 pub kinds-some : (rs : List Row) → kindsGood rs ≡ true → 1 ≤ length rs

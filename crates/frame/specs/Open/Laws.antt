@@ -3,11 +3,12 @@ use mathlib.Core.Path.{_≡_, refl, ap, _∙_}
 use mathlib.Core.Logic.{_↔_}
 use Prim.Native.Nat.{ℕ, _+_, _-_, _/_, _^_, _≤_}
 use native.Mathlib.Omega.{arith}
-use mathlib.Core.List.{List}
+use mathlib.Core.List.{List, []}
 use mathlib.Core.Bool.{Bool, true, false, not, _&&_, _||_}
 use lib.ListN.{length}
 use lib.Dec.{ltb, leb, eqb}
 use borrow.Author.Tests.{ltb-false, leb-true, eqb-true, le-leb, le-ltb, eq-eqb}
+use Rattle.base.specs.Pick.{pick}
 use Rattle.base.specs.Over.{length-part}
 use Rattle.codes.specs.Little.{leAt}
 use Rattle.xxh3_spec.specs.Xxh3.{xxh3}
@@ -23,7 +24,7 @@ use Rattle.frame.specs.declared.Opening.{Opening}
 use Rattle.frame.specs.Kind as kind
 use Rattle.frame.specs.Frame.{rowsOf, sectionOf, widthGood, sizesGood, countsGood, flagsOf, footLen, bodyOf, recordOf, framedFrom, framedOf, sizeCheck, headCheck, tailCheck, sumCheck, tableCheck, reservedCheck, codecCheck, rangeCheck, countsCheck, endsCheck, rowsCheck, footerCheck, shapeCheck, frameCheck}
 use Rattle.frame.specs.Frame.Laws.{Table, table-parts, table-made, section-within}
-use Rattle.frame.specs.Open.{knownOf, bytesAt, inside, recordWithin, keysFrom, offsetsFrom, fencesGood, contentCheck, fileCheck, framing, opening, openOf}
+use Rattle.frame.specs.Open.{knownOf, bytesAt, inside, optionsInside, recordWithin, keysFrom, offsetsCheck, startsCheck, fencesGood, contentCheck, fileCheck, framing, opening, openOf}
 
 -- ---- rules 1 to 12 and 36, of a size, first bytes h and last bytes t
 
@@ -145,15 +146,16 @@ pub record Sized (o : Opened) : Type 0 where
   pub offsets : o .offsets .len ≡ kind.offsetsLen (o .keycount) (o .bits / 8)
   pub logs : o .logs .len ≡ kind.logsLen (o .edgecount)
   pub dead : o .marked ≡ true → o .dead .len ≡ kind.tombstonesLen (o .edgecount)
+  pub starts : o .indexed ≡ true → o .starts .len ≡ kind.startsLen (o .keycount)
 
--- what is asked where there are tombstones
-marked-parts : (m b : Bool) → (not m || b) ≡ true → m ≡ true → b ≡ true
-marked-parts true b e h = e
-marked-parts false b e h = let z : _≡_ {A = ℕ} 0 1 = cc in absurd (omega arith)
+-- what is asked where there are tombstones, or a start index
+there-parts : (m b : Bool) → (not m || b) ≡ true → m ≡ true → b ≡ true
+there-parts true b e h = e
+there-parts false b e h = let z : _≡_ {A = ℕ} 0 1 = cc in absurd (omega arith)
 
-marked-made : (m b : Bool) → (m ≡ true → b ≡ true) → (not m || b) ≡ true
-marked-made true b e = e refl
-marked-made false b e = refl
+there-made : (m b : Bool) → (m ≡ true → b ≡ true) → (not m || b) ≡ true
+there-made true b e = e refl
+there-made false b e = refl
 
 module _ (o : Opened) where
   pub sized-parts : sizesGood o ≡ true → Sized o
@@ -164,13 +166,15 @@ module _ (o : Opened) where
       let c = and-parts (eqb (o .keys .len) (kind.keysLen (o .keycount))) _ (b .1) in
       let d = and-parts (eqb (o .offsets .len) (kind.offsetsLen (o .keycount) (o .bits / 8))) _ (c .1) in
       let e = and-parts (eqb (o .logs .len) (kind.logsLen (o .edgecount))) _ (d .1) in
+      let g = and-parts (not (o .marked) || eqb (o .dead .len) (kind.tombstonesLen (o .edgecount))) _ (e .1) in
       record {
         few = leb-true _ _ (a .0);
         edges = leb-true _ _ (b .0);
         keys = eqb-true _ _ (c .0);
         offsets = eqb-true _ _ (d .0);
         logs = eqb-true _ _ (e .0);
-        dead = λ m. eqb-true _ _ (marked-parts (o .marked) _ (e .1) m);
+        dead = λ m. eqb-true _ _ (there-parts (o .marked) _ (g .0) m);
+        starts = λ m. eqb-true _ _ (there-parts (o .indexed) _ (g .1) m);
       }
 
   pub sized-made : Sized o → sizesGood o ≡ true
@@ -179,7 +183,8 @@ module _ (o : Opened) where
       and-both (le-leb (o .keycount) kind.mostKeys (s .few)) (and-both (le-leb (o .edgecount) kind.mostEdges (s .edges))
       (and-both (eq-eqb (o .keys .len) (kind.keysLen (o .keycount)) (s .keys)) (and-both (eq-eqb (o .offsets .len) (kind.offsetsLen (o .keycount) (o .bits / 8)) (s .offsets))
       (and-both (eq-eqb (o .logs .len) (kind.logsLen (o .edgecount)) (s .logs))
-      (marked-made (o .marked) _ (λ m. eq-eqb (o .dead .len) (kind.tombstonesLen (o .edgecount)) (s .dead m)))))))
+      (and-both (there-made (o .marked) _ (λ m. eq-eqb (o .dead .len) (kind.tombstonesLen (o .edgecount)) (s .dead m)))
+      (there-made (o .indexed) _ (λ m. eq-eqb (o .starts .len) (kind.startsLen (o .keycount)) (s .starts m))))))))
 
 -- a width of 24, 32, 40 or 48 bits is 3 to 6 bytes
 pub width-bytes : (bits : ℕ) → widthGood bits ≡ true → (3 ≤ bits / 8) × (bits / 8 ≤ 6)
@@ -218,6 +223,7 @@ pub record Recorded (size : ℕ) (o : Opened) : Type 0 where
   pub partners : o .partners .start + o .partners .len ≤ size
   pub logs : o .logs .start + o .logs .len ≤ size
   pub dead : o .marked ≡ true → o .dead .start + o .dead .len ≤ size
+  pub starts : o .indexed ≡ true → o .starts .start + o .starts .len ≤ size
   pub width : widthGood (o .bits) ≡ true
   pub sized : Sized o
 
@@ -230,7 +236,8 @@ module _ (size : ℕ) (o : Opened) where
       let c = and-parts (inside size (o .offsets)) _ (b .1) in
       let d = and-parts (inside size (o .partners)) _ (c .1) in
       let e = and-parts (inside size (o .logs)) _ (d .1) in
-      let g = and-parts (not (o .marked) || inside size (o .dead)) _ (e .1) in
+      let g = and-parts (optionsInside size o) _ (e .1) in
+      let h = and-parts (not (o .marked) || inside size (o .dead)) (not (o .indexed) || inside size (o .starts)) (g .0) in
       let i = and-parts (widthGood (o .bits)) (sizesGood o) (g .1) in
       record {
         bytes = leb-true _ _ (a .0);
@@ -238,7 +245,8 @@ module _ (size : ℕ) (o : Opened) where
         offsets = leb-true _ _ (c .0);
         partners = leb-true _ _ (d .0);
         logs = leb-true _ _ (e .0);
-        dead = λ m. leb-true _ _ (marked-parts (o .marked) _ (g .0) m);
+        dead = λ m. leb-true _ _ (there-parts (o .marked) _ (h .0) m);
+        starts = λ m. leb-true _ _ (there-parts (o .indexed) _ (h .1) m);
         width = i .0;
         sized = sized-parts o (i .1);
       }
@@ -250,17 +258,18 @@ module _ (size : ℕ) (o : Opened) where
   unfolding recordWithin
   recorded-made s =
       and-both (le-leb size kind.mostBytes (s .bytes)) (and-both (within (o .keys) (s .keys)) (and-both (within (o .offsets) (s .offsets)) (and-both (within (o .partners) (s .partners))
-      (and-both (within (o .logs) (s .logs)) (and-both (marked-made (o .marked) _ (λ m. within (o .dead) (s .dead m))) (and-both (s .width) (sized-made o (s .sized))))))))
+      (and-both (within (o .logs) (s .logs))
+      (and-both (and-both (there-made (o .marked) _ (λ m. within (o .dead) (s .dead m))) (there-made (o .indexed) _ (λ m. within (o .starts) (s .starts m))))
+      (and-both (s .width) (sized-made o (s .sized))))))))
 
--- ---- rules 13 to 15
+-- ---- rules 13 to 15 and 37
 
 pub record Opens (f : List ℕ) : Type 0 where
   pub frames : Frames f
   pub keys : keysFrom (recordOf f .keycount - 1) (bytesAt f (recordOf f .keys)) 1 ≡ Check.Fine
-  pub offsets :
-      offsetsFrom (recordOf f .keycount + 1) (bytesAt f (recordOf f .offsets)) (recordOf f .bits / 8) (recordOf f .keycount) (length (bytesAt f (recordOf f .partners))) 0
-      ≡ Check.Fine
+  pub offsets : offsetsCheck (bytesAt f (recordOf f .offsets)) (recordOf f .bits / 8) (recordOf f .keycount) (length (bytesAt f (recordOf f .partners))) ≡ Check.Fine
   pub fences : (framedOf f .fenced && not (fencesGood (bytesAt f (framedOf f .fences)) (bytesAt f (recordOf f .keys)) (recordOf f .keycount))) ≡ false
+  pub starts : recordOf f .indexed ≡ true → startsCheck (bytesAt f (recordOf f .starts)) (recordOf f .keycount) (recordOf f .edgecount) ≡ Check.Fine
 
 not-refused : (r : Refusal) (t : Bool) → refuse r t ≡ Check.Fine → t ≡ false
 not-refused r true e = let z : _≡_ {A = ℕ} 0 1 = cc in absurd (omega arith)
@@ -276,8 +285,15 @@ unfolding openOf fileCheck contentCheck knownOf
 opens-parts f o e =
     let a = fine-parts (frameCheck (length f) f f) _ (opening-good (fileCheck f) o (recordOf f) e .0) in
     let b = fine-parts (keysFrom (recordOf f .keycount - 1) (bytesAt f (recordOf f .keys)) 1) _ (a .1) in
-    let c = fine-parts (offsetsFrom (recordOf f .keycount + 1) (bytesAt f (recordOf f .offsets)) (recordOf f .bits / 8) (recordOf f .keycount) (length (bytesAt f (recordOf f .partners))) 0) _ (b .1) in
-    record { frames = frames-parts (length f) f f (a .0); keys = b .0; offsets = c .0; fences = not-refused Refusal.Fences _ (c .1) }
+    let c = fine-parts (offsetsCheck (bytesAt f (recordOf f .offsets)) (recordOf f .bits / 8) (recordOf f .keycount) (length (bytesAt f (recordOf f .partners)))) _ (b .1) in
+    let d = fine-parts (refuse Refusal.Fences (framedOf f .fenced && not (fencesGood (bytesAt f (framedOf f .fences)) (bytesAt f (recordOf f .keys)) (recordOf f .keycount)))) _ (c .1) in
+    record {
+      frames = frames-parts (length f) f f (a .0);
+      keys = b .0;
+      offsets = c .0;
+      fences = not-refused Refusal.Fences _ (d .0);
+      starts = λ m. (rw m at (d .1));
+    }
 
 -- the record that opening gives is the file's
 pub opens-record : (f : List ℕ) (o : Opened) → openOf f ≡ Opening.Good o → recordOf f ≡ o
@@ -289,8 +305,12 @@ unfolding openOf fileCheck contentCheck knownOf opening
 opens-made f s =
     let fences : refuse Refusal.Fences (framedOf f .fenced && not (fencesGood (bytesAt f (framedOf f .fences)) (bytesAt f (recordOf f .keys)) (recordOf f .keycount))) ≡ Check.Fine =
     ap (refuse Refusal.Fences) (s .fences) in
-    let good : fileCheck f ≡ Check.Fine = fine-both (frames-made (length f) f f (s .frames)) (fine-both (s .keys) (fine-both (s .offsets) fences)) in
+    let good : fileCheck f ≡ Check.Fine = fine-both (frames-made (length f) f f (s .frames)) (fine-both (s .keys) (fine-both (s .offsets) (fine-both fences (starts (recordOf f .indexed) refl)))) in
     ap (λ (t : Check). opening t (recordOf f)) good
+  where
+    starts : (b : Bool) → recordOf f .indexed ≡ b → pick b (startsCheck (pick b (bytesAt f (recordOf f .starts)) []) (recordOf f .keycount) (recordOf f .edgecount)) Check.Fine ≡ Check.Fine
+    starts true m = s .starts m
+    starts false m = refl
 
 -- what opening answers, exactly: the record where no rule is broken, or the first refusal
 module _ (f : List ℕ) where

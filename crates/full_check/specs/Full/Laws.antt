@@ -22,7 +22,7 @@ use Rattle.codes.specs.declared.ids.Id.{Id}
 use Rattle.refusal.specs.declared.Refusal.{Refusal}
 use Rattle.refusal.specs.declared.Check.{Check}
 use Rattle.refusal.specs.Check.{_⊳_, refuse}
-use Rattle.frame.specs.Open.{bytesAt, offsetAt}
+use Rattle.frame.specs.Open.{bytesAt, offsetAt, startAt}
 use Rattle.index.specs.Order.{OffsetsRise}
 use Rattle.degrees.specs.Degrees.{groupAt}
 use Rattle.group.specs.declared.GroupVerdict.{GroupVerdict}
@@ -34,7 +34,7 @@ use Rattle.group.specs.Good.{group-length}
 use Rattle.lookup.specs.Lookup.{groupCheck}
 use Rattle.lookup.specs.Groups.{check-fine, check-bad}
 use Rattle.full_check.specs.declared.groups.Groups.{Groups}
-use Rattle.full_check.specs.Full.{sumGood, sumsFrom, denseOf, groupIn, groupsFrom, degreesFrom, denseFrom, groupsTold, groupsSeen}
+use Rattle.full_check.specs.Full.{sumGood, sumsFrom, denseOf, groupIn, groupsFrom, degreesFrom, denseFrom, strayFrom, groupsTold, groupsSeen}
 
 -- ---- the sums: k entries are passed, the next is at i of the footer body b
 
@@ -116,16 +116,17 @@ answered g d dense e =
 
 -- ---- the pass over n groups: i of them are passed, the next begins at a
 
-module _ (p o : List ℕ) (w n : ℕ) where
-  pub record Walk (i a edges : ℕ) (dense : Bool) : Type 0 where
+module _ (p o : List ℕ) (w n : ℕ) (there : Bool) (starts : List ℕ) where
+  pub record Walk (i a edges : ℕ) (dense stray : Bool) : Type 0 where
     pub most : i ≤ n
     pub place : a ≡ offsetAt o w i
     pub few : edges ≤ a
     pub check : groupsFrom p o w (n - i) i ≡ groupsFrom p o w n 0
     pub sum : edges + degreesFrom p o w (n - i) i ≡ degreesFrom p o w n 0
     pub thick : (dense || denseFrom p o w (n - i) i) ≡ denseFrom p o w n 0
+    pub apart : (stray || (there && strayFrom p o w starts (n - i) i edges)) ≡ (there && strayFrom p o w starts n 0 0)
 
-  pub walk-start : OffsetsRise o w n (length p) → Walk 0 0 0 false
+  pub walk-start : OffsetsRise o w n (length p) → Walk 0 0 0 false false
   walk-start z = record {
     most = omega arith;
     place = sym (z .first);
@@ -133,9 +134,10 @@ module _ (p o : List ℕ) (w n : ℕ) where
     check = ap (λ (t : ℕ). groupsFrom p o w t 0) (sub-zero n);
     sum = zero-add _ ∙ ap (λ (t : ℕ). degreesFrom p o w t 0) (sub-zero n);
     thick = ap (λ (t : ℕ). denseFrom p o w t 0) (sub-zero n);
+    apart = ap (λ (t : ℕ). there && strayFrom p o w starts t 0 0) (sub-zero n);
   }
 
-  module _ (z : OffsetsRise o w n (length p)) (i a edges : ℕ) (dense : Bool) (h : Walk i a edges dense) (lt : i < n) where
+  module _ (z : OffsetsRise o w n (length p)) (i a edges : ℕ) (dense stray : Bool) (h : Walk i a edges dense stray) (lt : i < n) where
     left : n - i ≡ suc (n - (i + 1))
     left = omega arith
 
@@ -165,7 +167,14 @@ module _ (p o : List ℕ) (w n : ℕ) where
           sym (h .thick) ∙ ap (λ (t : ℕ). dense || denseFrom p o w t i) left
           ∙ ap (λ (t : Decoded). dense || (denseOf t || denseFrom p o w (n - (i + 1)) (i + 1))) here
 
-      pub walk-bad : (f : Fault) → verdictOf (groupOf (part p a e)) ≡ GroupVerdict.Bad f → groupsSeen p o w n ≡ Groups.Refused (refusalOf i f)
+      apart-here : (there && strayFrom p o w starts n 0 0)
+          ≡ (stray || (there && (not (eqb (startAt starts i) edges) || strayFrom p o w starts (n - (i + 1)) (i + 1) (edges + length (partnersOf (groupOf (part p a e)))))))
+      unfolding strayFrom
+      apart-here =
+          sym (h .apart) ∙ ap (λ (t : ℕ). stray || (there && strayFrom p o w starts t i edges)) left
+          ∙ ap (λ (t : Decoded). stray || (there && (not (eqb (startAt starts i) edges) || strayFrom p o w starts (n - (i + 1)) (i + 1) (edges + length (partnersOf t))))) here
+
+      pub walk-bad : (f : Fault) → verdictOf (groupOf (part p a e)) ≡ GroupVerdict.Bad f → groupsSeen p o w n there starts ≡ Groups.Refused (refusalOf i f)
       unfolding groupsSeen groupsTold
       walk-bad f g = rw (check-here, answered-bad (groupOf (part p a e)) f g, check-bad i f)
 
@@ -181,8 +190,8 @@ module _ (p o : List ℕ) (w n : ℕ) where
             let few = h .few in
             omega arith
 
-        pub walk-on : {c : Bool} → c ≡ (dense || b) → Walk (i + 1) e (edges + d) c
-        walk-on k =
+        pub walk-on : {c v : Bool} → c ≡ (dense || b) → v ≡ (stray || (there && not (eqb (startAt starts i) edges))) → Walk (i + 1) e (edges + d) c v
+        walk-on {c} {v} k l =
             let s = answered (groupOf (part p a e)) d b g in
             let sums = sum-here in
             let degree = s .degree in
@@ -197,20 +206,34 @@ module _ (p o : List ℕ) (w n : ℕ) where
                   ∙ ap (λ (t : Bool). dense || (t || denseFrom p o w (n - (i + 1)) (i + 1))) (s .kind)
                   ∙ either-assoc dense b (denseFrom p o w (n - (i + 1)) (i + 1))
                   ∙ ap (λ (t : Bool). t || denseFrom p o w (n - (i + 1)) (i + 1)) (sym k));
+              apart = sym
+                  (apart-here
+                  ∙ ap (λ (t : ℕ). stray || (there && (not (eqb (startAt starts i) edges) || strayFrom p o w starts (n - (i + 1)) (i + 1) (edges + t)))) degree
+                  ∙ over-both stray there (not (eqb (startAt starts i) edges)) (strayFrom p o w starts (n - (i + 1)) (i + 1) (edges + d))
+                  ∙ ap (λ (t : Bool). t || (there && strayFrom p o w starts (n - (i + 1)) (i + 1) (edges + d))) (sym l));
             }
           where
             either-assoc : (x y v : Bool) → (x || (y || v)) ≡ ((x || y) || v)
             either-assoc true y v = refl
             either-assoc false y v = refl
 
-  pub walk-end : (i a edges : ℕ) (dense : Bool) → Walk i a edges dense → n ≤ i → Groups.Good edges dense ≡ groupsSeen p o w n
-  unfolding groupsSeen groupsTold groupsFrom degreesFrom denseFrom
-  walk-end i a edges dense h le =
+            over-both : (x b y v : Bool) → (x || (b && (y || v))) ≡ ((x || (b && y)) || (b && v))
+            over-both true b y v = refl
+            over-both false true y v = refl
+            over-both false false y v = refl
+
+  pub walk-end : (i a edges : ℕ) (dense stray : Bool) → Walk i a edges dense stray → n ≤ i → {v : Bool} → v ≡ (stray || (there && not (eqb (startAt starts n) edges)))
+      → Groups.Good edges dense v ≡ groupsSeen p o w n there starts
+  unfolding groupsSeen groupsTold groupsFrom degreesFrom denseFrom strayFrom
+  walk-end i a edges dense stray h le l =
       let none : n - i ≡ 0 = omega arith in
       let c : groupsFrom p o w n 0 ≡ Check.Fine = sym (h .check) ∙ ap (λ (t : ℕ). groupsFrom p o w t i) none in
       let s : degreesFrom p o w n 0 ≡ edges = sym (h .sum) ∙ ap (λ (t : ℕ). edges + degreesFrom p o w t i) none ∙ add-zero edges in
       let t : denseFrom p o w n 0 ≡ dense = sym (h .thick) ∙ ap (λ (u : ℕ). dense || denseFrom p o w u i) none ∙ or-false dense in
-      rw (c, s, t)
+      let last : i ≡ n = let most = h .most in omega arith in
+      let u : (there && strayFrom p o w starts n 0 0) ≡ (stray || (there && not (eqb (startAt starts n) edges))) =
+      sym (h .apart) ∙ ap (λ (x : ℕ). stray || (there && strayFrom p o w starts x i edges)) none ∙ ap (λ (x : ℕ). stray || (there && not (eqb (startAt starts x) edges))) last in
+      rw (c, s, t, u) (ap (Groups.Good edges dense) l)
     where
       or-false : (b : Bool) → (b || false) ≡ b
       or-false true = refl

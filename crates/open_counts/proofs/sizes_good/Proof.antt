@@ -1,7 +1,7 @@
 -- `counts::sizes_good` meets its contract.
 use mathlib.Core.Path.{_≡_, sym, ap, _∙_}
 use Prim.Native.Nat.{ℕ, _+_, _*_, _/_, _≤_, _<_}
-use mathlib.Core.Bool.{true, false}
+use mathlib.Core.Bool.{true, false, not, _&&_, _||_}
 use lib.Dec.{eqb}
 use borrow.Author.Tests.{le-leb, lt-leb, eq-eqb, ne-eqb, not-true, not-false}
 use Rattle.frame.specs.declared.Opened.{Opened}
@@ -12,7 +12,6 @@ use Rattle.open_counts.proofs.sizes_good.Tie as tie
 use Rattle.frame.proofs.kind.Keys.bytes.Reads as kind-Keys-bytes-reads
 use Rattle.frame.proofs.kind.Logs.bytes.Reads as kind-Logs-bytes-reads
 use Rattle.frame.proofs.kind.Offsets.bytes.Reads as kind-Offsets-bytes-reads
-use Rattle.frame.proofs.kind.Tombstones.bytes.Reads as kind-Tombstones-bytes-reads
 use borrow.Author.Needs.{needs}
 use native.Mathlib.Omega.{arith}
 
@@ -42,13 +41,9 @@ module _ (o : Opened) where
           other-loglen h = simp (le-leb (o .keycount) kind.mostKeys s0, le-leb (o .edgecount) kind.mostEdges s1, eq-eqb (o .keys .len) (kind.keysLen (o .keycount)) s2, eq-eqb (o .offsets .len) (kind.offsetsLen (o .keycount) (o .bits / 8)) s3, ne-eqb (o .logs .len) (kind.logsLen (o .edgecount)) h)
 
           module _ (s4 : o .logs .len ≡ kind.logsLen (o .edgecount)) where
-            unmarked : o .marked ≡ false → sizesGood o ≡ true
+            optional : sizesGood o ≡ ((not (o .marked) || eqb (o .dead .len) (kind.tombstonesLen (o .edgecount))) && (not (o .indexed) || eqb (o .starts .len) (kind.startsLen (o .keycount))))
             unfolding sizesGood
-            unmarked m = simp (le-leb (o .keycount) kind.mostKeys s0, le-leb (o .edgecount) kind.mostEdges s1, eq-eqb (o .keys .len) (kind.keysLen (o .keycount)) s2, eq-eqb (o .offsets .len) (kind.offsetsLen (o .keycount) (o .bits / 8)) s3, eq-eqb (o .logs .len) (kind.logsLen (o .edgecount)) s4, m)
-
-            marked : o .marked ≡ true → sizesGood o ≡ eqb (o .dead .len) (kind.tombstonesLen (o .edgecount))
-            unfolding sizesGood
-            marked m = simp (le-leb (o .keycount) kind.mostKeys s0, le-leb (o .edgecount) kind.mostEdges s1, eq-eqb (o .keys .len) (kind.keysLen (o .keycount)) s2, eq-eqb (o .offsets .len) (kind.offsetsLen (o .keycount) (o .bits / 8)) s3, eq-eqb (o .logs .len) (kind.logsLen (o .edgecount)) s4, m)
+            optional = simp (le-leb (o .keycount) kind.mostKeys s0, le-leb (o .edgecount) kind.mostEdges s1, eq-eqb (o .keys .len) (kind.keysLen (o .keycount)) s2, eq-eqb (o .offsets .len) (kind.offsetsLen (o .keycount) (o .bits / 8)) s3, eq-eqb (o .logs .len) (kind.logsLen (o .edgecount)) s4)
 
 returns : tie.Need-returns
 returns c = let o = c .before .args .o in sym (many-keys o (omega arith))
@@ -60,7 +55,7 @@ bytes-requires : tie.Need-bytes-requires
 bytes-requires c κs = search needs
 
 returns-3 : tie.Need-returns-3
-returns-3 c = let o = c .before .before .before .before .before .before .before .before .before .args .o in sym (other-keylen o (omega arith) (omega arith) (λ q. omega arith))
+returns-3 c = let o = c .before .before .before .before .before .before .before .before .args .o in sym (other-keylen o (omega arith) (omega arith) (λ q. omega arith))
 
 cast-bytes : tie.Need-cast-bytes
 cast-bytes c = search needs
@@ -69,22 +64,19 @@ bytes-requires-2 : tie.Need-bytes-requires-2
 bytes-requires-2 c κs = (omega arith, omega arith)
 
 returns-4 : tie.Need-returns-4
-returns-4 c = let o = c .before .before .before .before .before .before .before .before .before .before .before .before .before .args .o in sym (other-offsetlen o (omega arith) (omega arith) (omega arith) (λ q. omega arith))
+returns-4 c = let o = c .before .before .before .before .before .before .before .before .before .before .before .before .args .o in sym (other-offsetlen o (omega arith) (omega arith) (omega arith) (λ q. omega arith))
 
 bytes-requires-3 : tie.Need-bytes-requires-3
 bytes-requires-3 c κs = search needs
 
 returns-5 : tie.Need-returns-5
-returns-5 c = let o = c .before .before .before .before .before .before .before .before .before .before .before .before .before .before .before .before .args .o in sym (other-loglen o (omega arith) (omega arith) (omega arith) (omega arith) (λ q. omega arith))
+returns-5 c = let o = c .before .before .before .before .before .before .before .before .before .before .before .before .before .before .before .args .o in sym (other-loglen o (omega arith) (omega arith) (omega arith) (omega arith) (λ q. omega arith))
+
+options-good-requires : tie.Need-options-good-requires
+options-good-requires c κs = search needs
 
 returns-6 : tie.Need-returns-6
-returns-6 c = let o = c .before .before .before .before .before .before .before .before .before .before .before .before .before .before .before .before .before .before .args .o in sym (unmarked o (omega arith) (omega arith) (omega arith) (omega arith) (omega arith) (not-true _ (c .if6 .taken)))
-
-bytes-requires-4 : tie.Need-bytes-requires-4
-bytes-requires-4 c κs = search needs
-
-returns-7 : tie.Need-returns-7
-returns-7 c = let o = c .before .before .before .before .before .before .before .before .before .before .before .before .before .before .before .before .before .before .before .before .args .o in ap (eqb (o .dead .len)) (c .before .bytes4 .ensures) ∙ sym (marked o (omega (arith, c .before .before .before .before .before .before .before .before .before .before .before .before .before .before .before .before .before .before .before .if1 .left)) (omega (arith, c .before .before .before .before .before .before .before .before .before .before .before .before .before .before .before .before .before .before .if2 .left)) (omega (arith, c .before .before .before .before .before .before .before .before .before .before .before .if3 .left, c .before .before .before .before .before .before .before .before .before .before .before .before .before .bytes .ensures)) (omega (arith, c .before .before .before .before .before .before .before .if4 .left, c .before .before .before .before .before .before .before .before .before .bytes2 .ensures)) (omega (arith, c .before .before .before .before .if5 .left, c .before .before .before .before .before .before .bytes3 .ensures)) (not-false _ (c .before .before .if6 .left)))
+returns-6 c = let o = c .before .before .before .before .before .before .before .before .before .before .before .before .before .before .before .before .args .o in c .options-good .ensures ∙ sym (optional o (omega arith) (omega arith) (omega arith) (omega arith) (omega arith))
 
 pub sizes-good-spec : {M : Type 1} → statement M
 sizes-good-spec =
@@ -99,6 +91,5 @@ sizes-good-spec =
     returns-4
     bytes-requires-3
     returns-5
-    returns-6
-    bytes-requires-4
-    returns-7)
+    options-good-requires
+    returns-6)

@@ -19,6 +19,9 @@ array-copy-out-logs c = search needs
 array-copy-out-dead : tie.Need-array-copy-out-dead
 array-copy-out-dead c = search needs
 
+array-copy-out-starts : tie.Need-array-copy-out-starts
+array-copy-out-starts c = search needs
+
 array-copy-out-fences : tie.Need-array-copy-out-fences
 array-copy-out-fences c = search needs
 
@@ -34,17 +37,20 @@ sub-le64-2 c = search needs
 le64-requires-2 : tie.Need-le64-requires-2
 le64-requires-2 c κs = search needs
 
-array-read-t33 : tie.Need-array-read-t33
-array-read-t33 c = search needs
+array-read-t36 : tie.Need-array-read-t36
+array-read-t36 c = search needs
 
-sub-t30 : tie.Need-sub-t30
-sub-t30 c = search needs
+array-read-t39 : tie.Need-array-read-t39
+array-read-t39 c = search needs
 
-shared-slice-read-t35 : tie.Need-shared-slice-read-t35
-shared-slice-read-t35 c = search needs
+sub-t33 : tie.Need-sub-t33
+sub-t33 c = search needs
 
-array-read-t33-2 : tie.Need-array-read-t33-2
-array-read-t33-2 c = search needs
+shared-slice-read-t41 : tie.Need-shared-slice-read-t41
+shared-slice-read-t41 c = search needs
+
+array-read-t36-2 : tie.Need-array-read-t36-2
+array-read-t36-2 c = search needs
 
 returns : tie.Need-returns
 unfolding framedSeen
@@ -59,13 +65,15 @@ framed-of-spec =
     array-copy-out-partners
     array-copy-out-logs
     array-copy-out-dead
+    array-copy-out-starts
     array-copy-out-fences
     sub-le64
     le64-requires
     sub-le64-2
     le64-requires-2
-    array-read-t33
-    sub-t30
-    shared-slice-read-t35
-    array-read-t33-2
+    array-read-t36
+    array-read-t39
+    sub-t33
+    shared-slice-read-t41
+    array-read-t36-2
     returns)

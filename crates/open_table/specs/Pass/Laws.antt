@@ -271,6 +271,7 @@ module _ (limit : ℕ) (rows : List Row) where
         let partners = at (kind.slotOf kind.partners) (omega arith) in
         let logs = at (kind.slotOf kind.logs) (omega arith) in
         let dead = at (kind.slotOf kind.tombstones) (omega arith) in
+        let starts = at (kind.slotOf kind.starts) (omega arith) in
         let fences = at (kind.slotOf kind.fences) (omega arith) in
         λ j. record {
           opened = record {
@@ -280,6 +281,8 @@ module _ (limit : ℕ) (rows : List Row) where
             logs = sym (logs .2) j;
             marked = sym (dead .0) j;
             dead = sym (dead .2) j;
+            indexed = sym (starts .0) j;
+            starts = sym (starts .2) j;
             keycount = keyCount b;
             edgecount = edgeCount b;
             bits = bitsOf b;

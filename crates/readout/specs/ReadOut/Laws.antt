@@ -5,7 +5,7 @@ use Prim.Native.Nat.{ℕ, suc, _+_, _-_, _*_, _/_, _%_, _≤_, _<_}
 use native.Mathlib.Nat.{zero-add}
 use native.Mathlib.Omega.{arith}
 use mathlib.Core.List.{List, [], _++_}
-use mathlib.Core.Bool.{Bool, true, false, not, Bool·beq}
+use mathlib.Core.Bool.{Bool, true, false, not, _&&_, Bool·beq}
 use lib.ListN.{length, getD, set, drop, length-append, drop-of-length-le}
 use native.Mathlib.Numerals.{add-one}
 use lib.Seq.{sets, drop-cons}
@@ -21,7 +21,7 @@ use Rattle.refusal.specs.Check.Laws.{fine-parts, good-parts, and-parts, bad-the
 use Rattle.frame.specs.declared.Opened.{Opened}
 use Rattle.frame.specs.declared.Opening.{Opening}
 use Rattle.frame.specs.Frame.{rowsOf, flag, bodyOf, recordOf}
-use Rattle.frame.specs.Open.{Known, knownOf, bytesAt, openOf, opening, fileCheck}
+use Rattle.frame.specs.Open.{Known, knownOf, bytesAt, startAt, openOf, opening, fileCheck}
 use Rattle.frame.specs.Open.Laws.{opens-parts, size-parts, opens-record}
 use Rattle.lookup.specs.Record.{Holds}
 use Rattle.reader.specs.Opened.{opened-offsets}
@@ -29,7 +29,8 @@ use Rattle.reader.specs.Look.{opened-holds}
 use Rattle.batch.specs.declared.Edge.{Edge}
 use Rattle.batch.specs.Batch.{Heading, headingBytes, recordsOf, batchBytes}
 use Rattle.batch.specs.Batch.Laws.{length-records}
-use Rattle.full_check.specs.Full.{sumsFrom, groupsFrom, degreesFrom, marksOf, dataGood, edgesCheck, fullCheck, checkedOf}
+use Rattle.full_check.specs.Full.{sumsFrom, groupsFrom, degreesFrom, marksOf, dataGood, strayIn, edgesCheck, fullCheck, checkedOf}
+use Rattle.full_check.specs.Starts.{stray-none}
 use Rattle.full_check.specs.Checked.{checked-opened, checked-fine, fine-checked, full-opened}
 use Rattle.readout.specs.declared.ReadOut.{ReadOut}
 use Rattle.readout.specs.Edges.{readFrom, edgesIn}
@@ -38,13 +39,15 @@ use Rattle.readout.specs.ReadOut.{headingIn, batchIn, neededFor, readChe
 
 -- ---- rule 23
 
-data-parts : (flags edges : ℕ) (s : List ℕ) (sum : ℕ) (dense : Bool) → dataGood flags edges s sum dense ≡ true → (sum ≡ edges) × (marksOf s edges .unused ≡ false)
+data-parts : (flags edges : ℕ) (s : List ℕ) (sum : ℕ) (dense stray : Bool) → dataGood flags edges s sum dense stray ≡ true
+    → (sum ≡ edges) × (marksOf s edges .unused ≡ false) × (stray ≡ false)
 unfolding dataGood
-data-parts flags edges s sum dense h =
+data-parts flags edges s sum dense stray h =
     let a = and-parts (eqb sum edges) _ h in
     let b = and-parts (Bool·beq (flag 1 flags) (marksOf s edges .dead)) _ (a .1) in
-    let c = and-parts (Bool·beq (flag 2 flags) dense) (not (marksOf s edges .unused)) (b .1) in
-    (eqb-true _ _ (a .0), not-true _ (c .1))
+    let c = and-parts (Bool·beq (flag 2 flags) dense) (not (marksOf s edges .unused) && not stray) (b .1) in
+    let d = and-parts (not (marksOf s edges .unused)) (not stray) (c .1) in
+    (eqb-true _ _ (a .0), not-true _ (d .0), not-true _ (d .1))
   where
     not-true : (b : Bool) → not b ≡ true → b ≡ false
     not-true true h = sym h
@@ -63,12 +66,13 @@ module _ (f : List ℕ) (o : Opened) (e : checkedOf f ≡ Opening.Good o) where
   checked-groups : (groupsFrom (bytesAt f (o .partners)) (bytesAt f (o .offsets)) (o .bits / 8) (o .keycount) 0 ≡ Check.Fine)
       × (degreesFrom (bytesAt f (o .partners)) (bytesAt f (o .offsets)) (o .bits / 8) (o .keycount) 0 ≡ o .edgecount)
       × (marksOf (pick (o .marked) (bytesAt f (o .dead)) []) (o .edgecount) .unused ≡ false)
+      × (strayIn (knownOf f o) ≡ false)
   unfolding edgesCheck knownOf
   checked-groups =
       let all = fine-parts (sumsFrom f (rowsOf (bodyOf f)) 0) _ (sym (full-opened f o opens) ∙ checked-fine f o e) in
       let q = fine-parts (groupsFrom (bytesAt f (o .partners)) (bytesAt f (o .offsets)) (o .bits / 8) (o .keycount) 0) _ (all .1) in
-      let told = data-parts _ _ _ _ _ (good-parts Refusal.Data _ (q .1)) in
-      (q .0, told .0, told .1)
+      let told = data-parts _ _ _ _ _ _ (good-parts Refusal.Data _ (q .1)) in
+      (q .0, told .0, told .1, told .2)
 
   -- all groups are good, and their degrees make the edge count
   pub checked-edges : (groupsFrom (bytesAt f (o .partners)) (bytesAt f (o .offsets)) (o .bits / 8) (o .keycount) 0 ≡ Check.Fine)
@@ -78,6 +82,12 @@ module _ (f : List ℕ) (o : Opened) (e : checkedOf f ≡ Opening.Good o) where
   -- no unused bit of the tombstones is set
   pub checked-unused : marksOf (pick (o .marked) (bytesAt f (o .dead)) []) (o .edgecount) .unused ≡ false
   checked-unused = checked-groups .2
+
+  -- each entry of the start index is the number of edges before its group
+  pub checked-starts : o .indexed ≡ true → (j : ℕ) → j ≤ o .keycount
+      → startAt (bytesAt f (o .starts)) j ≡ degreesFrom (bytesAt f (o .partners)) (bytesAt f (o .offsets)) (o .bits / 8) j 0
+  unfolding knownOf
+  checked-starts m = stray-none _ _ _ _ _ .0 (rw m at (checked-groups .3))
 
   pub checked-readable : Readable (bytesAt f (o .keys)) (bytesAt f (o .partners)) (bytesAt f (o .offsets)) (o .bits / 8) (bytesAt f (o .logs)) (o .keycount)
   checked-readable =

@@ -216,6 +216,12 @@ enum-known-r-19 c = search needs
 tell-requires-34 : tie.Need-tell-requires-34
 tell-requires-34 c κs = search needs
 
+enum-known-r-20 : tie.Need-enum-known-r-20
+enum-known-r-20 c = search needs
+
+tell-requires-35 : tie.Need-tell-requires-35
+tell-requires-35 c κs = search needs
+
 returns : tie.Need-returns
 returns c = is (c .before .enum-told .given .1) (c .tell .ensures)
 
@@ -318,6 +324,9 @@ returns-33 c = is (c .before .before .r18 .given .1) (c .tell33 .ensures)
 returns-34 : tie.Need-returns-34
 returns-34 c = is (c .before .before .r19 .given .1) (c .tell34 .ensures)
 
+returns-35 : tie.Need-returns-35
+returns-35 c = is (c .before .before .r20 .given .1) (c .tell35 .ensures)
+
 pub told-of-spec : {M : Type 1} → statement M
 told-of-spec =
     tie.close
@@ -390,6 +399,8 @@ told-of-spec =
     tell-requires-33
     enum-known-r-19
     tell-requires-34
+    enum-known-r-20
+    tell-requires-35
     returns
     returns-2
     returns-3
@@ -423,4 +434,5 @@ told-of-spec =
     returns-31
     returns-32
     returns-33
-    returns-34)
+    returns-34
+    returns-35)

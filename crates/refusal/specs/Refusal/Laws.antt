@@ -45,6 +45,7 @@ numbered (Refusal.VarintCut byte group) = refl
 numbered (Refusal.VarintLong byte group) = refl
 numbered (Refusal.VarintLarge byte group) = refl
 numbered (Refusal.Reserved entry) = refl
+numbered (Refusal.Start index) = refl
 
 -- numbered: to here
 
@@ -92,6 +93,7 @@ not-gone (Refusal.VarintCut byte group) = refl
 not-gone (Refusal.VarintLong byte group) = refl
 not-gone (Refusal.VarintLarge byte group) = refl
 not-gone (Refusal.Reserved entry) = refl
+not-gone (Refusal.Start index) = refl
 
 -- not-gone: to here
 
@@ -133,6 +135,7 @@ told-back (Refusal.VarintCut byte group) = refl
 told-back (Refusal.VarintLong byte group) = refl
 told-back (Refusal.VarintLarge byte group) = refl
 told-back (Refusal.Reserved entry) = refl
+told-back (Refusal.Start index) = refl
 
 -- told-back: to here
 

@@ -1,3 +1,4 @@
+use native.Mathlib.Omega.{arith}
 use Rattle.write_frame.specs.Runs.{head-parts}
 use borrow.Author.Needs.{needs}
 use Rattle.write_frame.proofs.put_header.Statement.{statement}
@@ -25,7 +26,7 @@ same-length : tie.Need-same-length
 same-length c = search needs
 
 returns : tie.Need-returns
-returns c = let a = c .before .before .before .before .before .before .before .before .before .before .before .before .before .before .before .before .before .before .before .before .before .before .before .before .before .before .args in head-parts (a .out .now) (a .flags) (a .ids .now) (c .before .before .before .before .before .before .before .before .before .before .before .before .before .before .before .before .before .before .before .before .before .before .put-le .ensures) (c .before .before .before .before .before .before .before .before .before .before .before .before .before .before .before .before .before .before .put-le2 .ensures) (c .before .before .before .before .before .before .before .before .before .before .before .before .before .before .put-le3 .ensures) (c .before .before .before .before .before .before .before .before .before .before .put-le4 .ensures) (c .before .before .before .before .before .before .put-le5 .ensures) (c .before .before .put-words .ensures)
+returns c = let a = c .before .before .before .before .before .before .before .before .before .before .before .before .before .before .before .before .before .before .before .before .before .before .before .before .before .before .args in head-parts (a .out .now) (a .minor) (a .flags) (a .ids .now) (omega arith) (c .before .before .before .before .before .before .before .before .before .before .before .before .before .before .before .before .before .before .before .before .before .before .put-le .ensures) (c .before .before .before .before .before .before .before .before .before .before .before .before .before .before .before .before .before .before .put-le2 .ensures) (c .before .before .before .before .before .before .before .before .before .before .before .before .before .before .put-le3 .ensures) (c .before .before .before .before .before .before .before .before .before .before .put-le4 .ensures) (c .before .before .before .before .before .before .put-le5 .ensures) (c .before .before .put-words .ensures)
 
 pub put-header-spec : {M : Type 1} → statement M
 put-header-spec =

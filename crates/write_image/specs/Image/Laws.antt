@@ -1,33 +1,34 @@
 -- The laws of the writer's sections: each an edge or a group further, at its end, and its length.
 use mathlib.Core.Path.{_≡_, refl, sym, ap, ap₂, subst, _∙_}
-use Prim.Native.Nat.{ℕ, zero, suc, _+_, _-_, _*_, _/_, _%_, _^_, _≤_, _<_}
+use Prim.Native.Nat.{ℕ, zero, suc, _+_, _-_, _*_, _/_, _^_, _≤_, _<_}
 use native.Mathlib.Omega.{arith}
-use native.Mathlib.Nat.{sub-self, add-zero, add-assoc, pow-suc, pow-le-pow-right, lt-of-lt-of-le, zero-lt-suc}
+use native.Mathlib.Nat.{zero-add, add-zero, add-assoc, pow-suc, pow-le-pow-right, lt-of-lt-of-le, zero-lt-suc}
 use native.Mathlib.Numerals.{add-one}
 use mathlib.Core.List.{List, [], _∷_, _++_, append-nil, append-assoc}
-use mathlib.Core.Bool.{Bool, true, false, _&&_, _||_}
+use mathlib.Core.Bool.{Bool, true, false, _||_}
 use lib.ListN.{length, getD, take, drop, length-append, length-drop, take-append-drop}
-use lib.Seq.{take-suc, drop-cons, drop-length, drop-drop, getD-drop, take-all}
+use lib.Seq.{append-snoc, split-at, take-suc, drop-cons, drop-length, drop-drop, getD-drop, take-all, length-take-le}
 use lib.Dec.{ltb, leb}
 use borrow.Author.Tests.{lt-ltb, le-ltb, le-leb, lt-leb}
 use Rattle.batch.specs.Batch.{partnersIn, logsIn, marksIn}
 use Rattle.base.specs.Pick.{pick}
 use Rattle.base.specs.Over.{part, length-part}
 use Rattle.codes.specs.declared.ids.Id.{Id}
-use Rattle.codes.specs.Little.{leBytes}
-use Rattle.codes.specs.Little.Laws.{length-leBytes}
+use Rattle.codes.specs.Little.{leAt, leBytes}
+use Rattle.codes.specs.Little.Laws.{leAt-back, length-leBytes}
 use Rattle.codes.specs.Ids.{idBytes, idNumber}
 use Rattle.codes.specs.Ids.Laws.{length-idBytes}
 use Rattle.codes.specs.Varint.{varBytes}
 use Rattle.codes.specs.Varint.Laws.{varBytes-length}
 use Rattle.frame.specs.Kind as kind
+use Rattle.frame.specs.Open.{startAt}
 use Rattle.group.specs.Group.{bytesOf}
 use Rattle.group.specs.Group.Laws.{tagOf, length-bytesOf}
 use Rattle.group.specs.Written.{Halves, Above, splitFrom, payloadOf, writtenAs, written-is}
 use Rattle.batch.specs.declared.Edge.{Edge}
-use Rattle.batch_groups.specs.Groups.{none, Group, groupsOf, GroupEnd, Run, Grouped}
-use Rattle.batch_groups.specs.Groups.Laws.{grouped-step, groups-end}
-use Rattle.write_image.specs.Image.{keysIn, splitCost, denseBy, isDense, groupBytes, bytesIn, anyDense, keyBytes, numbers, partnerBytes, startsFrom, offsetBytes, widthOf, logBytes, bit, octet, octets, tombBytes, fenceBytes, fenceKeysFrom, fencesOf}
+use Rattle.batch_groups.specs.Groups.{none, Group, groupsOf, flat, GroupEnd, Run, Grouped}
+use Rattle.batch_groups.specs.Groups.Laws.{flat-append, flat-groups, grouped-step, groups-end}
+use Rattle.write_image.specs.Image.{keysIn, splitCost, denseBy, isDense, groupBytes, bytesIn, anyDense, keyBytes, numbers, partnerBytes, startsFrom, offsetBytes, widthOf, logBytes, bit, octet, octets, tombBytes, fenceBytes, fenceKeysFrom, fencesOf, firstsFrom, startBytes}
 
 -- ---- a part of the edges, one edge further
 
@@ -225,6 +226,15 @@ module _ (es : List Edge) (i j : ℕ) (e : GroupEnd es i j) where
   unfolding bytesOf keysIn
   keys-step = ap (λ (t : List Group). keyBytes t) (e .groups)
 
+  pub firsts-step : numbers kind.startSize (firstsFrom i (groupsOf (drop i es))) ≡ leBytes kind.startSize i ++ numbers kind.startSize (firstsFrom j (groupsOf (drop j es)))
+  unfolding numbers firstsFrom
+  firsts-step =
+      let a = e .above in
+      let l = length-part es i j (e .within) in
+      let n : i + length (part es i j) ≡ j = omega arith in
+      ap (λ (t : List Group). numbers kind.startSize (firstsFrom i t)) (e .groups)
+      ∙ ap (λ (t : ℕ). leBytes kind.startSize i ++ numbers kind.startSize (firstsFrom t (groupsOf (drop j es)))) n
+
   pub rises : Grouped 0 (groupsOf (drop i es)) → Rise 0 (partnersIn (part es i j))
   rises o = run-rises (getD es i none .key) (part es i j) (grouped-step es i j e o .0)
 
@@ -246,6 +256,10 @@ module _ (es : List Edge) (i : ℕ) (e : i ≡ length es) where
   pub keys-end : keyBytes (groupsOf (drop i es)) ≡ []
   unfolding bytesOf keysIn
   keys-end = ap (λ (t : List Group). keyBytes t) (groups-end es i e)
+
+  pub firsts-end : numbers kind.startSize (firstsFrom i (groupsOf (drop i es))) ≡ leBytes kind.startSize i
+  unfolding numbers firstsFrom
+  firsts-end = ap (λ (t : List Group). numbers kind.startSize (firstsFrom i t)) (groups-end es i e) ∙ append-nil (leBytes kind.startSize i)
 
   module _ (n : ℕ) where
     pub partners-end : partnerBytes n (groupsOf (drop i es)) ≡ []
@@ -388,6 +402,16 @@ pub length-offsets : (w n at : ℕ) (gs : List Group) → length (offsetBytes w 
 length-offsets w n at gs =
     length-numbers w (startsFrom n at gs) ∙ ap (λ (t : ℕ). t * w) (length-starts n at gs ∙ sym (add-one (length gs)))
 
+length-firsts : (e : ℕ) (gs : List Group) → length (firstsFrom e gs) ≡ suc (length gs)
+unfolding firstsFrom
+length-firsts e [] = refl
+length-firsts e (g ∷ gs) = ap suc (length-firsts (e + length (g .edges)) gs)
+
+pub length-startBytes : (gs : List Group) → length (startBytes gs) ≡ kind.startsLen (length gs)
+length-startBytes gs =
+    length-numbers kind.startSize (firstsFrom 0 gs)
+    ∙ ap (λ (t : ℕ). t * kind.startSize) (length-firsts 0 gs ∙ sym (add-one (length gs)))
+
 length-logsIn : (es : List Edge) → length (logsIn es) ≡ length es
 unfolding logsIn
 length-logsIn [] = refl
@@ -446,3 +470,74 @@ width-most size = go (ltb size (2 ^ 24))
     go : (b : Bool) → pick b 3 4 ≤ 4
     go true = omega arith
     go false = omega arith
+
+-- ---- numbers by their place, and the start index
+
+numbers-append : (w : ℕ) (xs ys : List ℕ) → numbers w (xs ++ ys) ≡ numbers w xs ++ numbers w ys
+unfolding numbers
+numbers-append w [] ys = refl
+numbers-append w (x ∷ xs) ys =
+    ap (λ (t : List ℕ). leBytes w x ++ t) (numbers-append w xs ys) ∙ sym (append-assoc (leBytes w x) (numbers w xs) (numbers w ys))
+
+numbers-mid : (w : ℕ) (xs : List ℕ) (x : ℕ) (ys : List ℕ) → x < 2 ^ (8 * w) → leAt (numbers w (xs ++ x ∷ ys)) (length xs * w) w ≡ x
+unfolding numbers
+numbers-mid w xs x ys b =
+    ap₂ (λ (t : List ℕ) (i : ℕ). leAt t i w) (numbers-append w xs (x ∷ ys)) (sym (length-numbers w xs)) ∙ leAt-back w (numbers w xs) (numbers w ys) x b
+
+pub numbers-at : (w : ℕ) (xs : List ℕ) (i : ℕ) → i < length xs → getD xs i 0 < 2 ^ (8 * w) → leAt (numbers w xs) (i * w) w ≡ getD xs i 0
+numbers-at w xs i h b =
+    let e : xs ≡ take i xs ++ getD xs i 0 ∷ drop (suc i) xs = split-at xs i 0 h in
+    let l : length (take i xs) ≡ i = length-take-le i xs (omega arith) in
+    ap (λ (t : List ℕ). leAt (numbers w t) (i * w) w) e
+    ∙ ap (λ (t : ℕ). leAt (numbers w (take i xs ++ getD xs i 0 ∷ drop (suc i) xs)) (t * w) w) (sym l)
+    ∙ numbers-mid w (take i xs) (getD xs i 0) (drop (suc i) xs) b
+
+-- the groups gs come first: then so many edges are before hs
+firsts-at : (e : ℕ) (gs hs : List Group) → getD (firstsFrom e (gs ++ hs)) (length gs) 0 ≡ e + length (flat gs)
+unfolding firstsFrom flat
+firsts-at e [] [] = sym (add-zero e)
+firsts-at e [] (h ∷ hs) = sym (add-zero e)
+firsts-at e (g ∷ gs) hs =
+    firsts-at (e + length (g .edges)) gs hs
+    ∙ add-assoc e (length (g .edges)) (length (flat gs))
+    ∙ ap (λ (t : ℕ). e + t) (sym (length-append (g .edges) (flat gs)))
+
+-- the start index of groups whose edges a u64 can count
+module _ (all : List Group) (small : length (flat all) < 2 ^ 64) where
+  -- entry i is the number of edges before group i
+  pub start-is : (gs hs : List Group) → all ≡ gs ++ hs → startAt (startBytes all) (length gs) ≡ length (flat gs)
+  start-is gs hs e =
+      let v : getD (firstsFrom 0 all) (length gs) 0 ≡ length (flat gs) = ap (λ (t : List Group). getD (firstsFrom 0 t) (length gs) 0) e ∙ firsts-at 0 gs hs ∙ zero-add _ in
+      let l : length (flat all) ≡ length (flat gs) + length (flat hs) =
+      ap (λ (t : List Group). length (flat t)) e ∙ ap length (flat-append gs hs) ∙ length-append (flat gs) (flat hs) in
+      let m : length all ≡ length gs + length hs = ap length e ∙ length-append gs hs in
+      let c = length-firsts 0 all in
+      numbers-at kind.startSize (firstsFrom 0 all) (length gs) (omega arith) (rw v (omega arith)) ∙ v
+
+  pub start-at : (i : ℕ) → i ≤ length all → startAt (startBytes all) i ≡ length (flat (take i all))
+  start-at i h =
+      ap (startAt (startBytes all)) (sym (length-take-le i all h)) ∙ start-is (take i all) (drop i all) (sym (take-append-drop i all))
+
+  pub start-first : startAt (startBytes all) 0 ≡ 0
+  unfolding flat
+  start-first = start-is [] all refl
+
+  -- the next entry is more by the group's edges
+  pub start-next : (gs : List Group) (g : Group) (hs : List Group) → all ≡ gs ++ g ∷ hs
+      → startAt (startBytes all) (length gs + 1) ≡ startAt (startBytes all) (length gs) + length (g .edges)
+  unfolding flat
+  start-next gs g hs e =
+      let next : all ≡ (gs ++ (g ∷ [])) ++ hs = e ∙ sym (append-snoc gs g hs) in
+      let count : length (gs ++ (g ∷ [])) ≡ length gs + 1 = length-append gs (g ∷ []) in
+      ap (startAt (startBytes all)) (sym count)
+      ∙ start-is (gs ++ (g ∷ [])) hs next
+      ∙ ap length (flat-append gs (g ∷ []))
+      ∙ length-append (flat gs) (g .edges ++ [])
+      ∙ ap₂ (λ (x : ℕ) (y : List Edge). x + length y) (sym (start-is gs (g ∷ hs) e)) (append-nil (g .edges))
+
+  pub start-last : startAt (startBytes all) (length all) ≡ length (flat all)
+  start-last = start-is all [] (sym (append-nil all))
+
+-- of the groups of edges: the last entry is the number of edges
+pub start-edges : (es : List Edge) → length es < 2 ^ 64 → startAt (startBytes (groupsOf es)) (length (groupsOf es)) ≡ length es
+start-edges es h = let n = ap length (flat-groups es) in start-last (groupsOf es) (omega arith) ∙ n

@@ -19,7 +19,7 @@ const KINDS: [(u16, bool); 9] = [
     (0x0100, false),
     (0x0101, false),
     (0x01FF, false),
-    (0x0200, false),
+    (0x0201, false),
     (0xFFFF, false),
 ];
 
@@ -42,11 +42,11 @@ pub fn check(tally: &mut Tally, files: &[OpenFile]) {
     check_sorts(tally, &cases);
 }
 
-fn told(file: &[u8]) -> Option<Refusal> {
+pub fn told(file: &[u8]) -> Option<Refusal> {
     open(file).err()
 }
 
-fn refusal_of(verdict: Verdict) -> Option<Refusal> {
+pub fn refusal_of(verdict: Verdict) -> Option<Refusal> {
     match verdict {
         Verdict::Opens => None,
         Verdict::Refused(refusal) => Some(refusal),
@@ -70,7 +70,8 @@ fn check_every_kind(tally: &mut Tally) {
             1..=4 => Some(TABLE),
             6 => Some(Refusal::at(15, 0)),
             7..=255 => told_at(4),
-            256 => Some(Refusal::at(12, 0)),
+            // No property stream is said to be there; a start index has an entry.
+            256 | 512 => Some(Refusal::at(12, 0)),
             _ => None,
         };
         tally.same(&format!("kind {kind}"), told(&file), expected);
@@ -78,13 +79,14 @@ fn check_every_kind(tally: &mut Tally) {
 }
 
 /// An entry of the table, as its bytes lie.
-struct Entry {
+pub struct Entry {
     /// Where it begins in the file.
-    at: usize,
-    kind: u16,
-    codec: u8,
-    name_length: u8,
-    length: u64,
+    pub at: usize,
+    pub kind: u16,
+    pub codec: u8,
+    pub name_length: u8,
+    pub offset: u64,
+    pub length: u64,
 }
 
 impl Entry {
@@ -93,14 +95,14 @@ impl Entry {
     }
 
     fn is_read(&self) -> bool {
-        (1..7).contains(&self.kind)
+        (1..7).contains(&self.kind) || self.kind == 512
     }
 }
 
 /// The entries of a file that passes checks 1 to 8: as many as the section count
 /// says, or as there is room for. And the bytes of the body behind them, if all
 /// are there.
-fn entries(file: &[u8]) -> (Vec<Entry>, Option<&[u8]>) {
+pub fn entries(file: &[u8]) -> (Vec<Entry>, Option<&[u8]>) {
     let end = file.len() - TRAILER;
     let begin = file.len() - read_le(&file[end + 8..end + 12]) as usize;
     let mut at = begin + 2;
@@ -114,6 +116,7 @@ fn entries(file: &[u8]) -> (Vec<Entry>, Option<&[u8]>) {
             kind: read_le(&entry[..2]) as u16,
             codec: entry[2],
             name_length: entry[3],
+            offset: read_le(&entry[4..12]),
             length: read_le(&entry[12..20]),
         });
         at += ENTRY + usize::from(entry[3]);

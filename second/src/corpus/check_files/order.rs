@@ -6,6 +6,7 @@ use super::Files;
 use crate::corpus::lookup_calls::raw::{group, halves, single, DENSE, SPLIT};
 use crate::corpus::open_files::samples::{set_key, set_offset, SKIPPED};
 use crate::format::{flag, kind};
+use crate::groups;
 use crate::layout::{Layout, Section};
 use crate::numbers::id_of;
 
@@ -141,4 +142,7 @@ fn opening_before_sum(files: &mut Files) {
     add(13, 1, &|l| set_key(l, 1, id_of(0, 0)));
     add(14, 0, &|l| set_offset(l, 0, 1));
     add(15, 0, &|l| l.sections.push(Section::new(kind::FENCES, [])));
+    add(37, 0, &|l| {
+        l.sections.push(groups::start_index(&[1, 2, 3, 4]))
+    });
 }

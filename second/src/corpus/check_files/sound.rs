@@ -115,7 +115,7 @@ fn log_numbers(files: &mut Files) {
 fn skipped_sections(files: &mut Files) {
     let unknown = one_edge().with(|l| {
         l.header.minor = 200;
-        l.sections.push(Section::new(0x0200, *b"what is this"));
+        l.sections.push(Section::new(0x0201, *b"what is this"));
     });
     files.fine("check-minor-200-unknown-section", unknown);
     let many = board().with(|l| {

@@ -58,7 +58,17 @@ pub struct LentRecord {
     pub key_count: u64,
     pub edge_count: u64,
     pub offset_bits: u8,
+    /// Without meaning if the record is not indexed.
+    pub starts: Range,
+    /// Whether there is a start index.
+    pub indexed: bool,
 }
+
+/// Where a section is not there.
+const NOWHERE: Range = Range {
+    offset: 0,
+    length: 0,
+};
 
 /// What the outputs hold.
 #[derive(Clone, Debug, PartialEq, Eq)]
@@ -124,14 +134,13 @@ impl LentRecord {
             offsets: record.offsets,
             partners: record.partners,
             logs: record.logs,
-            dead: record.tombstones.unwrap_or(Range {
-                offset: 0,
-                length: 0,
-            }),
+            dead: record.tombstones.unwrap_or(NOWHERE),
             marked: record.tombstones.is_some(),
             key_count: record.key_count,
             edge_count: record.edge_count,
             offset_bits: record.offset_bits,
+            starts: record.starts.unwrap_or(NOWHERE),
+            indexed: record.starts.is_some(),
         }
     }
 
@@ -155,6 +164,7 @@ impl LentRecord {
             key_count: layout.key_count,
             edge_count: layout.edge_count,
             offset_bits: layout.offset_bits,
+            starts: range(kind::START_INDEX),
         })
     }
 
@@ -171,6 +181,12 @@ impl LentRecord {
         self.offsets.length = (self.key_count + 1) * u64::from(self.offset_bits / 8);
         self.logs.length = 8 * self.edge_count;
         self.dead.length = self.edge_count.div_ceil(8);
+        self.starts.length = 8 * (self.key_count + 1);
+    }
+
+    /// This record as if the file had no start index.
+    pub fn without_starts(&self) -> Self {
+        self.with(|record| (record.starts, record.indexed) = (NOWHERE, false))
     }
 
     /// What the lookup takes.
@@ -184,6 +200,7 @@ impl LentRecord {
             key_count: self.key_count,
             edge_count: self.edge_count,
             offset_bits: self.offset_bits,
+            starts: self.indexed.then_some(self.starts),
         }
     }
 
@@ -198,6 +215,9 @@ impl LentRecord {
         input.extend(self.key_count.to_le_bytes());
         input.extend(self.edge_count.to_le_bytes());
         input.push(self.offset_bits);
+        input.extend(self.starts.offset.to_le_bytes());
+        input.extend(self.starts.length.to_le_bytes());
+        input.push(u8::from(self.indexed));
         input
     }
 }

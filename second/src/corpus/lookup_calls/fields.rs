@@ -1,7 +1,7 @@
 //! Refusal 21: records in which one field is another number.
 
 use super::{ask, expect, found, Files, LentRecord, LookupFile};
-use crate::corpus::open_files::samples::{full, one_edge, three_groups};
+use crate::corpus::open_files::samples::{full, full_indexed, one_edge, three_groups};
 use crate::groups;
 use crate::layout::Layout;
 use crate::numbers::{id_of, Id};
@@ -14,17 +14,19 @@ pub fn add(files: &mut Files) {
     one_field(files, "full", full(), &keys);
     let layout = groups::layout(&three_groups(), 48);
     one_field(files, "three48", layout, &keys);
+    one_field(files, "indexed", full_indexed(), &keys);
     lengths_that_agree(files);
 }
 
 type RangeOf = fn(&mut LentRecord) -> &mut Range;
 
-const RANGES: [(&str, RangeOf); 5] = [
+const RANGES: [(&str, RangeOf); 6] = [
     ("keys", |record| &mut record.keys),
     ("offsets", |record| &mut record.offsets),
     ("partners", |record| &mut record.partners),
     ("logs", |record| &mut record.logs),
     ("dead", |record| &mut record.dead),
+    ("starts", |record| &mut record.starts),
 ];
 
 /// Numbers that a slip would take for this one.
@@ -57,6 +59,7 @@ fn one_field(files: &mut Files, name: &str, layout: Layout, keys: &[Id]) {
     fields.edge_counts();
     fields.offset_bits();
     fields.mark();
+    fields.index_mark();
 }
 
 /// A file, its own record, and the keys that are asked for.
@@ -100,6 +103,8 @@ impl Fields<'_> {
         let fixed = word != "partners";
         let mut lengths = others(length);
         lengths.extend([
+            length.wrapping_sub(8),
+            length.wrapping_add(8),
             size - offset,
             size - offset + 1,
             size,
@@ -115,9 +120,14 @@ impl Fields<'_> {
         });
     }
 
-    /// The range of tombstones has no meaning if the record is not marked.
+    /// The range of tombstones has no meaning if the record is not marked, that of
+    /// the start index none if it is not indexed.
     fn is_asked(&self, word: &str) -> bool {
-        word != "dead" || self.own.marked
+        match word {
+            "dead" => self.own.marked,
+            "starts" => self.own.indexed,
+            _ => true,
+        }
     }
 
     fn key_counts(&mut self) {
@@ -163,6 +173,15 @@ impl Fields<'_> {
         });
     }
 
+    /// The same of the start index.
+    fn index_mark(&mut self) {
+        let own = u64::from(self.own.indexed);
+        self.each("indexed", own, vec![0, 1], |record, mark| {
+            record.indexed = mark == 1;
+            record.indexed
+        });
+    }
+
     /// The record with each of these numbers in a field of another number.
     /// `set` says of each whether it is to be refused.
     fn each(
@@ -181,10 +200,18 @@ impl Fields<'_> {
             let (first, last) = (self.keys[0], self.keys[self.keys.len() - 1]);
             if refused {
                 // Partners alone ask the same of a record.
+                if field.starts_with("starts") {
+                    self.file.both(name, question(last), expect(21, 0));
+                    continue;
+                }
                 match turn % 2 {
                     0 => self.file.full(name, question(first), expect(21, 0)),
                     _ => self.file.alone(name, question(last), expect(21, 0)),
                 }
+                continue;
+            }
+            if field.starts_with("starts") && !record.indexed {
+                self.file.both(name, question(last), None);
                 continue;
             }
             for (index, &key) in self.keys.iter().enumerate() {
@@ -200,7 +227,7 @@ type Change = fn(&mut LentRecord);
 
 /// Counts so large that the lengths they give come round to those that stand
 /// there.
-const PRODUCTS_THAT_WRAP: [(&str, Change); 6] = [
+const PRODUCTS_THAT_WRAP: [(&str, Change); 7] = [
     ("keys-16-times", |r| {
         r.key_count = 1 << 60;
         r.keys.length = 0;
@@ -222,6 +249,11 @@ const PRODUCTS_THAT_WRAP: [(&str, Change); 6] = [
         r.logs.length = 0u64.wrapping_sub(8);
         r.marked = true;
         r.dead.length = 0;
+    }),
+    ("starts-8-times", |r| {
+        r.key_count = (1 << 61) - 1;
+        r.starts.length = 0;
+        r.indexed = true;
     }),
 ];
 

@@ -4,6 +4,7 @@
 use super::{ask, expect, found, Files, Intended, LentRecord, Rooms};
 use crate::corpus::open_files::samples::{full, one_edge};
 use crate::corpus::open_files::{self, Verdict};
+use crate::groups;
 use crate::layout::{Layout, Section};
 use crate::numbers::id_of;
 use std::collections::BTreeMap;
@@ -39,6 +40,7 @@ fn heads_and_footers(files: &mut Files) {
     damaged(10, 3, |l| l.sections[3].codec = 1);
     damaged(11, 2, |l| l.sections[2].stated.offset = Some(63));
     damaged(12, 0, |l| l.edge_count = 0);
+    damaged(37, 1, |l| l.sections.push(groups::start_index(&[0, 2])));
 }
 
 /// A reserved kind anywhere in the table, which a record says nothing of: the

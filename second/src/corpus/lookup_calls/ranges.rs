@@ -34,6 +34,8 @@ const ONE_OF_EACH: LentRecord = LentRecord {
     key_count: 1,
     edge_count: 1,
     offset_bits: 24,
+    starts: range(0, 0),
+    indexed: false,
 };
 
 /// One range after the other lies elsewhere in the file of one edge.

@@ -23,8 +23,14 @@ pub fn add(files: &mut Files) {
     files_of_opening(files);
 }
 
-/// Asks for every key on the file alone and by its record, and for absent keys.
-fn every_key(files: &mut Files, name: impl Into<String>, layout: Layout, groups: Vec<Group>) {
+/// Asks for every key on the file alone, by its record, and by its record without
+/// the start index if it has one; and for absent keys.
+pub(super) fn every_key(
+    files: &mut Files,
+    name: impl Into<String>,
+    layout: Layout,
+    groups: Vec<Group>,
+) {
     let file = files.layout(name, &layout);
     let record = LentRecord::of_layout(&layout);
     for (index, group) in groups.iter().enumerate() {
@@ -33,7 +39,12 @@ fn every_key(files: &mut Files, name: impl Into<String>, layout: Layout, groups:
         let answer = found(degree, index as u64);
         file.both(format!("key-{index}"), question.clone(), answer);
         let exact = question.rooms(Rooms::exact(degree as u32));
-        file.both(format!("own-record-{index}"), exact.by(&record), answer);
+        let own = exact.clone().by(&record);
+        file.both(format!("own-record-{index}"), own, answer);
+        if record.indexed {
+            let hidden = exact.by(&record.without_starts());
+            file.both(format!("hidden-{index}"), hidden, answer);
+        }
     }
     if groups.is_empty() {
         let question = ask(id_of(1, 2)).rooms(Rooms::NONE);

@@ -1,7 +1,7 @@
 //! Sound files with one byte changed by chance. The program's own opening is
 //! all that says what becomes of them.
 
-use super::samples::{full, heading_only, one_edge, single_groups};
+use super::samples::{five_with_starts, full, heading_only, one_edge, single_groups, FIVE_STARTS};
 use super::Files;
 use crate::format::{ENTRY, HEADER, TRAILER};
 use crate::groups;
@@ -39,6 +39,9 @@ pub fn add(files: &mut Files) {
     for base in [&bases[2], &bases[4]] {
         add("kind", 20, base, Part::Kinds, true);
     }
+    let indexed = five_with_starts(&FIVE_STARTS);
+    add("indexed-footer", 16, &indexed, Part::Footer, true);
+    add("indexed-starts", 20, &indexed, Part::Starts, true);
 }
 
 #[derive(Clone, Copy)]
@@ -46,6 +49,8 @@ enum Part {
     /// Without the ids, in which nothing can be wrong.
     Header,
     Sections,
+    /// The start index, which is the last section.
+    Starts,
     /// The bytes of the kinds alone.
     Kinds,
     /// If it is mended, without the checksum, which would be mended too.
@@ -72,6 +77,7 @@ fn changed(base: &Layout, part: Part, mended: bool, random: &mut Random) -> (Vec
     let places: Vec<usize> = match part {
         Part::Header => (0..16).collect(),
         Part::Sections => (HEADER..footer).collect(),
+        Part::Starts => (footer - 8 * FIVE_STARTS.len()..footer).collect(),
         Part::Kinds => kind_places(base),
         Part::Footer => (footer..bytes.len())
             .filter(|at| !(mended && checksum.contains(at)))

@@ -289,7 +289,7 @@ fn other_kinds(files: &mut Files) {
         (
             0,
             flag::PROPERTIES,
-            &[0, 0x0101, 0x0107, 0x0200, 0xFF00][..],
+            &[0, 0x0101, 0x0107, 0x0201, 0xFF00][..],
             b'p',
         ),
         (1, flag::TOMBSTONES, &[0x0105, 0x0107, 0x0500], 1),

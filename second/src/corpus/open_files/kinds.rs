@@ -28,7 +28,7 @@ fn after_all(section: Section) -> Layout {
 
 fn skipped_kinds(files: &mut Files) {
     for kind in [
-        0, 257, 258, 260, 262, 263, 264, 511, 512, 0x0600, 0x0700, 0x1000, 0x7FFF, 0x8001, 0x8007,
+        0, 257, 258, 260, 262, 263, 264, 511, 513, 0x0600, 0x0700, 0x1000, 0x7FFF, 0x8001, 0x8007,
         0xFF00, 65_535,
     ] {
         let layout = after_all(skipped(kind));

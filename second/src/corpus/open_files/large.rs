@@ -1,6 +1,7 @@
-//! Files around the key count above which fences are required.
+//! Files around the key count above which fences are required, and start
+//! indexes of so many keys.
 
-use super::samples::{live, set_key, set_offset, split};
+use super::samples::{live, set_key, set_offset, set_start, split};
 use super::{expect, Files};
 use crate::format::{bound, kind, FENCE, FENCE_HEAD};
 use crate::groups::{self, Group};
@@ -23,6 +24,7 @@ pub fn add(files: &mut Files) {
     files.refused("large-65537-keys-without-fences", bare, expect(12, 0));
     wrong_fences(files, &fenced);
     equal_neighbours(files, &fenced, &groups);
+    start_indexes(files, fenced, &groups);
 }
 
 fn wrong_fences(files: &mut Files, fenced: &Layout) {
@@ -63,6 +65,20 @@ fn equal_neighbours(files: &mut Files, fenced: &Layout, groups: &[Group]) {
         equal_offsets,
         expect(14, 65_500),
     );
+}
+
+/// A sound start index, entries that equal the one before, and one that is not
+/// the edge count.
+fn start_indexes(files: &mut Files, fenced: Layout, groups: &[Group]) {
+    let indexed = fenced.with(|l| {
+        l.sections.push(groups::starts(groups));
+        l.header.minor = 1;
+    });
+    files.opens("large-65537-keys-with-starts", indexed.clone());
+    let equal = indexed.clone().with(|l| set_start(l, 65_500, 65_499));
+    files.refused("large-start-65500-equal", equal, expect(37, 65_500));
+    let above = indexed.with(|l| set_start(l, 65_537, 65_538));
+    files.refused("large-last-start-above", above, expect(37, 65_537));
 }
 
 /// Keys with pseudo-random distances, one live edge each.

@@ -1,7 +1,7 @@
 //! Two faults in one file: the earlier check tells its own. Each fault is one
 //! change of the same file, and none undoes or moves another.
 
-use super::samples::{full, set_key, set_offset};
+use super::samples::{full, full_indexed, set_key, set_offset, set_start};
 use super::{expect, Files, Verdict};
 use crate::format::kind;
 use crate::layout::{Layout, Section};
@@ -22,8 +22,8 @@ const fn fault(name: &'static str, intended: Verdict, change: fn(&mut Layout)) -
     }
 }
 
-/// In the order of the checks. See `full` for the entries' indices.
-static FAULTS: [Fault; 23] = [
+/// In the order of the checks. See `full_indexed` for the entries' indices.
+static FAULTS: [Fault; 28] = [
     fault("magic", expect(2, 0), |l| l.header.magic[5] = b'F'),
     fault("major", expect(3, 0), |l| l.header.major = 2),
     fault("header-size", expect(4, 0), |l| l.header.size = 65),
@@ -39,12 +39,16 @@ static FAULTS: [Fault; 23] = [
     fault("doubled-fences", expect(9, 0), |l| {
         l.sections.push(Section::new(kind::FENCES, []))
     }),
+    fault("named-starts", expect(9, 0), |l| {
+        l.section(kind::START_INDEX).name = b"s".to_vec()
+    }),
     fault("reserved-at-2", expect(36, 2), |l| l.sections[2].kind = 7),
-    fault("reserved-at-8", expect(36, 8), |l| {
+    fault("reserved-at-9", expect(36, 9), |l| {
         l.sections.push(Section::new(0x00FF, []))
     }),
     fault("codec-at-1", expect(10, 1), |l| l.sections[1].codec = 1),
     fault("codec-at-7", expect(10, 7), |l| l.sections[7].codec = 1),
+    fault("codec-at-8", expect(10, 8), |l| l.sections[8].codec = 1),
     fault("range-at-0", expect(11, 0), |l| {
         l.sections[0].stated.offset = Some(63)
     }),
@@ -53,6 +57,9 @@ static FAULTS: [Fault; 23] = [
     }),
     fault("edge-count", expect(12, 0), |l| l.edge_count += 1),
     fault("offset-bits", expect(12, 0), |l| l.offset_bits = 25),
+    fault("starts-longer", expect(12, 0), |l| {
+        l.section(kind::START_INDEX).bytes.push(0)
+    }),
     fault("key-1", expect(13, 1), |l| set_key(l, 1, id_of(1, 2))),
     fault("key-2", expect(13, 2), |l| set_key(l, 2, id_of(0, 9))),
     fault("offset-0", expect(14, 0), |l| set_offset(l, 0, 1)),
@@ -63,6 +70,8 @@ static FAULTS: [Fault; 23] = [
     fault("fence-key", expect(15, 0), |l| {
         l.section(kind::FENCES).bytes[8 + 24 + 9] ^= 1
     }),
+    fault("start-0", expect(37, 0), |l| set_start(l, 0, 1)),
+    fault("start-2", expect(37, 2), |l| set_start(l, 2, 2)),
 ];
 
 impl Fault {
@@ -73,10 +82,11 @@ impl Fault {
         }
     }
 
-    /// Where its check stands among all: 36 comes between 9 and 10.
+    /// Where its check stands among all: 36 comes between 9 and 10, 37 last.
     fn turn(&self) -> u8 {
         match self.number() {
             36 => 10,
+            37 => 17,
             number if number < 10 => number,
             number => number + 1,
         }
@@ -85,7 +95,7 @@ impl Fault {
 
 pub fn add(files: &mut Files) {
     for fault in &FAULTS {
-        let layout = full().with(fault.change);
+        let layout = full_indexed().with(fault.change);
         files.refused(format!("only-{}", fault.name), layout, fault.intended);
     }
     two_numbers(files);
@@ -111,7 +121,7 @@ fn two_numbers(files: &mut Files) {
                 _ => leads(i) && leads(j),
             };
             if wanted {
-                let layout = full().with(later.change).with(earlier.change);
+                let layout = full_indexed().with(later.change).with(earlier.change);
                 let name = format!("both-{}-and-{}", earlier.name, later.name);
                 files.refused(name, layout, earlier.intended);
             }
@@ -128,7 +138,7 @@ fn all_from(files: &mut Files) {
             let layout = FAULTS[i..]
                 .iter()
                 .rev()
-                .fold(full(), |layout, fault| layout.with(fault.change));
+                .fold(full_indexed(), |layout, fault| layout.with(fault.change));
             let name = format!("all-from-{}", first.name);
             files.refused(name, layout, first.intended);
         }
@@ -138,7 +148,11 @@ fn all_from(files: &mut Files) {
 /// Two faults of one number that has places: the first place is told.
 fn same_number(files: &mut Files) {
     let mut two = |name: &str, intended: Verdict, change: fn(&mut Layout)| {
-        files.refused(format!("both-{name}"), full().with(change), intended);
+        files.refused(
+            format!("both-{name}"),
+            full_indexed().with(change),
+            intended,
+        );
     };
     two("keys-1-and-2", expect(13, 1), |l| {
         set_key(l, 1, id_of(1, 2));
@@ -152,10 +166,22 @@ fn same_number(files: &mut Files) {
         set_offset(l, 2, 20);
         set_offset(l, 3, 60);
     });
+    two("starts-0-and-2", expect(37, 0), |l| {
+        set_start(l, 2, 1);
+        set_start(l, 0, 1);
+    });
+    two("starts-1-and-3", expect(37, 1), |l| {
+        set_start(l, 1, 0);
+        set_start(l, 3, 6);
+    });
     // An earlier check at a later place.
     two("last-key-and-first-offset", expect(13, 2), |l| {
         set_offset(l, 0, 1);
         set_key(l, 2, id_of(1, 3));
+    });
+    two("last-offset-and-first-start", expect(14, 3), |l| {
+        set_start(l, 0, 1);
+        set_offset(l, 3, 60);
     });
 }
 

@@ -11,7 +11,7 @@ use crate::layout::{Layout, Section};
 const RESERVED: [u16; 3] = [0x0007, 0x0008, 0x00FF];
 /// Kinds below and above the range. A property stream, 0x0100, wants flag bit 0;
 /// the others are skipped.
-const BESIDE: [u16; 6] = [0x0000, 0x0100, 0x0101, 0x01FF, 0x0200, 0xFFFF];
+const BESIDE: [u16; 6] = [0x0000, 0x0100, 0x0101, 0x01FF, 0x0201, 0xFFFF];
 
 /// Where the section stands in the table of the file of one edge.
 const PLACES: [(&str, usize); 3] = [("first", 0), ("middle", 2), ("last", 4)];

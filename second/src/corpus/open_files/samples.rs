@@ -88,6 +88,46 @@ pub fn full() -> Layout {
     layout
 }
 
+/// `full` with a start index as its last entry, 8.
+pub fn full_indexed() -> Layout {
+    full().with(|l| l.sections.push(groups::starts(&three_groups())))
+}
+
+/// A file of these groups with their start index at its end.
+pub fn indexed(groups: &[Group]) -> Layout {
+    groups::layout(groups, 24).with(|l| l.sections.push(groups::starts(groups)))
+}
+
+/// The fewest keys for which our writer makes an index, with its minor version.
+pub fn indexed_1025_keys() -> Layout {
+    indexed(&single_groups(1_025)).with(|l| l.header.minor = 1)
+}
+
+/// The starts of `five_groups`.
+pub const FIVE_STARTS: [u64; 6] = [0, 2, 3, 6, 7, 9];
+
+/// Groups of 2, 1, 3, 1 and 2 edges.
+pub fn five_groups() -> Vec<Group> {
+    let edges = |group: u64, degree: u64| -> Vec<Edge> {
+        let number = |i: u64| 10 * group + i;
+        let edge = |i: u64| match number(i) % 4 {
+            1 => dead(i, number(i), number(i)),
+            _ => live(i, number(i), number(i)),
+        };
+        (0..degree).map(edge).collect()
+    };
+    let group = |(i, degree): (u64, u64)| {
+        let form = if i == 3 { dense } else { split };
+        form(id_of(7, 10 * i), &edges(i, degree))
+    };
+    (0..).zip([2, 1, 3, 1, 2]).map(group).collect()
+}
+
+/// The file of `five_groups` with these numbers as its start index, entry 5.
+pub fn five_with_starts(starts: &[u64]) -> Layout {
+    groups::layout(&five_groups(), 24).with(|l| l.sections.push(groups::start_index(starts)))
+}
+
 /// Puts another key in the place of the key with this index.
 pub fn set_key(layout: &mut Layout, index: usize, key: Id) {
     layout.section(kind::KEYS).bytes[16 * index..][..16].copy_from_slice(&key);
@@ -98,4 +138,10 @@ pub fn set_offset(layout: &mut Layout, index: usize, number: u64) {
     let width = usize::from(layout.offset_bits / 8);
     let bytes = &mut layout.section(kind::OFFSETS).bytes;
     bytes[width * index..][..width].copy_from_slice(&write_le(number, width));
+}
+
+/// Puts another number in the place of the start with this index.
+pub fn set_start(layout: &mut Layout, index: usize, number: u64) {
+    let bytes = &mut layout.section(kind::START_INDEX).bytes;
+    bytes[8 * index..][..8].copy_from_slice(&number.to_le_bytes());
 }

@@ -1,6 +1,6 @@
 //! Refusals 9 and 10: the form of the section table, names, kinds and codecs.
 
-use super::samples::{full, heading_only, one_edge, SKIPPED};
+use super::samples::{full, full_indexed, heading_only, one_edge, SKIPPED};
 use super::{expect, Files};
 use crate::format::{bound, flag, kind};
 use crate::layout::{Layout, Section};
@@ -96,7 +96,7 @@ fn bodies_not_filled(files: &mut Files) {
 /// Kinds that are read have no name.
 fn names_of_read_kinds(files: &mut Files) {
     for kind in kind::READ {
-        let layout = full().with(|l| l.section(kind).name = vec![b'k']);
+        let layout = full_indexed().with(|l| l.section(kind).name = vec![b'k']);
         files.refused(format!("name-of-1-on-kind-{kind}"), layout, expect(9, 0));
     }
     for length in [63, 64] {
@@ -172,10 +172,10 @@ fn missing_kinds(files: &mut Files) {
 
 fn doubled_kinds(files: &mut Files) {
     for kind in kind::READ {
-        let again = || full().section(kind).clone().gap([]);
-        let layout = full().with(|l| l.sections.push(again()));
+        let again = || full_indexed().section(kind).clone().gap([]);
+        let layout = full_indexed().with(|l| l.sections.push(again()));
         files.refused(format!("doubled-kind-{kind}"), layout, expect(9, 0));
-        let layout = full().with(|l| l.sections.insert(0, Section::new(kind, [])));
+        let layout = full_indexed().with(|l| l.sections.insert(0, Section::new(kind, [])));
         let name = format!("doubled-kind-{kind}-empty-at-first");
         files.refused(name, layout, expect(9, 0));
     }
@@ -190,15 +190,15 @@ fn coded(layout: Layout, index: usize, codec: u8) -> Layout {
 
 /// Each entry in turn: kinds that are read are raw, others need not be.
 fn codecs(files: &mut Files) {
-    for (index, section) in full().sections.iter().enumerate() {
+    for (index, section) in full_indexed().sections.iter().enumerate() {
         if kind::READ.contains(&section.kind) {
             for codec in [1, 255] {
                 let name = format!("codec-{codec}-at-entry-{index}");
-                let layout = coded(full(), index, codec);
+                let layout = coded(full_indexed(), index, codec);
                 files.refused(name, layout, expect(10, index as u64));
             }
         } else {
-            let layout = coded(full(), index, 255);
+            let layout = coded(full_indexed(), index, 255);
             files.opens(format!("codec-255-at-entry-{index}"), layout);
         }
     }

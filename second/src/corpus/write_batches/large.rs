@@ -1,5 +1,5 @@
-//! Batches around the key count above which the writer makes fences, and
-//! batches of large degrees.
+//! Batches around the key count above which the writer makes fences, with large
+//! start indexes, and batches of large degrees.
 
 use super::records::{batch, dead, live, size, size_with_dead};
 use super::Batches;

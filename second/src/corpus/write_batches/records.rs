@@ -57,7 +57,20 @@ pub fn place(index: usize) -> usize {
 /// these many bytes of partners, below 2^24.
 pub fn size(keys: u64, partner_bytes: u64, edges: u64) -> u64 {
     // Header, four rows, counts and trailer; keys; offsets; partners; logs.
-    64 + (2 + 4 * 28 + 17 + 20) + 16 * keys + 3 * (keys + 1) + partner_bytes + 8 * edges
+    64 + (2 + 4 * 28 + 17 + 20)
+        + 16 * keys
+        + 3 * (keys + 1)
+        + partner_bytes
+        + 8 * edges
+        + start_index(keys)
+}
+
+/// From 1,025 keys on, a row and a number for each key and one more.
+fn start_index(keys: u64) -> u64 {
+    match keys {
+        0..=1_024 => 0,
+        _ => 28 + 8 * (keys + 1),
+    }
 }
 
 /// The same with a dead edge: one row more, and a bit for each edge.

@@ -11,6 +11,7 @@ pub fn add(batches: &mut Batches) {
     key_orders(batches);
     partner_orders(batches);
     many_keys(batches);
+    start_indexes(batches);
     full_rooms(batches);
 }
 
@@ -139,9 +140,36 @@ fn many_keys(batches: &mut Batches) {
     }
 }
 
+/// On both sides of the key count from which on there is a start index: the keys
+/// decide, not the edges.
+fn start_indexes(batches: &mut Batches) {
+    let key = |i: u64| id_of(0x100 * i, i);
+    for count in [1_024, 1_025] {
+        let mut add = |word: &str, edges: Vec<Vec<u8>>, size: u64| {
+            batches.written(format!("{count}-keys-{word}"), batch(&edges), size);
+        };
+        let ones = |edge: fn(u64) -> bool| -> Vec<Vec<u8>> {
+            let record = |i| if edge(i) { dead } else { live };
+            let edge = |i: u64| record(i)(key(i), id_of(i % 128, 0), i);
+            (0..count).map(edge).collect()
+        };
+        add("live", ones(|_| false), size(count, 11 * count, count));
+        let size_dead = size_with_dead(count, 11 * count, count);
+        add("some-dead", ones(|i| i % 7 == 3), size_dead);
+        // Degrees 1, 2 and 3 in turn.
+        let degrees = || (0..count).map(|i| (i, 1 + i % 3));
+        let edges = degrees().flat_map(|(i, degree)| {
+            (0..degree).map(move |j| live(key(i), id_of(j, i), 1_000 * i + j))
+        });
+        let sum: u64 = degrees().map(|(_, degree)| degree).sum();
+        let size = size(count, 2 * count + 9 * sum, sum);
+        add("of-three-degrees", edges.collect(), size);
+    }
+}
+
 /// Files that fill the room exactly, and that are one byte too long for it.
 fn full_rooms(batches: &mut Batches) {
-    for (word, split, dense, over) in [("filled", 3_667, 2_724, 0), ("passed", 3_654, 2_735, 1)] {
+    for (word, split, dense, over) in [("filled", 2_693, 2_604, 0), ("passed", 2_655, 2_637, 1)] {
         let edge = |i: u64| {
             let is_dense = i % 2 == 1 && i / 2 < dense;
             let upper = if is_dense { 1 << 60 } else { 1 };

@@ -50,8 +50,17 @@ element-copy-out-byte-or c = search needs
 byte-or-requires : tie.Need-byte-or-requires
 byte-or-requires c κs = search needs
 
+element-copy-out-t53 : tie.Need-element-copy-out-t53
+element-copy-out-t53 c = search needs
+
+element-copy-out-t57 : tie.Need-element-copy-out-t57
+element-copy-out-t57 c = search needs
+
+element-copy-out-t60 : tie.Need-element-copy-out-t60
+element-copy-out-t60 c = search needs
+
 returns : tie.Need-returns
-returns c = ap (recordWithBits (c .before .before .before .before .before .before .before .before .before .before .before .before .before .before .before .args .c .now)) (c .byte-or .ensures)
+returns c = ap (recordWithBits (c .before .before .before .before .before .before .before .before .before .before .before .before .before .before .before .before .before .before .args .c .now)) (c .before .before .before .byte-or .ensures)
 
 pub record-from-spec : {M : Type 1} → statement M
 record-from-spec =
@@ -72,4 +81,7 @@ record-from-spec =
     element-copy-out-t46
     element-copy-out-byte-or
     byte-or-requires
+    element-copy-out-t53
+    element-copy-out-t57
+    element-copy-out-t60
     returns)

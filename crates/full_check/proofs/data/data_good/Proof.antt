@@ -41,7 +41,13 @@ returns-4 : tie.Need-returns-4
 returns-4 c = let a = c .before .before .before .before .before .before .before .before .args in
     let f = sym (c .before .before .before .before .before .alike .ensures ∙ ap (λ (x : Bool). Bool·beq x (a .m .dead)) (c .before .before .before .before .before .before .flag-of .ensures)) ∙ not-false _ (c .before .before .before .before .if2 .left) in
     let g = sym (c .before .before .alike2 .ensures ∙ ap (λ (x : Bool). Bool·beq x (a .dense)) (c .before .before .before .flag-of2 .ensures)) ∙ not-false _ (c .before .if3 .left) in
-    simp (eq-eqb (a .sum) (a .count) (omega arith), f, g)
+    simp (eq-eqb (a .sum) (a .count) (omega arith), f, g, c .if4 .taken)
+
+returns-5 : tie.Need-returns-5
+returns-5 c = let a = c .before .before .before .before .before .before .before .before .args in
+    let f = sym (c .before .before .before .before .before .alike .ensures ∙ ap (λ (x : Bool). Bool·beq x (a .m .dead)) (c .before .before .before .before .before .before .flag-of .ensures)) ∙ not-false _ (c .before .before .before .before .if2 .left) in
+    let g = sym (c .before .before .alike2 .ensures ∙ ap (λ (x : Bool). Bool·beq x (a .dense)) (c .before .before .before .flag-of2 .ensures)) ∙ not-false _ (c .before .if3 .left) in
+    simp (eq-eqb (a .sum) (a .count) (omega arith), f, g, c .if4 .left)
 
 pub data-good-spec : {M : Type 1} → statement M
 data-good-spec =
@@ -54,4 +60,5 @@ data-good-spec =
     flag-of-requires-2
     alike-requires-2
     returns-3
-    returns-4)
+    returns-4
+    returns-5)

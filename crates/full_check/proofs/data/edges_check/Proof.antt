@@ -38,8 +38,8 @@ data-good-requires c κs = search needs
 returns : tie.Need-returns
 returns c = let a = c .before .before .before .before .before .before .before .before .before .args in
     let f = a .file .now in
-    edges-good (flagsOf f) f (a .o) _ _ (sym (c .before .before .before .before .before .before .before .groups-in .ensures) ∙ c .before .before .before .before .before .edges .given .1)
-    (data-is (flagsOf f) (a .o .edgecount) (tombstones (flagsOf f) f (a .o)) _ _ (c .before .before .le32 .ensures .0) (c .before .before .before .marks-in .ensures) (c .before .data-good .ensures) (c .if1 .taken))
+    edges-good (flagsOf f) f (a .o) _ _ _ (sym (c .before .before .before .before .before .before .before .groups-in .ensures) ∙ c .before .before .before .before .before .edges .given .1)
+    (data-is (flagsOf f) (a .o .edgecount) (tombstones (flagsOf f) f (a .o)) _ _ _ (c .before .before .le32 .ensures .0) (c .before .before .before .marks-in .ensures) (c .before .data-good .ensures) (c .if1 .taken))
 
 returns-2 : tie.Need-returns-2
 returns-2 c = let a = c .before .before .before .before .before .args in sym (edges-refused (flagsOf (a .file .now)) (a .file .now) (a .o) _ (sym (c .before .before .before .groups-in .ensures) ∙ c .before .refusal .given .1))
@@ -47,8 +47,8 @@ returns-2 c = let a = c .before .before .before .before .before .args in sym (ed
 returns-3 : tie.Need-returns-3
 returns-3 c = let a = c .before .before .before .before .before .before .before .before .before .args in
     let f = a .file .now in
-    edges-bad (flagsOf f) f (a .o) _ _ (sym (c .before .before .before .before .before .before .before .groups-in .ensures) ∙ c .before .before .before .before .before .edges .given .1)
-    (data-is (flagsOf f) (a .o .edgecount) (tombstones (flagsOf f) f (a .o)) _ _ (c .before .before .le32 .ensures .0) (c .before .before .before .marks-in .ensures) (c .before .data-good .ensures) (c .if1 .left))
+    edges-bad (flagsOf f) f (a .o) _ _ _ (sym (c .before .before .before .before .before .before .before .groups-in .ensures) ∙ c .before .before .before .before .before .edges .given .1)
+    (data-is (flagsOf f) (a .o .edgecount) (tombstones (flagsOf f) f (a .o)) _ _ _ (c .before .before .le32 .ensures .0) (c .before .before .before .marks-in .ensures) (c .before .data-good .ensures) (c .if1 .left))
 
 pub edges-check-spec : {M : Type 1} → statement M
 edges-check-spec =

@@ -5,8 +5,9 @@ use native.Mathlib.Nat.{sub-zero, mul-le-mul-right}
 use native.Mathlib.Omega.{arith}
 use mathlib.Core.Bool.{true, false}
 use borrow.Author.Tests.{eq-eqb, ne-eqb}
-use Rattle.frame.specs.Open.{offsetAt, offsetsFrom}
-use Rattle.index.specs.Cases.{risingKeys, first-rises, next-rises, offsets-first, offsets-on, offsets-bad, offsets-end}
+use Rattle.refusal.specs.declared.Refusal.{Refusal}
+use Rattle.frame.specs.Open.{offsetAt, risingFrom}
+use Rattle.index.specs.Cases.{risingKeys, first-rises, next-rises, rising-first, rising-on, rising-bad, rising-end}
 use borrow.Author.Needs.{needs}
 use Rattle.index.proofs.offsets.offsets_check.Statement.{statement}
 use Rattle.index.proofs.offsets.offsets_check.Tie as tie
@@ -14,7 +15,7 @@ use Rattle.index.proofs.offsets.offsets_check.Tie as tie
 abbrev Inv-loop : tie.InvT-loop
 Inv-loop offs w n len last₀ i₀ last i =
     (i ≤ n) × (last ≡ offsetAt offs w i) × (risingKeys offs w i ≡ true)
-    × (offsetsFrom (n + 1 - i) offs w n len i ≡ offsetsFrom (n + 1) offs w n len 0)
+    × (risingFrom Refusal.Offset (n + 1 - i) offs w n len i ≡ risingFrom Refusal.Offset (n + 1) offs w n len 0)
 
 abbrev μ-loop : tie.MeasureT-loop
 μ-loop offs w n len last₀ i₀ last i = n - i
@@ -29,7 +30,7 @@ returns : tie.Need-returns Inv-loop μ-loop
 returns c =
     let a = c .before .before .before .before .args in
     let first = c .before .before .offset-at .ensures .0 in
-    c .refused .ensures ∙ sym (offsets-first (a .offs .now) (a .w) (a .n) (a .len) (λ q. c .before .if1 .taken (first ∙ q)))
+    c .refused .ensures ∙ sym (rising-first Refusal.Offset (a .offs .now) (a .w) (a .n) (a .len) (λ q. c .before .if1 .taken (first ∙ q)))
 
 loop-holds : tie.Need-loop-holds Inv-loop μ-loop
 loop-holds c =
@@ -58,7 +59,7 @@ returns-2 c =
     let a = c .before .before .before .before .before .before .before .before .args in
     let l = c .before .before .before .before .loop in
     c .refused2 .ensures
-    ∙ sym (offsets-bad (a .offs .now) (a .w) (a .n) (a .len) (l .i) (omega arith) (l .inv .2) (omega arith))
+    ∙ sym (rising-bad Refusal.Offset (a .offs .now) (a .w) (a .n) (a .len) (l .i) (omega arith) (l .inv .2) (omega arith))
     ∙ l .inv .3
 
 add-i : tie.Need-add-i Inv-loop μ-loop
@@ -75,7 +76,7 @@ loop-again c =
       omega arith,
       next,
       next-rises (a .offs .now) (a .w) (l .i) (omega arith),
-      sym (offsets-on (a .offs .now) (a .w) (a .n) (a .len) (l .i) (omega arith) (l .inv .2)) ∙ l .inv .3,
+      sym (rising-on Refusal.Offset (a .offs .now) (a .w) (a .n) (a .len) (l .i) (omega arith) (l .inv .2)) ∙ l .inv .3,
     )
 
 refused-requires-3 : tie.Need-refused-requires-3 Inv-loop μ-loop
@@ -86,14 +87,14 @@ returns-3 c =
     let a = c .before .before .before .before .before .before .before .args in
     let l = c .before .before .before .loop in
     let ne = ne-eqb _ _ (λ q. c .before .if3 .taken (l .inv .1 ∙ q)) in
-    c .refused3 .ensures ∙ sym (offsets-end (a .offs .now) (a .w) (a .n) (a .len) (l .i) (omega arith) (l .inv .2) false ne) ∙ l .inv .3
+    c .refused3 .ensures ∙ sym (rising-end Refusal.Offset (a .offs .now) (a .w) (a .n) (a .len) (l .i) (omega arith) (l .inv .2) false ne) ∙ l .inv .3
 
 returns-4 : tie.Need-returns-4 Inv-loop μ-loop
 returns-4 c =
     let a = c .before .before .before .before .before .before .args in
     let l = c .before .before .loop in
     let eq = eq-eqb _ _ (sym (l .inv .1) ∙ c .if3 .left) in
-    sym (offsets-end (a .offs .now) (a .w) (a .n) (a .len) (l .i) (omega arith) (l .inv .2) true eq) ∙ l .inv .3
+    sym (rising-end Refusal.Offset (a .offs .now) (a .w) (a .n) (a .len) (l .i) (omega arith) (l .inv .2) true eq) ∙ l .inv .3
 
 pub offsets-check-spec : {M : Type 1} → statement M
 offsets-check-spec =

@@ -1,12 +1,12 @@
 -- `reader::look::record_good` meets its contract.
 use mathlib.Core.Path.{_≡_, refl, sym, ap, _∙_}
 use Prim.Native.Nat.{ℕ, _≤_, _<_}
-use mathlib.Core.Bool.{true, false, not, _||_}
+use mathlib.Core.Bool.{true, false}
 use borrow.Author.Tests.{le-leb, lt-leb, not-true, not-false}
 use Rattle.frame.specs.declared.Opened.{Opened}
 use Rattle.frame.specs.Kind as kind
 use Rattle.frame.specs.Frame.{widthGood, sizesGood}
-use Rattle.frame.specs.Open.{inside, recordWithin}
+use Rattle.frame.specs.Open.{inside, optionsInside, recordWithin}
 use Rattle.reader.proofs.look.record_good.Statement.{statement}
 use Rattle.reader.proofs.look.record_good.Tie as tie
 use borrow.Author.Needs.{needs}
@@ -38,19 +38,19 @@ module _ (size : ℕ) (o : Opened) where
           no-logs e = simp (le-leb size kind.mostBytes s, keys, offsets, partners, e)
 
           module _ (logs : inside size (o .logs) ≡ true) where
-            no-dead : (not (o .marked) || inside size (o .dead)) ≡ false → recordWithin size o ≡ false
+            no-options : optionsInside size o ≡ false → recordWithin size o ≡ false
             unfolding recordWithin
-            no-dead e = simp (le-leb size kind.mostBytes s, keys, offsets, partners, logs, e)
+            no-options e = simp (le-leb size kind.mostBytes s, keys, offsets, partners, logs, e)
 
-            module _ (dead : (not (o .marked) || inside size (o .dead)) ≡ true) where
+            module _ (options : optionsInside size o ≡ true) where
               no-width : widthGood (o .bits) ≡ false → recordWithin size o ≡ false
               unfolding recordWithin
-              no-width e = simp (le-leb size kind.mostBytes s, keys, offsets, partners, logs, dead, e)
+              no-width e = simp (le-leb size kind.mostBytes s, keys, offsets, partners, logs, options, e)
 
               module _ (width : widthGood (o .bits) ≡ true) where
                 last : recordWithin size o ≡ sizesGood o
                 unfolding recordWithin
-                last = simp (le-leb size kind.mostBytes s, keys, offsets, partners, logs, dead, width)
+                last = simp (le-leb size kind.mostBytes s, keys, offsets, partners, logs, options, width)
 
 returns : tie.Need-returns
 returns c = let a = c .before .args in sym (large (a .size) (a .o) (omega arith))
@@ -87,13 +87,13 @@ returns-5 c =
     let a = c .before .before .before .before .before .before .before .before .before .before .before .before .before .args in
     sym (no-logs (a .size) (a .o) (omega (arith, c .before .before .before .before .before .before .before .before .before .before .before .before .if1 .left)) (sym (c .before .before .before .before .before .before .before .before .before .before .inside .ensures) ∙ not-false _ (c .before .before .before .before .before .before .before .before .before .if2 .left)) (sym (c .before .before .before .before .before .before .before .inside2 .ensures) ∙ not-false _ (c .before .before .before .before .before .before .if3 .left)) (sym (c .before .before .before .before .inside3 .ensures) ∙ not-false _ (c .before .before .before .if4 .left)) (sym (c .before .inside4 .ensures) ∙ not-true _ (c .if5 .taken)))
 
-dead-inside-requires : tie.Need-dead-inside-requires
-dead-inside-requires c κs = search needs
+options-inside-requires : tie.Need-options-inside-requires
+options-inside-requires c κs = search needs
 
 returns-6 : tie.Need-returns-6
 returns-6 c =
     let a = c .before .before .before .before .before .before .before .before .before .before .before .before .before .before .before .args in
-    sym (no-dead (a .size) (a .o) (omega (arith, c .before .before .before .before .before .before .before .before .before .before .before .before .before .before .if1 .left)) (sym (c .before .before .before .before .before .before .before .before .before .before .before .before .inside .ensures) ∙ not-false _ (c .before .before .before .before .before .before .before .before .before .before .before .if2 .left)) (sym (c .before .before .before .before .before .before .before .before .before .inside2 .ensures) ∙ not-false _ (c .before .before .before .before .before .before .before .before .if3 .left)) (sym (c .before .before .before .before .before .before .inside3 .ensures) ∙ not-false _ (c .before .before .before .before .before .if4 .left)) (sym (c .before .before .before .inside4 .ensures) ∙ not-false _ (c .before .before .if5 .left)) (sym (c .before .dead-inside .ensures) ∙ not-true _ (c .if6 .taken)))
+    sym (no-options (a .size) (a .o) (omega (arith, c .before .before .before .before .before .before .before .before .before .before .before .before .before .before .if1 .left)) (sym (c .before .before .before .before .before .before .before .before .before .before .before .before .inside .ensures) ∙ not-false _ (c .before .before .before .before .before .before .before .before .before .before .before .if2 .left)) (sym (c .before .before .before .before .before .before .before .before .before .inside2 .ensures) ∙ not-false _ (c .before .before .before .before .before .before .before .before .if3 .left)) (sym (c .before .before .before .before .before .before .inside3 .ensures) ∙ not-false _ (c .before .before .before .before .before .if4 .left)) (sym (c .before .before .before .inside4 .ensures) ∙ not-false _ (c .before .before .if5 .left)) (sym (c .before .options-inside .ensures) ∙ not-true _ (c .if6 .taken)))
 
 width-good-requires : tie.Need-width-good-requires
 width-good-requires c κs = search needs
@@ -101,7 +101,7 @@ width-good-requires c κs = search needs
 returns-7 : tie.Need-returns-7
 returns-7 c =
     let a = c .before .before .before .before .before .before .before .before .before .before .before .before .before .before .before .before .before .args in
-    sym (no-width (a .size) (a .o) (omega (arith, c .before .before .before .before .before .before .before .before .before .before .before .before .before .before .before .before .if1 .left)) (sym (c .before .before .before .before .before .before .before .before .before .before .before .before .before .before .inside .ensures) ∙ not-false _ (c .before .before .before .before .before .before .before .before .before .before .before .before .before .if2 .left)) (sym (c .before .before .before .before .before .before .before .before .before .before .before .inside2 .ensures) ∙ not-false _ (c .before .before .before .before .before .before .before .before .before .before .if3 .left)) (sym (c .before .before .before .before .before .before .before .before .inside3 .ensures) ∙ not-false _ (c .before .before .before .before .before .before .before .if4 .left)) (sym (c .before .before .before .before .before .inside4 .ensures) ∙ not-false _ (c .before .before .before .before .if5 .left)) (sym (c .before .before .before .dead-inside .ensures) ∙ not-false _ (c .before .before .if6 .left)) (sym (c .before .width-good .ensures) ∙ not-true _ (c .if7 .taken)))
+    sym (no-width (a .size) (a .o) (omega (arith, c .before .before .before .before .before .before .before .before .before .before .before .before .before .before .before .before .if1 .left)) (sym (c .before .before .before .before .before .before .before .before .before .before .before .before .before .before .inside .ensures) ∙ not-false _ (c .before .before .before .before .before .before .before .before .before .before .before .before .before .if2 .left)) (sym (c .before .before .before .before .before .before .before .before .before .before .before .inside2 .ensures) ∙ not-false _ (c .before .before .before .before .before .before .before .before .before .before .if3 .left)) (sym (c .before .before .before .before .before .before .before .before .inside3 .ensures) ∙ not-false _ (c .before .before .before .before .before .before .before .if4 .left)) (sym (c .before .before .before .before .before .inside4 .ensures) ∙ not-false _ (c .before .before .before .before .if5 .left)) (sym (c .before .before .before .options-inside .ensures) ∙ not-false _ (c .before .before .if6 .left)) (sym (c .before .width-good .ensures) ∙ not-true _ (c .if7 .taken)))
 
 sizes-good-requires : tie.Need-sizes-good-requires
 sizes-good-requires c κs = search needs
@@ -109,7 +109,7 @@ sizes-good-requires c κs = search needs
 returns-8 : tie.Need-returns-8
 returns-8 c =
     let a = c .before .before .before .before .before .before .before .before .before .before .before .before .before .before .before .before .before .before .args in
-    c .sizes-good .ensures ∙ sym (last (a .size) (a .o) (omega (arith, c .before .before .before .before .before .before .before .before .before .before .before .before .before .before .before .before .before .if1 .left)) (sym (c .before .before .before .before .before .before .before .before .before .before .before .before .before .before .before .inside .ensures) ∙ not-false _ (c .before .before .before .before .before .before .before .before .before .before .before .before .before .before .if2 .left)) (sym (c .before .before .before .before .before .before .before .before .before .before .before .before .inside2 .ensures) ∙ not-false _ (c .before .before .before .before .before .before .before .before .before .before .before .if3 .left)) (sym (c .before .before .before .before .before .before .before .before .before .inside3 .ensures) ∙ not-false _ (c .before .before .before .before .before .before .before .before .if4 .left)) (sym (c .before .before .before .before .before .before .inside4 .ensures) ∙ not-false _ (c .before .before .before .before .before .if5 .left)) (sym (c .before .before .before .before .dead-inside .ensures) ∙ not-false _ (c .before .before .before .if6 .left)) (sym (c .before .before .width-good .ensures) ∙ not-false _ (c .before .if7 .left)))
+    c .sizes-good .ensures ∙ sym (last (a .size) (a .o) (omega (arith, c .before .before .before .before .before .before .before .before .before .before .before .before .before .before .before .before .before .if1 .left)) (sym (c .before .before .before .before .before .before .before .before .before .before .before .before .before .before .before .inside .ensures) ∙ not-false _ (c .before .before .before .before .before .before .before .before .before .before .before .before .before .before .if2 .left)) (sym (c .before .before .before .before .before .before .before .before .before .before .before .before .inside2 .ensures) ∙ not-false _ (c .before .before .before .before .before .before .before .before .before .before .before .if3 .left)) (sym (c .before .before .before .before .before .before .before .before .before .inside3 .ensures) ∙ not-false _ (c .before .before .before .before .before .before .before .before .if4 .left)) (sym (c .before .before .before .before .before .before .inside4 .ensures) ∙ not-false _ (c .before .before .before .before .before .if5 .left)) (sym (c .before .before .before .before .options-inside .ensures) ∙ not-false _ (c .before .before .before .if6 .left)) (sym (c .before .before .width-good .ensures) ∙ not-false _ (c .before .if7 .left)))
 
 pub record-good-spec : {M : Type 1} → statement M
 record-good-spec =
@@ -124,7 +124,7 @@ record-good-spec =
     returns-4
     inside-requires-4
     returns-5
-    dead-inside-requires
+    options-inside-requires
     returns-6
     width-good-requires
     returns-7

@@ -8,7 +8,7 @@ use Rattle.refusal.specs.declared.Refusal.{Refusal}
 use Rattle.refusal.specs.declared.Check.{Check}
 use Rattle.refusal.specs.Check.{_⊳_, refuse}
 use Rattle.refusal.specs.Check.Laws.{bad-then, fine-then}
-use Rattle.frame.specs.Open.{keysFrom, offsetsFrom, fencesGood}
+use Rattle.frame.specs.Open.{keysFrom, offsetsCheck, fencesGood}
 use Rattle.reader.specs.Fit.{without-fences, with-fences}
 use Rattle.reader.proofs.open.content_check.Statement.{statement}
 use Rattle.reader.proofs.open.content_check.Tie as tie
@@ -19,7 +19,7 @@ module _ (keys offsets fences : List ℕ) (n w len : ℕ) where
   first = keysFrom (n - 1) keys 1
 
   abbrev second : Check
-  second = offsetsFrom (n + 1) offsets w n len 0
+  second = offsetsCheck offsets w n len
 
   abbrev good : Bool
   good = fencesGood fences keys n

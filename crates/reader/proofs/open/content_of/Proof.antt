@@ -2,6 +2,7 @@
 use mathlib.Core.Path.{_≡_, sym, ap, _∙_}
 use lib.ListN.{length}
 use Rattle.base.specs.Over.{length-part}
+use Rattle.refusal.specs.Check.Laws.{bad-then, fine-then}
 use Rattle.reader.specs.Fit.{content-is}
 use native.Mathlib.Omega.{arith}
 use borrow.Author.Needs.{needs}
@@ -33,10 +34,27 @@ content-check-requires c κs = let f = c .before .before .before .before .before
     let ol = p .offsetlen in
     (p .few, omega arith, p .narrow, p .wide, omega arith)
 
+enum-known-refusal : tie.Need-enum-known-refusal
+enum-known-refusal c = search needs
+
+enum-told : tie.Need-enum-told
+enum-told c = search needs
+
+starts-of-requires : tie.Need-starts-of-requires
+starts-of-requires c κs = c .before .before .before .before .before .before .before .before .before .before .before .before .before .before .pre
+
+-- what rules 13 to 15 say comes before 37
 returns : tie.Need-returns
-returns c = let f = c .before .before .before .before .before .before .before .before .before .before .before .before .args .file .now in
-    let x = c .before .before .before .before .before .before .before .before .before .before .before .before .args .x in
-    content-is f x (c .before .before .before .before .bytes-of2 .ensures) (c .before .before .before .bytes-of3 .ensures) (c .before .before .bytes-of4 .ensures) (ap length (c .before .before .before .before .before .bytes-of .ensures)) (c .content-check .ensures)
+returns c =
+    let a = c .before .before .before .before .before .before .before .before .before .before .before .before .before .before .before .args in
+    let is = content-is (a .file .now) (a .x) (c .before .before .before .before .before .before .before .bytes-of2 .ensures) (c .before .before .before .before .before .before .bytes-of3 .ensures) (c .before .before .before .before .before .bytes-of4 .ensures) (ap length (c .before .before .before .before .before .before .before .before .bytes-of .ensures)) (c .before .before .before .content-check .ensures) in
+    sym (sym is ∙ bad-then _ (c .before .refusal .given .1))
+
+returns-2 : tie.Need-returns-2
+returns-2 c =
+    let a = c .before .before .before .before .before .before .before .before .before .before .before .before .before .before .before .args in
+    let is = content-is (a .file .now) (a .x) (c .before .before .before .before .before .before .before .bytes-of2 .ensures) (c .before .before .before .before .before .before .bytes-of3 .ensures) (c .before .before .before .before .before .bytes-of4 .ensures) (ap length (c .before .before .before .before .before .before .before .before .bytes-of .ensures)) (c .before .before .before .content-check .ensures) in
+    c .starts-of .ensures ∙ sym (fine-then _ (c .before .enum-told .given .1)) ∙ is
 
 pub content-of-spec : {M : Type 1} → statement M
 content-of-spec =
@@ -48,4 +66,8 @@ content-of-spec =
     bytes-of-requires-4
     cast-content-check
     content-check-requires
-    returns)
+    enum-known-refusal
+    enum-told
+    starts-of-requires
+    returns
+    returns-2)

@@ -2,7 +2,7 @@
 use mathlib.Core.Path.{_≡_, refl, sym, ap, _∙_}
 use Prim.Native.Nat.{_+_}
 use Rattle.refusal.specs.Check.Laws.{bad-then, fine-then}
-use Rattle.frame.specs.Open.{offsetsFrom}
+use Rattle.frame.specs.Open.{offsetsCheck}
 use Rattle.reader.proofs.open.index_check.Statement.{statement}
 use Rattle.reader.proofs.open.index_check.Tie as tie
 use borrow.Author.Needs.{needs}
@@ -20,10 +20,10 @@ offsets-check-requires : tie.Need-offsets-check-requires
 offsets-check-requires c κs = search needs
 
 returns : tie.Need-returns
-returns c = let a = c .before .before .before .before .before .before .args in sym (bad-then (offsetsFrom (a .n + 1) (a .offsets .now) (a .w) (a .n) (a .len) 0) (sym (c .before .before .before .keys-check .ensures) ∙ c .before .refusal .given .1))
+returns c = let a = c .before .before .before .before .before .before .args in sym (bad-then (offsetsCheck (a .offsets .now) (a .w) (a .n) (a .len)) (sym (c .before .before .before .keys-check .ensures) ∙ c .before .refusal .given .1))
 
 returns-2 : tie.Need-returns-2
-returns-2 c = let a = c .before .before .before .before .before .before .args in c .offsets-check .ensures ∙ sym (fine-then (offsetsFrom (a .n + 1) (a .offsets .now) (a .w) (a .n) (a .len) 0) (sym (c .before .before .before .keys-check .ensures) ∙ c .before .enum-told .given .1))
+returns-2 c = let a = c .before .before .before .before .before .before .args in c .offsets-check .ensures ∙ sym (fine-then (offsetsCheck (a .offsets .now) (a .w) (a .n) (a .len)) (sym (c .before .before .before .keys-check .ensures) ∙ c .before .enum-told .given .1))
 
 pub index-check-spec : {M : Type 1} → statement M
 index-check-spec =

@@ -11,7 +11,7 @@ use Rattle.codes.specs.declared.ids.Id.{Id}
 use Rattle.batch.specs.declared.Edge.{Edge}
 use Rattle.frame.specs.Layout.{payload}
 use Rattle.batch_groups.specs.Groups.{Group, groupsOf, Grouped}
-use Rattle.write_image.specs.Image.{keysIn, keyBytes, offsetBytes, partnerBytes, logBytes, tombBytes, fencesOf, fenced, sectionsBy}
+use Rattle.write_image.specs.Image.{keysIn, keyBytes, offsetBytes, partnerBytes, logBytes, tombBytes, fencesOf, fenced, startBytes, indexed, sectionsBy}
 use Rattle.write_image.specs.Image.Laws.{length-keys}
 use Rattle.write_sections.specs.Ids.{idsAt}
 use Rattle.write_source.specs.Source.{sourceEdges}
@@ -41,60 +41,69 @@ module _ (es : List Edge) (keys w : ℕ) (dead : Bool) (o : List ℕ) (at : ℕ)
   abbrev fences : List ℕ
   fences = pick (fenced keys) (fencesOf (keysIn gs)) []
 
+  abbrev starts : List ℕ
+  starts = pick (indexed keys) (startBytes gs) []
+
+  abbrev lasts : List ℕ
+  lasts = fences ++ starts
+
   -- what has a part for each edge
   abbrev marked : List ℕ
   marked = logBytes es ++ tombs
 
-  parts : whole ≡ firsts ++ (marked ++ fences)
-  parts = payload-parts keys w dead es gs ∙ ap (λ (t : List ℕ). firsts ++ t) (sym (append-assoc (logBytes es) tombs fences))
+  parts : whole ≡ firsts ++ (marked ++ lasts)
+  parts = payload-parts keys w dead es gs ∙ ap (λ (t : List ℕ). firsts ++ t) (sym (append-assoc (logBytes es) tombs lasts))
 
-  todo : Left o at (firsts ++ (marked ++ fences)) o at whole
+  todo : Left o at (firsts ++ (marked ++ lasts)) o at whole
   todo = P.is parts (P.start o at whole)
 
   room₀ : at + length firsts ≤ length o
-  room₀ = omega (arith, P.room firsts (marked ++ fences) todo room)
+  room₀ = omega (arith, P.room firsts (marked ++ lasts) todo room)
 
   module _ {o₁ : List ℕ} {a₁ : ℕ} (p₁ : Put o o₁ at a₁ firsts) where
-    l₁ : Left o₁ a₁ (marked ++ fences) o at whole
+    l₁ : Left o₁ a₁ (marked ++ lasts) o at whole
     l₁ = P.put todo p₁
 
     room₁ : a₁ + length marked ≤ length o₁
-    room₁ = omega (arith, P.room marked fences l₁ room)
+    room₁ = omega (arith, P.room marked lasts l₁ room)
 
     module _ {o₂ : List ℕ} {a₂ : ℕ} (p₂ : Put o₁ o₂ a₁ a₂ marked) where
       abbrev more : List ℕ
       more = rest ++ marked
 
-      split : whole ≡ (keyBytes gs ++ more) ++ fences
+      split : whole ≡ (keyBytes gs ++ more) ++ lasts
       split =
           parts
-          ∙ append-assoc (keyBytes gs) rest (marked ++ fences)
-          ∙ sym (append-assoc (keyBytes gs) more fences ∙ ap (λ (t : List ℕ). keyBytes gs ++ t) (append-assoc rest marked fences))
+          ∙ append-assoc (keyBytes gs) rest (marked ++ lasts)
+          ∙ sym (append-assoc (keyBytes gs) more lasts ∙ ap (λ (t : List ℕ). keyBytes gs ++ t) (append-assoc rest marked lasts))
 
-      l₂ : Left o₂ a₂ fences o at whole
+      l₂ : Left o₂ a₂ lasts o at whole
       l₂ = P.put l₁ p₂
 
       at₂ : a₂ ≡ at + length (keyBytes gs ++ more)
-      at₂ = let q = l₂ .place in let s = ap length split ∙ length-append (keyBytes gs ++ more) fences in omega arith
+      at₂ = let q = l₂ .place in let s = ap length split ∙ length-append (keyBytes gs ++ more) lasts in omega arith
 
       keys-there : idsAt keys o₂ at ≡ keysIn gs
-      keys-there = keys-stand gs more fences g split l₂ at₂ room keys ek
+      keys-there = keys-stand gs more lasts g split l₂ at₂ room keys ek
 
       keys-below : at + 16 * keys ≤ a₂
       keys-below = let q = at₂ in let s = length-append (keyBytes gs) more in let k = length-keys gs in omega arith
 
-      left : Left o₂ a₂ (pick (fenced keys) (fencesOf (idsAt keys o₂ at)) [] ++ []) o at whole
-      left =
-          P.is
-          (ap (λ (t : List Id). pick (fenced keys) (fencesOf t) []) (sym keys-there)
-          ∙ sym (append-nil (pick (fenced keys) (fencesOf (idsAt keys o₂ at)) [])))
-          l₂
+      left : Left o₂ a₂ (pick (fenced keys) (fencesOf (idsAt keys o₂ at)) [] ++ starts) o at whole
+      left = P.is (ap (λ (t : List Id). pick (fenced keys) (fencesOf t) [] ++ starts) (sym keys-there)) l₂
 
       room₂ : a₂ + length (pick (fenced keys) (fencesOf (idsAt keys o₂ at)) []) ≤ length o₂
-      room₂ = omega (arith, P.room (pick (fenced keys) (fencesOf (idsAt keys o₂ at)) []) [] left room)
+      room₂ = omega (arith, P.room (pick (fenced keys) (fencesOf (idsAt keys o₂ at)) []) starts left room)
 
-      done : {o₃ : List ℕ} {a₃ : ℕ} → Put o₂ o₃ a₂ a₃ (pick (fenced keys) (fencesOf (idsAt keys o₂ at)) []) → Put o o₃ at a₃ whole
-      done p₃ = P.end refl (P.put left p₃)
+      module _ {o₃ : List ℕ} {a₃ : ℕ} (p₃ : Put o₂ o₃ a₂ a₃ (pick (fenced keys) (fencesOf (idsAt keys o₂ at)) [])) where
+        l₃ : Left o₃ a₃ (starts ++ []) o at whole
+        l₃ = P.is (sym (append-nil starts)) (P.put left p₃)
+
+        room₃ : a₃ + length starts ≤ length o₃
+        room₃ = omega (arith, P.room starts [] l₃ room)
+
+        done : {o₄ : List ℕ} {a₄ : ℕ} → Put o₃ o₄ a₃ a₄ starts → Put o o₄ at a₄ whole
+        done p₄ = P.end refl (P.put l₃ p₄)
 
 put-groups-requires : tie.Need-put-groups-requires
 put-groups-requires c κs = let a = c .before .before .before .before .args in (c .before .before .before .before .pre .0, c .before .before .before .before .pre .1, c .before .before .before .before .pre .2, c .before .before .before .before .pre .3, c .before .before .before .before .pre .4, room₀ (sourceEdges (a .kind) (a .a .now) (a .b .now)) (a .keys) (a .w) (a .dead) (a .out .now) (a .at) (c .before .before .before .before .pre .2) (c .before .before .before .before .pre .4) (c .before .before .before .before .pre .5), c .before .before .before .before .pre .6)
@@ -109,13 +118,26 @@ put-fences-if-requires c κs =
     let p₂ = c .before .before .before .put-by-edge .ensures in
     (c .before .before .before .before .before .before .before .before .before .before .before .before .pre .3, keys-below (sourceEdges (a .kind) (a .a .now) (a .b .now)) (a .keys) (a .w) (a .dead) (a .out .now) (a .at) (c .before .before .before .before .before .before .before .before .before .before .before .before .pre .2) (c .before .before .before .before .before .before .before .before .before .before .before .before .pre .4) (c .before .before .before .before .before .before .before .before .before .before .before .before .pre .5) p₁ p₂, room₂ (sourceEdges (a .kind) (a .a .now) (a .b .now)) (a .keys) (a .w) (a .dead) (a .out .now) (a .at) (c .before .before .before .before .before .before .before .before .before .before .before .before .pre .2) (c .before .before .before .before .before .before .before .before .before .before .before .before .pre .4) (c .before .before .before .before .before .before .before .before .before .before .before .before .pre .5) p₁ p₂)
 
+put-starts-if-requires : tie.Need-put-starts-if-requires
+put-starts-if-requires c κs =
+    let a = c .before .before .before .before .before .before .before .before .before .before .before .before .before .before .before .before .args in
+    (c .before .before .before .before .before .before .before .before .before .before .before .before .before .before .before .before .pre .0, room₃ (sourceEdges (a .kind) (a .a .now) (a .b .now)) (a .keys) (a .w) (a .dead) (a .out .now) (a .at) (c .before .before .before .before .before .before .before .before .before .before .before .before .before .before .before .before .pre .2) (c .before .before .before .before .before .before .before .before .before .before .before .before .before .before .before .before .pre .4) (c .before .before .before .before .before .before .before .before .before .before .before .before .before .before .before .before .pre .5) (c .before .before .before .before .before .before .before .before .before .before .before .put-groups .ensures) (c .before .before .before .before .before .before .before .put-by-edge .ensures) (c .before .before .before .put-fences-if .ensures))
+
 same-length : tie.Need-same-length
 same-length c = search needs
 
 returns : tie.Need-returns
 returns c =
-    let a = c .before .before .before .before .before .before .before .before .before .before .before .before .before .before .before .args in
-    done (sourceEdges (a .kind) (a .a .now) (a .b .now)) (a .keys) (a .w) (a .dead) (a .out .now) (a .at) (c .before .before .before .before .before .before .before .before .before .before .before .before .before .before .before .pre .2) (c .before .before .before .before .before .before .before .before .before .before .before .before .before .before .before .pre .4) (c .before .before .before .before .before .before .before .before .before .before .before .before .before .before .before .pre .5) (c .before .before .before .before .before .before .before .before .before .before .put-groups .ensures) (c .before .before .before .before .before .before .put-by-edge .ensures) (c .before .before .put-fences-if .ensures)
+    let a = c .before .before .before .before .before .before .before .before .before .before .before .before .before .before .before .before .before .before .before .args in
+    done (sourceEdges (a .kind) (a .a .now) (a .b .now)) (a .keys) (a .w) (a .dead) (a .out .now) (a .at) (c .before .before .before .before .before .before .before .before .before .before .before .before .before .before .before .before .before .before .before .pre .2) (c .before .before .before .before .before .before .before .before .before .before .before .before .before .before .before .before .before .before .before .pre .4) (c .before .before .before .before .before .before .before .before .before .before .before .before .before .before .before .before .before .before .before .pre .5) (c .before .before .before .before .before .before .before .before .before .before .before .before .before .before .put-groups .ensures) (c .before .before .before .before .before .before .before .before .before .before .put-by-edge .ensures) (c .before .before .before .before .before .before .put-fences-if .ensures) (c .before .before .put-starts-if .ensures)
 
 pub put-payload-spec : {M : Type 1} → statement M
-put-payload-spec = tie.close (tie.spec put-groups-requires put-by-edge-requires put-fences-if-requires same-length returns)
+put-payload-spec =
+    tie.close
+    (tie.spec
+    put-groups-requires
+    put-by-edge-requires
+    put-fences-if-requires
+    put-starts-if-requires
+    same-length
+    returns)

@@ -1,4 +1,4 @@
-use mathlib.Core.Path.{_≡_, refl, sym, ap, subst, _∙_}
+use mathlib.Core.Path.{_≡_, refl, sym, ap, ap₂, subst, _∙_}
 use Prim.Native.Nat.{ℕ, _+_, _*_, _≤_}
 use native.Mathlib.Omega.{arith}
 use mathlib.Core.List.{List, [], _++_, append-nil, append-assoc}
@@ -11,7 +11,7 @@ use Rattle.batch.specs.declared.Edge.{Edge}
 use Rattle.frame.specs.Layout.{Section, payload, bodyBytes, trailer, headBytes}
 use Rattle.batch.specs.Batch.{Heading}
 use Rattle.batch_groups.specs.Groups.{groupsOf}
-use Rattle.write_image.specs.Image.{flagsBy, sectionsBy, layoutBy, fileOf}
+use Rattle.write_image.specs.Image.{flagsBy, minorOf, sectionsBy, layoutBy, fileOf}
 use Rattle.write_image.specs.Image.Laws.{width-least, width-most}
 use Rattle.write_source.specs.Source.{sourceEdges}
 use Rattle.write_frame.specs.Standing.{stands}
@@ -32,8 +32,11 @@ module _ (h : Heading) (es : List Edge) (p : Plan) (fits : PlanFits es p) (ids :
   abbrev flags : ℕ
   flags = flagsBy (h .direction) (p .dense) (p .dead)
 
+  abbrev minor : ℕ
+  minor = minorOf (p .keys)
+
   abbrev head : List ℕ
-  head = headBytes 0 flags (h .ids)
+  head = headBytes minor flags (h .ids)
 
   abbrev body : List ℕ
   body = bodyBytes ss (p .keys) (length es) (8 * p .width)
@@ -57,7 +60,7 @@ module _ (h : Heading) (es : List Edge) (p : Plan) (fits : PlanFits es p) (ids :
   room = let l = long in omega arith
 
   head-long : length head ≡ 64
-  head-long = let l = length-head [] flags (h .ids) in omega arith
+  head-long = let l = length-head minor flags (h .ids) in omega arith
 
   todo : Left o 0 (head ++ (payload ss ++ (body ++ tail))) o 0 whole
   todo = P.is split (P.start o 0 whole)
@@ -74,10 +77,10 @@ module _ (h : Heading) (es : List Edge) (p : Plan) (fits : PlanFits es p) (ids :
       let v : 3 ≤ p .width = subst (λ (t : ℕ). 3 ≤ t) (sym (f .width-is)) (width-least (p .partners)) in
       (f .edges-is, e, f .keys-is, omega arith, w, v)
 
-  module _ (fl : ℕ) (same-flags : fl ≡ flags) {o₁ : List ℕ} (e : o₁ ≡ sets o 0 (headBytes 0 fl (h .ids))) where
+  module _ (fl : ℕ) (same-flags : fl ≡ flags) (m : ℕ) (same-minor : m ≡ minor) {o₁ : List ℕ} (e : o₁ ≡ sets o 0 (headBytes m fl (h .ids))) where
     l₁ : Left o₁ 64 (payload ss ++ (body ++ tail)) o 0 whole
     l₁ =
-        let q : Put o o₁ 0 64 head = record { place = omega (arith, head-long); bytes = e ∙ ap (λ (t : ℕ). sets o 0 (headBytes 0 t (h .ids))) same-flags } in P.put todo q
+        let q : Put o o₁ 0 64 head = record { place = omega (arith, head-long); bytes = e ∙ ap₂ (λ (t u : ℕ). sets o 0 (headBytes t u (h .ids))) same-minor same-flags } in P.put todo q
 
     room₁ : 64 + length (payload ss) ≤ length o₁
     room₁ = omega (arith, P.room (payload ss) (body ++ tail) l₁ room)
@@ -154,29 +157,33 @@ module _ (h : Heading) (es : List Edge) (p : Plan) (fits : PlanFits es p) (ids :
 flags-for-requires : tie.Need-flags-for-requires
 flags-for-requires c κs = search needs
 
+minor-for-requires : tie.Need-minor-for-requires
+minor-for-requires c κs = search needs
+
 put-header-requires : tie.Need-put-header-requires
-put-header-requires c κs = let a = c .before .before .before .before .before .before .args in (room₀ (record { direction = a .direction; ids = a .ids .now }) (sourceEdges (a .kind) (a .a .now) (a .b .now)) (a .plan) (c .before .before .before .before .before .before .pre .0) (c .before .before .before .before .before .before .pre .2) (a .out .now) (c .before .before .before .before .before .before .pre .3), c .before .before .before .before .before .before .pre .2)
+put-header-requires c κs = let a = c .before .before .before .before .before .before .before .args in (room₀ (record { direction = a .direction; ids = a .ids .now }) (sourceEdges (a .kind) (a .a .now) (a .b .now)) (a .plan) (c .before .before .before .before .before .before .before .pre .0) (c .before .before .before .before .before .before .before .pre .2) (a .out .now) (c .before .before .before .before .before .before .before .pre .3), c .before .before .before .before .before .before .before .pre .2)
 
 put-payload-requires : tie.Need-put-payload-requires
-put-payload-requires c κs = let a = c .before .before .before .before .before .before .before .before .before .before .args in let b = bounds (record { direction = a .direction; ids = a .ids .now }) (sourceEdges (a .kind) (a .a .now) (a .b .now)) (a .plan) (c .before .before .before .before .before .before .before .before .before .before .pre .0) (c .before .before .before .before .before .before .before .before .before .before .pre .2) (a .out .now) (c .before .before .before .before .before .before .before .before .before .before .pre .3) in (b .0, b .1, b .2, b .3, c .before .before .before .before .before .before .before .before .before .before .pre .1, room₁ (record { direction = a .direction; ids = a .ids .now }) (sourceEdges (a .kind) (a .a .now) (a .b .now)) (a .plan) (c .before .before .before .before .before .before .before .before .before .before .pre .0) (c .before .before .before .before .before .before .before .before .before .before .pre .2) (a .out .now) (c .before .before .before .before .before .before .before .before .before .before .pre .3) _ (c .before .before .before .before .before .flags-for .ensures) (c .before .before .before .put-header .ensures), (b .5, b .4))
+put-payload-requires c κs = let a = c .before .before .before .before .before .before .before .before .before .before .before .args in let b = bounds (record { direction = a .direction; ids = a .ids .now }) (sourceEdges (a .kind) (a .a .now) (a .b .now)) (a .plan) (c .before .before .before .before .before .before .before .before .before .before .before .pre .0) (c .before .before .before .before .before .before .before .before .before .before .before .pre .2) (a .out .now) (c .before .before .before .before .before .before .before .before .before .before .before .pre .3) in (b .0, b .1, b .2, b .3, c .before .before .before .before .before .before .before .before .before .before .before .pre .1, room₁ (record { direction = a .direction; ids = a .ids .now }) (sourceEdges (a .kind) (a .a .now) (a .b .now)) (a .plan) (c .before .before .before .before .before .before .before .before .before .before .before .pre .0) (c .before .before .before .before .before .before .before .before .before .before .before .pre .2) (a .out .now) (c .before .before .before .before .before .before .before .before .before .before .before .pre .3) _ (c .before .before .before .before .before .before .flags-for .ensures) _ (c .before .before .before .before .minor-for .ensures) (c .before .before .before .put-header .ensures), (b .5, b .4))
 
 put-body-requires : tie.Need-put-body-requires
-put-body-requires c κs = let a = c .before .before .before .before .before .before .before .before .before .before .before .before .before .before .args in let b = bounds (record { direction = a .direction; ids = a .ids .now }) (sourceEdges (a .kind) (a .a .now) (a .b .now)) (a .plan) (c .before .before .before .before .before .before .before .before .before .before .before .before .before .before .pre .0) (c .before .before .before .before .before .before .before .before .before .before .before .before .before .before .pre .2) (a .out .now) (c .before .before .before .before .before .before .before .before .before .before .before .before .before .before .pre .3) in let r = room₂ (record { direction = a .direction; ids = a .ids .now }) (sourceEdges (a .kind) (a .a .now) (a .b .now)) (a .plan) (c .before .before .before .before .before .before .before .before .before .before .before .before .before .before .pre .0) (c .before .before .before .before .before .before .before .before .before .before .before .before .before .before .pre .2) (a .out .now) (c .before .before .before .before .before .before .before .before .before .before .before .before .before .before .pre .3) _ (c .before .before .before .before .before .before .before .before .before .flags-for .ensures) (c .before .before .before .before .before .before .before .put-header .ensures) (c .before .before .before .put-payload .ensures) in (b .3, b .4, b .1, r .0, r .1, r .2)
+put-body-requires c κs = let a = c .before .before .before .before .before .before .before .before .before .before .before .before .before .before .before .args in let b = bounds (record { direction = a .direction; ids = a .ids .now }) (sourceEdges (a .kind) (a .a .now) (a .b .now)) (a .plan) (c .before .before .before .before .before .before .before .before .before .before .before .before .before .before .before .pre .0) (c .before .before .before .before .before .before .before .before .before .before .before .before .before .before .before .pre .2) (a .out .now) (c .before .before .before .before .before .before .before .before .before .before .before .before .before .before .before .pre .3) in let r = room₂ (record { direction = a .direction; ids = a .ids .now }) (sourceEdges (a .kind) (a .a .now) (a .b .now)) (a .plan) (c .before .before .before .before .before .before .before .before .before .before .before .before .before .before .before .pre .0) (c .before .before .before .before .before .before .before .before .before .before .before .before .before .before .before .pre .2) (a .out .now) (c .before .before .before .before .before .before .before .before .before .before .before .before .before .before .before .pre .3) _ (c .before .before .before .before .before .before .before .before .before .before .flags-for .ensures) _ (c .before .before .before .before .before .before .before .before .minor-for .ensures) (c .before .before .before .before .before .before .before .put-header .ensures) (c .before .before .before .put-payload .ensures) in (b .3, b .4, b .1, r .0, r .1, r .2)
 
 put-trailer-requires : tie.Need-put-trailer-requires
-put-trailer-requires c κs = let a = c .before .before .before .before .before .before .before .before .before .before .before .before .before .before .before .before .before .before .args in room₃ (record { direction = a .direction; ids = a .ids .now }) (sourceEdges (a .kind) (a .a .now) (a .b .now)) (a .plan) (c .before .before .before .before .before .before .before .before .before .before .before .before .before .before .before .before .before .before .pre .0) (c .before .before .before .before .before .before .before .before .before .before .before .before .before .before .before .before .before .before .pre .2) (a .out .now) (c .before .before .before .before .before .before .before .before .before .before .before .before .before .before .before .before .before .before .pre .3) _ (c .before .before .before .before .before .before .before .before .before .before .before .before .before .flags-for .ensures) (c .before .before .before .before .before .before .before .before .before .before .before .put-header .ensures) (c .before .before .before .before .before .before .before .put-payload .ensures) (c .before .before .before .put-body .ensures)
+put-trailer-requires c κs = let a = c .before .before .before .before .before .before .before .before .before .before .before .before .before .before .before .before .before .before .before .args in room₃ (record { direction = a .direction; ids = a .ids .now }) (sourceEdges (a .kind) (a .a .now) (a .b .now)) (a .plan) (c .before .before .before .before .before .before .before .before .before .before .before .before .before .before .before .before .before .before .before .pre .0) (c .before .before .before .before .before .before .before .before .before .before .before .before .before .before .before .before .before .before .before .pre .2) (a .out .now) (c .before .before .before .before .before .before .before .before .before .before .before .before .before .before .before .before .before .before .before .pre .3) _ (c .before .before .before .before .before .before .before .before .before .before .before .before .before .before .flags-for .ensures) _ (c .before .before .before .before .before .before .before .before .before .before .before .before .minor-for .ensures) (c .before .before .before .before .before .before .before .before .before .before .before .put-header .ensures) (c .before .before .before .before .before .before .before .put-payload .ensures) (c .before .before .before .put-body .ensures)
 
 same-length : tie.Need-same-length
 same-length c = search needs
 
 returns : tie.Need-returns
-returns c = let a = c .before .before .before .before .before .before .before .before .before .before .before .before .before .before .before .before .before .before .before .before .before .args in done (record { direction = a .direction; ids = a .ids .now }) (sourceEdges (a .kind) (a .a .now) (a .b .now)) (a .plan) (c .before .before .before .before .before .before .before .before .before .before .before .before .before .before .before .before .before .before .before .before .before .pre .0) (c .before .before .before .before .before .before .before .before .before .before .before .before .before .before .before .before .before .before .before .before .before .pre .2) (a .out .now) (c .before .before .before .before .before .before .before .before .before .before .before .before .before .before .before .before .before .before .before .before .before .pre .3) _ (c .before .before .before .before .before .before .before .before .before .before .before .before .before .before .before .before .flags-for .ensures) (c .before .before .before .before .before .before .before .before .before .before .before .before .before .before .put-header .ensures) (c .before .before .before .before .before .before .before .before .before .before .put-payload .ensures) (c .before .before .before .before .before .before .put-body .ensures) (c .before .before .put-trailer .ensures)
+returns c = let a = c .before .before .before .before .before .before .before .before .before .before .before .before .before .before .before .before .before .before .before .before .before .before .args in done (record { direction = a .direction; ids = a .ids .now }) (sourceEdges (a .kind) (a .a .now) (a .b .now)) (a .plan) (c .before .before .before .before .before .before .before .before .before .before .before .before .before .before .before .before .before .before .before .before .before .before .pre .0) (c .before .before .before .before .before .before .before .before .before .before .before .before .before .before .before .before .before .before .before .before .before .before .pre .2) (a .out .now) (c .before .before .before .before .before .before .before .before .before .before .before .before .before .before .before .before .before .before .before .before .before .before .pre .3) _ (c .before .before .before .before .before .before .before .before .before .before .before .before .before .before .before .before .before .flags-for .ensures) _ (c .before .before .before .before .before .before .before .before .before .before .before .before .before .before .before .minor-for .ensures) (c .before .before .before .before .before .before .before .before .before .before .before .before .before .before .put-header .ensures) (c .before .before .before .before .before .before .before .before .before .before .put-payload .ensures) (c .before .before .before .before .before .before .put-body .ensures) (c .before .before .put-trailer .ensures)
 
 pub put-file-spec : {M : Type 1} → statement M
 put-file-spec =
     tie.close
     (tie.spec
     flags-for-requires
+    minor-for-requires
     put-header-requires
     put-payload-requires
     put-body-requires

@@ -21,9 +21,12 @@ returns-6 : tie.Need-returns-6
 returns-6 c = rw (c .if6 .taken)
 
 returns-7 : tie.Need-returns-7
-returns-7 c =
-    let k = c .before .before .before .before .before .before .args .k in
-    simp (ne-eqb k 1 (c .before .before .before .before .before .if1 .left), ne-eqb k 2 (c .before .before .before .before .if2 .left), ne-eqb k 3 (c .before .before .before .if3 .left), ne-eqb k 4 (c .before .before .if4 .left), ne-eqb k 5 (c .before .if5 .left), ne-eqb k 6 (c .if6 .left))
+returns-7 c = rw (c .if7 .taken)
+
+returns-8 : tie.Need-returns-8
+returns-8 c =
+    let k = c .before .before .before .before .before .before .before .args .k in
+    simp (ne-eqb k 1 (c .before .before .before .before .before .before .if1 .left), ne-eqb k 2 (c .before .before .before .before .before .if2 .left), ne-eqb k 3 (c .before .before .before .before .if3 .left), ne-eqb k 4 (c .before .before .before .if4 .left), ne-eqb k 5 (c .before .before .if5 .left), ne-eqb k 6 (c .before .if6 .left), ne-eqb k 512 (c .if7 .left))
 
 pub slot-spec : {M : Type 1} → statement M
-slot-spec = tie.close (tie.spec returns returns-2 returns-3 returns-4 returns-5 returns-6 returns-7)
+slot-spec = tie.close (tie.spec returns returns-2 returns-3 returns-4 returns-5 returns-6 returns-7 returns-8)
