@@ -340,7 +340,7 @@ fn headers_of_the_samples() {
     assert_eq!((changed.destination[0], changed.destination[15]), (0x33, 3));
 }
 
-/// The header of a written file is the heading of its batch, with minor version 0.
+/// The header of a written file is the heading of its batch, with the writer's minor version.
 #[test]
 fn the_header_of_a_written_file_is_the_batchs_heading() {
     for inverse in [false, true] {

@@ -29,11 +29,11 @@ use Rattle.lookup.specs.Lookup.{groupCheck, markAt}
 use Rattle.batch.specs.declared.Edge.{Edge}
 use Rattle.batch_groups.specs.Groups.{anyDead, Group, flat, IdFits, Run, Grouped}
 use Rattle.batch_groups.specs.Groups.Laws.{flat-append}
-use Rattle.write_image.specs.Image.{keysIn, isDense, groupBytes, bytesIn, anyDense, keyBytes, partnerBytes, startsFrom, offsetBytes, logBytes, octets, tombBytes, startBytes, bit}
+use Rattle.write_image.specs.Image.{keysIn, isDense, groupBytes, bytesIn, anyDense, keyBytes, partnerBytes, offsetsFrom, offsetBytes, logBytes, octets, tombBytes, startBytes, bit}
 use Rattle.write_image.specs.Image.Laws.{length-partners, run-partners, group-is, group-some, length-keysIn, numbers-at, start-is}
 use Rattle.full_check.specs.Full.{denseOf, groupIn, groupsFrom, degreesFrom, denseFrom, strayFrom}
 use Rattle.readout.specs.Edges.{edgeOf, edgesFrom, keyDegree, keyEdges, readFrom}
-use Rattle.demand2.specs.Rows.{ids-mid, partners-append, length-starts, starts-at, keys-append, marks-at, logs-at, length-logsIn, mark-at, bit-is, none-dead}
+use Rattle.demand2.specs.Rows.{ids-mid, partners-append, length-offsetsFrom, offsets-at, keys-append, marks-at, logs-at, length-logsIn, mark-at, bit-is, none-dead}
 
 -- ---- where groups lie
 
@@ -49,12 +49,12 @@ module _ (all : List Group) (w : ℕ) (small : length (partnerBytes (length all)
 
   pub offset-is : (gs hs : List Group) → all ≡ gs ++ hs → offsetAt offsets w (length gs) ≡ length (partnerBytes n gs)
   offset-is gs hs e =
-      let v : getD (startsFrom n 0 all) (length gs) 0 ≡ length (partnerBytes n gs) = ap (λ (t : List Group). getD (startsFrom n 0 t) (length gs) 0) e ∙ starts-at n 0 gs hs ∙ zero-add _ in
+      let v : getD (offsetsFrom n 0 all) (length gs) 0 ≡ length (partnerBytes n gs) = ap (λ (t : List Group). getD (offsetsFrom n 0 t) (length gs) 0) e ∙ offsets-at n 0 gs hs ∙ zero-add _ in
       let l : length (partnerBytes n all) ≡ length (partnerBytes n gs) + length (partnerBytes n hs) =
       ap (λ (t : List Group). length (partnerBytes n t)) e ∙ ap length (partners-append n gs hs) ∙ length-append (partnerBytes n gs) (partnerBytes n hs) in
       let m : length all ≡ length gs + length hs = ap length e ∙ length-append gs hs in
-      let c = length-starts n 0 all in
-      numbers-at w (startsFrom n 0 all) (length gs) (omega arith) (rw v (omega arith)) ∙ v
+      let c = length-offsetsFrom n 0 all in
+      numbers-at w (offsetsFrom n 0 all) (length gs) (omega arith) (rw v (omega arith)) ∙ v
 
   module _ (gs : List Group) (g : Group) (hs : List Group) (e : all ≡ gs ++ g ∷ hs) where
     abbrev bytes : List ℕ

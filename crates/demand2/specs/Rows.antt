@@ -21,7 +21,7 @@ use Rattle.group.specs.Group.{bytesOf}
 use Rattle.group.specs.Group.Laws.{length-bytesOf}
 use Rattle.batch.specs.declared.Edge.{Edge}
 use Rattle.batch_groups.specs.Groups.{anyDead, Group, IdFits}
-use Rattle.write_image.specs.Image.{keysIn, bytesIn, partnerBytes, startsFrom, widthOf, bit, octet, octets}
+use Rattle.write_image.specs.Image.{keysIn, bytesIn, partnerBytes, offsetsFrom, widthOf, bit, octet, octets}
 
 -- ---- ids
 
@@ -44,19 +44,19 @@ partners-append n [] hs = refl
 partners-append n (g ∷ gs) hs =
     ap (λ (t : List ℕ). bytesIn n g ++ t) (partners-append n gs hs) ∙ sym (append-assoc (bytesIn n g) (partnerBytes n gs) (partnerBytes n hs))
 
-pub length-starts : (n at : ℕ) (gs : List Group) → length (startsFrom n at gs) ≡ suc (length gs)
-unfolding startsFrom
-length-starts n at [] = refl
-length-starts n at (g ∷ gs) = ap suc (length-starts n (at + length (bytesIn n g)) gs)
+pub length-offsetsFrom : (n at : ℕ) (gs : List Group) → length (offsetsFrom n at gs) ≡ suc (length gs)
+unfolding offsetsFrom
+length-offsetsFrom n at [] = refl
+length-offsetsFrom n at (g ∷ gs) = ap suc (length-offsetsFrom n (at + length (bytesIn n g)) gs)
 
 -- the groups gs come first: then hs begin where they end
-pub starts-at : (n at : ℕ) (gs hs : List Group) → getD (startsFrom n at (gs ++ hs)) (length gs) 0 ≡ at + length (partnerBytes n gs)
-unfolding startsFrom partnerBytes
-starts-at n at [] [] = omega arith
-starts-at n at [] (h ∷ hs) = omega arith
-starts-at n at (g ∷ gs) hs =
+pub offsets-at : (n at : ℕ) (gs hs : List Group) → getD (offsetsFrom n at (gs ++ hs)) (length gs) 0 ≡ at + length (partnerBytes n gs)
+unfolding offsetsFrom partnerBytes
+offsets-at n at [] [] = omega arith
+offsets-at n at [] (h ∷ hs) = omega arith
+offsets-at n at (g ∷ gs) hs =
     let b : List ℕ = bytesIn n g in
-    starts-at n (at + length b) gs hs ∙ sym (ap (λ (t : ℕ). at + t) (length-append b (partnerBytes n gs)) ∙ sym (add-assoc at (length b) (length (partnerBytes n gs))))
+    offsets-at n (at + length b) gs hs ∙ sym (ap (λ (t : ℕ). at + t) (length-append b (partnerBytes n gs)) ∙ sym (add-assoc at (length b) (length (partnerBytes n gs))))
 
 pub width-fits : (size : ℕ) → size < 2 ^ 32 → size < 2 ^ (8 * widthOf size)
 unfolding widthOf

@@ -100,5 +100,7 @@ pub opens-indexed :
       bits = 24;
     }))
     × (strip laterIndexed ≡ indexedBy 1 [])
+    × (strip (indexedBy 0 []) ≡ indexedBy 1 [])
+    × (strip (indexedBy 1 []) ≡ indexedBy 1 [])
 unfolding leAt leBytes beAt idAt mul fold xorshift rotl swap rrmxmx secret of1to3 of4to8 of9to16 small pair mixStep inward of17to128 onward of129to240 lane accumulate stir scramble turn runOn startLanes twice merge finish large xxh3 rowAt rowsFrom endFrom rowsOf endOf has repeated sectionOf all kindsGood tableGood eachRow ranges sizesGood presenceGood countsGood bodyOf sizeCheck headCheck tailCheck sumCheck frameCheck recordFrom recordOf framedFrom framedOf knownOf keysFrom offsetGood risingFrom fenceGood fencesFrom fencesGood contentCheck fileCheck opening openOf headBytes payload entry entries bodyBytes trailer layOut sectionAt keptOf stripped strip shapeCheck endsCheck footerCheck rowsCheck
-opens-indexed = (refl, refl)
+opens-indexed = (refl, refl, refl, refl)

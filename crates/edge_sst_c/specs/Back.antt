@@ -241,6 +241,12 @@ fieldsOf c =
     ∷ c .deadstart ∷ c .deadlen ∷ c .marked ∷ c .keycount ∷ c .edgecount ∷ c .bits
     ∷ c .indexstart ∷ c .indexlen ∷ c .indexed ∷ []
 
+-- which number says what of a record
+pub fields-say : (o : Opened) (m x : ℕ) → fieldsOf (recordWith o m x)
+    ≡ 0 ∷ 0 ∷ 0 ∷ o .keys .start ∷ o .keys .len ∷ o .offsets .start ∷ o .offsets .len ∷ o .partners .start ∷ o .partners .len ∷ o .logs .start ∷ o .logs .len
+    ∷ o .dead .start ∷ o .dead .len ∷ m ∷ o .keycount ∷ o .edgecount ∷ o .bits ∷ o .starts .start ∷ o .starts .len ∷ x ∷ []
+fields-say o m x = refl
+
 -- a mark's number is above 0 exactly if the mark is set
 pub mark-back : (b : Bool) → ltb 0 (truth b) ≡ b
 mark-back true = refl

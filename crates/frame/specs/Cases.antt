@@ -243,14 +243,14 @@ in-order = (refl, refl, refl, refl, refl, refl, refl, refl, refl, refl, refl, re
 
 -- ---- rule 37: the start index of three keys and five edges, of no keys, and of a file
 
-abbrev words : List ℕ → List ℕ
+abbrev pub words : List ℕ → List ℕ
 words [] = []
 words (x ∷ xs) = leBytes 8 x ++ words xs
 
 abbrev starts37 : ℕ → ℕ → ℕ → ℕ → Check
 starts37 a b c d = startsCheck (words (a ∷ b ∷ c ∷ d ∷ [])) 3 5
 
-pub starts-told :
+pub starts-cases :
     (starts37 0 1 3 5 ≡ Check.Fine) × (starts37 0 1 2 5 ≡ Check.Fine) × (starts37 0 3 4 5 ≡ Check.Fine)
     -- the first is not 0
     × (starts37 1 2 3 5 ≡ Check.Bad (Refusal.Start 0)) × (starts37 (2 ^ 64 - 1) 1 3 5 ≡ Check.Bad (Refusal.Start 0)) × (starts37 0x0100 1 1 1 ≡ Check.Bad (Refusal.Start 0))
@@ -263,11 +263,11 @@ pub starts-told :
     -- "No keys: one entry, 0"
     × (startsCheck (words (0 ∷ [])) 0 0 ≡ Check.Fine) × (startsCheck (words (1 ∷ [])) 0 0 ≡ Check.Bad (Refusal.Start 0)) × (startsCheck (words (0 ∷ [])) 0 1 ≡ Check.Bad (Refusal.Start 0))
 unfolding leAt leBytes offsetGood risingFrom
-starts-told = (refl, refl, refl, refl, refl, refl, refl, refl, refl, refl, refl, refl, refl, refl, refl, refl, refl, refl, refl, refl)
+starts-cases = (refl, refl, refl, refl, refl, refl, refl, refl, refl, refl, refl, refl, refl, refl, refl, refl, refl, refl, refl, refl)
 
 -- the file of one edge with a start index of these bytes before its keys, and with fences of these bytes
-abbrev indexed : ℕ → List ℕ → List Section → List ℕ
-indexed minor bytes more =
+abbrev pub withStarts : ℕ → List ℕ → List Section → List ℕ
+withStarts minor bytes more =
     layOut (record {
       head = headBytes minor 0 ids;
       sections = rawSection kind.starts bytes
@@ -281,7 +281,7 @@ indexed minor bytes more =
     })
 
 pub starts-opened :
-    (openOf (indexed 0 (words (0 ∷ 1 ∷ [])) []) ≡ Opening.Good (record {
+    (openOf (withStarts 0 (words (0 ∷ 1 ∷ [])) []) ≡ Opening.Good (record {
       keys = record { start = 80; len = 16 };
       offsets = record { start = 96; len = 6 };
       partners = record { start = 102; len = 11 };
@@ -294,12 +294,27 @@ pub starts-opened :
       edgecount = 1;
       bits = 24;
     }))
-    × (fileCheck (indexed 200 (words (0 ∷ 1 ∷ [])) []) ≡ Check.Fine)
-    × (fileCheck (indexed 1 (words (1 ∷ 1 ∷ [])) []) ≡ Check.Bad (Refusal.Start 0))
-    × (fileCheck (indexed 1 (words (0 ∷ 2 ∷ [])) []) ≡ Check.Bad (Refusal.Start 1))
+    × (fileCheck (withStarts 200 (words (0 ∷ 1 ∷ [])) []) ≡ Check.Fine)
+    × (fileCheck (withStarts 1 (words (1 ∷ 1 ∷ [])) []) ≡ Check.Bad (Refusal.Start 0))
+    × (fileCheck (withStarts 1 (words (0 ∷ 2 ∷ [])) []) ≡ Check.Bad (Refusal.Start 1))
     -- a length that the counts do not give is 12; 15 comes before 37
-    × (fileCheck (indexed 1 (words (0 ∷ [])) []) ≡ Check.Bad Refusal.Counts)
-    × (fileCheck (indexed 1 (words (0 ∷ 1 ∷ []) ++ (0 ∷ [])) []) ≡ Check.Bad Refusal.Counts)
-    × (fileCheck (indexed 1 (words (0 ∷ 2 ∷ [])) (rawSection kind.fences [] ∷ [])) ≡ Check.Bad Refusal.Fences)
+    × (fileCheck (withStarts 1 (words (0 ∷ [])) []) ≡ Check.Bad Refusal.Counts)
+    × (fileCheck (withStarts 1 (words (0 ∷ 1 ∷ []) ++ (0 ∷ [])) []) ≡ Check.Bad Refusal.Counts)
+    × (fileCheck (withStarts 1 (words (0 ∷ 1 ∷ 1 ∷ [])) []) ≡ Check.Bad Refusal.Counts)
+    -- beside tombstones and fences, each with its own range
+    × (openOf (withStarts 1 (words (0 ∷ 1 ∷ [])) (rawSection kind.tombstones (0 ∷ []) ∷ rawSection kind.fences (1 ∷ 0 ∷ 0 ∷ 0 ∷ 1 ∷ 0 ∷ 0 ∷ 0 ∷ 0 ∷ 0 ∷ 0 ∷ 0 ∷ 0 ∷ 0 ∷ 0 ∷ 1 ∷ 0 ∷ 0 ∷ 0 ∷ 0 ∷ 0 ∷ 0 ∷ 0 ∷ 2 ∷ words (0 ∷ [])) ∷ [])) ≡ Opening.Good (record {
+      keys = record { start = 80; len = 16 };
+      offsets = record { start = 96; len = 6 };
+      partners = record { start = 102; len = 11 };
+      logs = record { start = 113; len = 8 };
+      marked = true;
+      dead = record { start = 121; len = 1 };
+      indexed = true;
+      starts = record { start = 64; len = 16 };
+      keycount = 1;
+      edgecount = 1;
+      bits = 24;
+    }))
+    × (fileCheck (withStarts 1 (words (0 ∷ 2 ∷ [])) (rawSection kind.fences [] ∷ [])) ≡ Check.Bad Refusal.Fences)
 unfolding leAt leBytes headBytes payload entry entries bodyBytes trailer layOut beAt idAt mul fold xorshift rotl swap rrmxmx secret of1to3 of4to8 of9to16 small pair mixStep inward of17to128 onward of129to240 lane accumulate stir scramble turn runOn startLanes twice merge finish large xxh3 rowAt rowsFrom endFrom rowsOf endOf has repeated sectionOf all kindsGood tableGood eachRow ranges sizesGood presenceGood countsGood bodyOf sizeCheck headCheck tailCheck sumCheck endsCheck rowsCheck footerCheck shapeCheck frameCheck recordFrom recordOf framedFrom framedOf knownOf keysFrom offsetGood risingFrom fenceGood fencesFrom fencesGood contentCheck fileCheck opening openOf
-starts-opened = (refl, refl, refl, refl, refl, refl, refl)
+starts-opened = (refl, refl, refl, refl, refl, refl, refl, refl, refl)

@@ -122,8 +122,8 @@ module _ (f : List ℕ) where
   inner = innerCheck (knownOf f (recordOf f)) (framedOf f .fenced) (bytesAt f (framedOf f .fences))
 
   -- 37
-  abbrev pub indexed : Check
-  indexed = indexedCheck (knownOf f (recordOf f))
+  abbrev pub startsRule : Check
+  startsRule = indexedCheck (knownOf f (recordOf f))
 
   unfoldable pub foot : Check
   foot = tailCheck (length f) f ⊳ sumCheck f ⊳ tableCheck (bodyOf f)
@@ -156,13 +156,13 @@ module _ (f : List ℕ) where
       (numbers-then remainingNumbers _ _ (numbers-refuse remainingNumbers Refusal.Counts (not (countsGood (flagsOf f) (framedOf f))) refl)
       (inner-numbers (knownOf f (recordOf f)) (framedOf f .fenced) (bytesAt f (framedOf f .fences)))))
 
-  pub indexed-numbers : Numbers (37 ∷ []) indexed
-  indexed-numbers =
+  pub starts-numbers : Numbers (37 ∷ []) startsRule
+  starts-numbers =
       let k : Known = knownOf f (recordOf f) in
       numbers-pick (37 ∷ []) (k .indexed) _ _ (rising-numbers (37 ∷ []) Refusal.Start (λ i. refl) (k .keycount + 1) (k .starts) kind.startSize (k .keycount) (k .edgecount) 0) (numbers-fine (37 ∷ []))
 
-  pub rest-numbers : Numbers restNumbers (remaining ⊳ indexed)
-  rest-numbers = numbers-then restNumbers _ _ (numbers-more remainingNumbers restNumbers refl remaining-numbers) (numbers-more (37 ∷ []) restNumbers refl indexed-numbers)
+  pub rest-numbers : Numbers restNumbers (remaining ⊳ startsRule)
+  rest-numbers = numbers-then restNumbers _ _ (numbers-more remainingNumbers restNumbers refl remaining-numbers) (numbers-more (37 ∷ []) restNumbers refl starts-numbers)
 
 -- parts of the order, one after the other
 flat : (a b c d e r x y z w v : Check) → ((a ⊳ ((b ⊳ c) ⊳ (d ⊳ (e ⊳ (r ⊳ (x ⊳ y)))))) ⊳ z) ⊳ (w ⊳ v) ≡ a ⊳ (b ⊳ ((c ⊳ (d ⊳ e)) ⊳ (r ⊳ ((x ⊳ (y ⊳ (z ⊳ w))) ⊳ v))))
@@ -177,20 +177,20 @@ flat Check.Fine Check.Fine Check.Fine Check.Fine Check.Fine Check.Fine Check.Fin
 flat Check.Fine Check.Fine Check.Fine Check.Fine Check.Fine Check.Fine Check.Fine Check.Fine z w v = sym (then-assoc z w v)
 
 module _ (f : List ℕ) where
-  pub chain : fileCheck f ≡ sizeCheck (length f) ⊳ headCheck f ⊳ foot f ⊳ reservedCheck (rows f) ⊳ remaining f ⊳ indexed f
+  pub chain : fileCheck f ≡ sizeCheck (length f) ⊳ headCheck f ⊳ foot f ⊳ reservedCheck (rows f) ⊳ remaining f ⊳ startsRule f
   unfolding fileCheck frameCheck shapeCheck endsCheck footerCheck rowsCheck foot remaining
   chain =
       ap (λ (c : Check). frameCheck (length f) f f ⊳ c) (inner-then (knownOf f (recordOf f)) (framedOf f .fenced) (bytesAt f (framedOf f .fences)))
       ∙ flat (sizeCheck (length f)) (headCheck f) (tailCheck (length f) f) (sumCheck f) (tableCheck (bodyOf f)) (reservedCheck (rows f)) (codecCheck (rows f))
-      (rangeCheck (length f - footLen f) (rows f)) (countsCheck (flagsOf f) (framedOf f)) (inner f) (indexed f)
+      (rangeCheck (length f - footLen f) (rows f)) (countsCheck (flagsOf f) (framedOf f)) (inner f) (startsRule f)
 
   -- all but 37
-  unfoldable pub unindexed : Check
-  unindexed = sizeCheck (length f) ⊳ headCheck f ⊳ foot f ⊳ reservedCheck (rows f) ⊳ remaining f
+  unfoldable pub otherRules : Check
+  otherRules = sizeCheck (length f) ⊳ headCheck f ⊳ foot f ⊳ reservedCheck (rows f) ⊳ remaining f
 
-  pub chain-indexed : fileCheck f ≡ unindexed ⊳ indexed f
-  unfolding unindexed
-  chain-indexed = chain ∙ regroup (sizeCheck (length f)) (headCheck f) (foot f) (reservedCheck (rows f)) (remaining f) (indexed f)
+  pub chain-starts : fileCheck f ≡ otherRules ⊳ startsRule f
+  unfolding otherRules
+  chain-starts = chain ∙ regroup (sizeCheck (length f)) (headCheck f) (foot f) (reservedCheck (rows f)) (remaining f) (startsRule f)
     where
       regroup : (a b c d e v : Check) → a ⊳ (b ⊳ (c ⊳ (d ⊳ (e ⊳ v)))) ≡ (a ⊳ (b ⊳ (c ⊳ (d ⊳ e)))) ⊳ v
       regroup (Check.Bad q) b c d e v = refl
@@ -199,9 +199,9 @@ module _ (f : List ℕ) where
       regroup Check.Fine Check.Fine Check.Fine (Check.Bad q) e v = refl
       regroup Check.Fine Check.Fine Check.Fine Check.Fine e v = refl
 
-  pub unindexed-numbers : Numbers (earlyNumbers ++ (36 ∷ remainingNumbers)) unindexed
-  unfolding unindexed
-  unindexed-numbers =
+  pub others-numbers : Numbers (earlyNumbers ++ (36 ∷ remainingNumbers)) otherRules
+  unfolding otherRules
+  others-numbers =
       let ns : List ℕ = earlyNumbers ++ (36 ∷ remainingNumbers) in
       numbers-then ns _ _ (numbers-more (1 ∷ []) ns refl (size-numbers (length f)))
       (numbers-then ns _ _ (numbers-more headNumbers ns refl (head-numbers f))
@@ -211,5 +211,5 @@ module _ (f : List ℕ) where
   -- opening gives no number but these
   pub opening-numbers : Numbers openingNumbers (fileCheck f)
   opening-numbers r e =
-      numbers-then openingNumbers _ _ (numbers-more (earlyNumbers ++ (36 ∷ remainingNumbers)) openingNumbers refl unindexed-numbers) (numbers-more (37 ∷ []) openingNumbers refl (indexed-numbers f))
-      r (sym chain-indexed ∙ e)
+      numbers-then openingNumbers _ _ (numbers-more (earlyNumbers ++ (36 ∷ remainingNumbers)) openingNumbers refl others-numbers) (numbers-more (37 ∷ []) openingNumbers refl (starts-numbers f))
+      r (sym chain-starts ∙ e)

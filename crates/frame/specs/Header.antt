@@ -21,13 +21,13 @@ use Rattle.frame.specs.Kind as kind
 use Rattle.frame.specs.Frame.{flag, flagsOf, sizeCheck, headCheck, reservedCheck}
 use Rattle.frame.specs.Open.{fileCheck}
 use Rattle.frame.specs.Open.Laws.{size-parts, size-made}
-use Rattle.frame.specs.Given.{otherMagic, otherMajor, otherSize, moreFlags, headNumbers, footNumbers, restNumbers, size-numbers, foot-numbers, reserved-numbers, rest-numbers, rows, foot, remaining, indexed, chain}
+use Rattle.frame.specs.Given.{otherMagic, otherMajor, otherSize, moreFlags, headNumbers, footNumbers, restNumbers, size-numbers, foot-numbers, reserved-numbers, rest-numbers, rows, foot, remaining, startsRule, chain}
 
 abbrev afterNumbers : List ℕ
 afterNumbers = footNumbers ++ (36 ∷ restNumbers)
 
 module _ (f : List ℕ) where
-  after-numbers : Numbers afterNumbers (foot f ⊳ reservedCheck (rows f) ⊳ remaining f ⊳ indexed f)
+  after-numbers : Numbers afterNumbers (foot f ⊳ reservedCheck (rows f) ⊳ remaining f ⊳ startsRule f)
   after-numbers =
       numbers-then afterNumbers _ _ (numbers-more footNumbers afterNumbers refl (foot-numbers f))
       (numbers-then afterNumbers _ _ (numbers-more (36 ∷ []) afterNumbers refl (reserved-numbers f)) (numbers-more restNumbers afterNumbers refl (rest-numbers f)))

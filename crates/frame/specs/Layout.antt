@@ -21,7 +21,7 @@ pub record Layout : Type 0 where
   pub edgecount : ℕ
   pub bits : ℕ
 
--- a section of kinds 1 to 6, with its checksum
+-- a section of a kind that is read, with its checksum
 abbrev pub rawSection : ℕ → List ℕ → Section
 rawSection k bytes = record { kind = k; codec = 0; sum = xxh3 bytes; name = []; bytes = bytes }
 

@@ -21,7 +21,7 @@ use Rattle.frame.specs.Kind as kind
 use Rattle.frame.specs.Frame.{rowAt, nextAt, rowsFrom, endFrom, entryCount, rowsOf, endOf, bodyOf, has, repeated, all, nameGood, eachRow, kindGood, reservedCheck, sizeCheck, headCheck, tailCheck, sumCheck}
 use Rattle.frame.specs.Frame.Laws.{kinds-alike, Table, table-parts, table-made, ReservedKind, reserved-kinds, each-good, each-bad}
 use Rattle.frame.specs.Open.{fileCheck}
-use Rattle.frame.specs.Given.{headNumbers, footNumbers, restNumbers, earlyNumbers, size-numbers, head-numbers, foot-numbers, rest-numbers, rows, foot, remaining, indexed, chain}
+use Rattle.frame.specs.Given.{headNumbers, footNumbers, restNumbers, earlyNumbers, size-numbers, head-numbers, foot-numbers, rest-numbers, rows, foot, remaining, startsRule, chain}
 
 -- the kind of entry j; 0 where there is none
 unfoldable pub kindAt : List Row → ℕ → ℕ
@@ -192,16 +192,16 @@ module _ (f : List ℕ) where
       numbers-then earlyNumbers _ _ (numbers-more (1 ∷ []) earlyNumbers refl (size-numbers (length f)))
       (numbers-then earlyNumbers _ _ (numbers-more headNumbers earlyNumbers refl (head-numbers f)) (numbers-more footNumbers earlyNumbers refl (foot-numbers f)))
 
-  parts-order : fileCheck f ≡ early ⊳ reservedCheck (rows f) ⊳ remaining f ⊳ indexed f
+  parts-order : fileCheck f ≡ early ⊳ reservedCheck (rows f) ⊳ remaining f ⊳ startsRule f
   unfolding early
   parts-order =
-      chain f ∙ sym (then-assoc (sizeCheck (length f)) (headCheck f ⊳ foot f) _ ∙ ap (λ (c : Check). sizeCheck (length f) ⊳ c) (then-assoc (headCheck f) (foot f) (reservedCheck (rows f) ⊳ remaining f ⊳ indexed f)))
+      chain f ∙ sym (then-assoc (sizeCheck (length f)) (headCheck f ⊳ foot f) _ ∙ ap (λ (c : Check). sizeCheck (length f) ⊳ c) (then-assoc (headCheck f) (foot f) (reservedCheck (rows f) ⊳ remaining f ⊳ startsRule f)))
 
   -- 36 at j, exactly
   pub reserved-exactly : (j : ℕ) → (fileCheck f ≡ Check.Bad (Refusal.Reserved j)) ↔ ReservedAt f j
   reserved-exactly j =
       let a = by-second early _ (Refusal.Reserved j) (not-given earlyNumbers early-numbers (Refusal.Reserved j) refl) in
-      let b = by-first (reservedCheck (rows f)) (remaining f ⊳ indexed f) (Refusal.Reserved j) (not-given restNumbers (rest-numbers f) (Refusal.Reserved j) refl) in (
+      let b = by-first (reservedCheck (rows f)) (remaining f ⊳ startsRule f) (Refusal.Reserved j) (not-given restNumbers (rest-numbers f) (Refusal.Reserved j) refl) in (
         λ e. let x = a .0 (sym parts-order ∙ e) in record { tabled = tabled-parts (x .0); first = rule-told (rows f) j .0 (b .0 (x .1)) },
         λ t. parts-order ∙ a .1 (tabled-made (t .tabled), b .1 (rule-told (rows f) j .1 (t .first))),
       )

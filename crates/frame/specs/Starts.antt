@@ -1,7 +1,7 @@
 -- The start index: when opening gives 37, exactly.
 use mathlib.Core.Path.{_≡_, refl, sym, ap, _∙_}
 use mathlib.Core.Logic.{_↔_, _⊎_, inl, inr, ⊎-elim}
-use Prim.Native.Nat.{ℕ, zero, suc, _+_, _-_, _≤_, _<_}
+use Prim.Native.Nat.{ℕ, zero, suc, _+_, _-_, _*_, _≤_, _<_}
 use native.Mathlib.Decide.{ℕ-discrete, decLt}
 use native.Mathlib.Omega.{arith}
 use mathlib.Core.List.{List, [], _∷_, _++_}
@@ -9,6 +9,7 @@ use mathlib.Core.Bool.{Bool, true, false, not, _&&_, _||_}
 use lib.Dec.{eqb, ltb}
 use borrow.Author.Tests.{eqb-true, eqb-false, ltb-true, eq-eqb, ne-eqb, lt-ltb}
 use Rattle.base.specs.Pick.{pick}
+use Rattle.codes.specs.Little.{leAt}
 use Rattle.refusal.specs.declared.Refusal.{Refusal}
 use Rattle.refusal.specs.declared.Check.{Check}
 use Rattle.refusal.specs.Check.{_⊳_}
@@ -16,7 +17,14 @@ use Rattle.refusal.specs.Check.Laws.{by-second, and-parts, not-given}
 use Rattle.frame.specs.Kind as kind
 use Rattle.frame.specs.Frame.{recordOf}
 use Rattle.frame.specs.Open.{knownOf, bytesAt, startAt, offsetGood, risingFrom, startsCheck, fileCheck}
-use Rattle.frame.specs.Given.{earlyNumbers, remainingNumbers, indexed, unindexed, unindexed-numbers, chain-indexed}
+use Rattle.frame.specs.Given.{earlyNumbers, remainingNumbers, startsRule, otherRules, others-numbers, chain-starts}
+
+-- "key count plus one u64": where entry i stands, and how many bytes there are, for every count
+pub entry-bytes : (s : List ℕ) (i : ℕ) → startAt s i ≡ leAt s (i * 8) 8
+entry-bytes s i = refl
+
+pub starts-bytes : (n : ℕ) → kind.startsLen n ≡ (n + 1) * 8
+starts-bytes n = refl
 
 -- s holds the start index of n keys and e edges
 module _ (s : List ℕ) (n e : ℕ) where
@@ -150,16 +158,16 @@ module _ (s : List ℕ) (n e : ℕ) where
 
 -- "37, place the first bad entry, after 15": every other rule passes, there is a start index, and entry i is its first bad one
 pub record StartAt (f : List ℕ) (i : ℕ) : Type 0 where
-  pub others : unindexed f ≡ Check.Fine
+  pub others : otherRules f ≡ Check.Fine
   pub there : recordOf f .indexed ≡ true
   pub first : FirstEntry (bytesAt f (recordOf f .starts)) (recordOf f .keycount) (recordOf f .edgecount) i
 
 module _ (f : List ℕ) where
-  rule-there : recordOf f .indexed ≡ true → indexed f ≡ startsCheck (bytesAt f (recordOf f .starts)) (recordOf f .keycount) (recordOf f .edgecount)
+  rule-there : recordOf f .indexed ≡ true → startsRule f ≡ startsCheck (bytesAt f (recordOf f .starts)) (recordOf f .keycount) (recordOf f .edgecount)
   unfolding knownOf
   rule-there m = rw m
 
-  rule-needs : (i : ℕ) → indexed f ≡ Check.Bad (Refusal.Start i) → recordOf f .indexed ≡ true
+  rule-needs : (i : ℕ) → startsRule f ≡ Check.Bad (Refusal.Start i) → recordOf f .indexed ≡ true
   unfolding knownOf
   rule-needs i = go (recordOf f .indexed)
     where
@@ -171,11 +179,11 @@ module _ (f : List ℕ) where
   pub starts-exactly : (i : ℕ) → (fileCheck f ≡ Check.Bad (Refusal.Start i)) ↔ StartAt f i
   starts-exactly i =
       let r : Refusal = Refusal.Start i in
-      let a = by-second (unindexed f) (indexed f) r (not-given (earlyNumbers ++ (36 ∷ remainingNumbers)) (unindexed-numbers f) r refl) in
+      let a = by-second (otherRules f) (startsRule f) r (not-given (earlyNumbers ++ (36 ∷ remainingNumbers)) (others-numbers f) r refl) in
       let t = starts-told (bytesAt f (recordOf f .starts)) (recordOf f .keycount) (recordOf f .edgecount) i in (
         λ q.
-            let x = a .0 (sym (chain-indexed f) ∙ q) in
+            let x = a .0 (sym (chain-starts f) ∙ q) in
             let m = rule-needs i (x .1) in
             record { others = x .0; there = m; first = t .0 (sym (rule-there m) ∙ x .1) },
-        λ x. chain-indexed f ∙ a .1 (x .others, rule-there (x .there) ∙ t .1 (x .first)),
+        λ x. chain-starts f ∙ a .1 (x .others, rule-there (x .there) ∙ t .1 (x .first)),
       )

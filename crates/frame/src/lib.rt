@@ -62,20 +62,21 @@ impl Row {
     }
 }
 
-// What a lookup reads of a file: where the sections lie, the counts, the offset bits. Anyone may fill one.
+// What a lookup reads of a file: where the sections lie, the counts, the offset bits. Anyone may fill one. The small fields stand
+// together: of more than 128 bytes the compiler makes a call of each copy.
 // A section that is not there is an empty range; `marked` says whether there are tombstones, `indexed` whether there is a start index.
 pub struct Opened {
     pub keys: Range,
     pub offsets: Range,
     pub partners: Range,
     pub logs: Range,
-    pub marked: bool,
     pub dead: Range,
-    pub indexed: bool,
     pub starts: Range,
     pub keycount: u64,
     pub edgecount: u64,
     pub bits: u8,
+    pub marked: bool,
+    pub indexed: bool,
 }
 
 // What the frame alone gives: the record, the fences and whether there are property streams, which only opening looks at.

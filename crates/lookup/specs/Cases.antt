@@ -1,4 +1,5 @@
--- Lookups by a start index, by computing: two keys, of one edge and of two, where five log numbers are known.
+-- Lookups by a start index, by computing: two keys, of one edge and of two, where five log numbers are known. Of what is known, and by
+-- a record.
 use mathlib.Core.Path.{_≡_, refl}
 use Prim.Native.Nat.{ℕ, _+_, _-_, _^_}
 use mathlib.Core.List.{List, [], _∷_, _++_}
@@ -8,11 +9,13 @@ use Rattle.codes.specs.Little.{leAt, leBytes}
 use Rattle.codes.specs.Ids.{beAt, idAt, halvesAt, order}
 use Rattle.codes.specs.Varint.{lastByte, varFrom, varintAt}
 use Rattle.refusal.specs.declared.Refusal.{Refusal}
-use Rattle.frame.specs.Open.{Known}
+use Rattle.frame.specs.declared.Opened.{Opened}
+use Rattle.frame.specs.Frame.{sizesGood}
+use Rattle.frame.specs.Open.{Known, knownOf, recordWithin}
 use Rattle.index.specs.Find.{narrowed, findFrom, findIn}
 use Rattle.degrees.specs.Degrees.{positive, degreeIn, degreeAt, plus, edgesBefore, startOf}
 use Rattle.group.specs.Group.{onVarint, splitStep, denseStep, stepAt, onStep, cons, walkFrom, degreeOf, headOf, onHead, groupOf, partnersOf}
-use Rattle.lookup.specs.Lookup.{Outcome, found, refused, outcome, Rooms, groupCheck, groupFault, before, within, firstOf, logsFrom, marksFrom, short, lookCheck, lookGroup, onFound, lookIn}
+use Rattle.lookup.specs.Lookup.{Outcome, found, refused, outcome, Rooms, groupCheck, groupFault, before, within, firstOf, logsFrom, marksFrom, short, lookCheck, lookGroup, onFound, lookIn, lookWith}
 
 abbrev words : List ℕ → List ℕ
 words [] = []
@@ -69,3 +72,50 @@ pub by-starts :
     × (look true 2 (knownBy 0 5 true (0 ∷ 1 ∷ 3 ∷ [])) ≡ refused (Refusal.DegreeZero 0 0))
 unfolding knownBy leAt leBytes beAt idAt halvesAt order lastByte varFrom varintAt narrowed findFrom findIn positive degreeIn degreeAt plus edgesBefore startOf onVarint splitStep denseStep stepAt onStep cons walkFrom degreeOf headOf onHead groupOf partnersOf outcome groupCheck groupFault before within firstOf logsFrom marksFrom short lookCheck lookGroup onFound lookIn
 by-starts = (refl, refl, refl, refl, refl, refl, refl, refl, refl, refl, refl, refl, refl, refl, refl, refl, refl, refl)
+
+-- ---- by a record: the same sections one after the other in a file of 131 bytes, with the entries last
+
+unfoldable pub fileWith : List ℕ → List ℕ
+fileWith entries =
+    let k : Known = knownBy 1 5 true entries in
+    k .keys ++ (k .offsets ++ (k .partners ++ (k .logs ++ (4 ∷ words entries))))
+
+-- its record, with the start index as it is told
+abbrev recordWith : Bool → ℕ → ℕ → Opened
+recordWith there start len = record {
+  keys = record { start = 0; len = 32 };
+  offsets = record { start = 32; len = 9 };
+  partners = record { start = 41; len = 31 };
+  logs = record { start = 72; len = 40 };
+  marked = true;
+  dead = record { start = 112; len = 1 };
+  indexed = there;
+  starts = record { start = start; len = len };
+  keycount = 2;
+  edgecount = 5;
+  bits = 24;
+}
+
+abbrev by : Bool → List ℕ → Opened → Outcome
+by full entries o = lookWith full (record { bytes = 32; logs = 2; marks = 2 }) (2 ^ 64 + 3) (fileWith entries) o
+
+abbrev shifted : List ℕ
+shifted = 2 ∷ 3 ∷ 5 ∷ []
+
+pub by-record :
+    -- the record's own start index, or none where it says so
+    (by true shifted (recordWith true 113 24) ≡ found 1 1 two (40 ∷ 50 ∷ []) (0 ∷ 0 ∷ []))
+    × (by true shifted (recordWith false 113 24) ≡ found 1 1 two (20 ∷ 30 ∷ []) (0 ∷ 1 ∷ []))
+    × (by true (0 ∷ 2 ∷ 3 ∷ []) (recordWith true 113 24) ≡ refused (Refusal.Degrees 1))
+    × (by false (0 ∷ 2 ∷ 3 ∷ []) (recordWith true 113 24) ≡ found 1 1 two [] [])
+    -- 21, of partners alone too: a length that is not that of two keys; an end past the file; a start past it
+    × (by true shifted (recordWith true 113 16) ≡ refused Refusal.Record) × (by false shifted (recordWith true 113 16) ≡ refused Refusal.Record)
+    × (by true shifted (recordWith true 105 32) ≡ refused Refusal.Record) × (by false shifted (recordWith true 105 32) ≡ refused Refusal.Record)
+    × (by true shifted (recordWith true 114 24) ≡ refused Refusal.Record) × (by false shifted (recordWith true 114 24) ≡ refused Refusal.Record)
+    × (by true shifted (recordWith true (2 ^ 64 - 1) 24) ≡ refused Refusal.Record) × (by false shifted (recordWith true (2 ^ 64 - 1) 24) ≡ refused Refusal.Record)
+    × (by true shifted (recordWith true 113 (2 ^ 64 - 1)) ≡ refused Refusal.Record) × (by false shifted (recordWith true 113 (2 ^ 64 - 1)) ≡ refused Refusal.Record)
+    -- any numbers, where the record says that there is none
+    × (by true shifted (recordWith false (2 ^ 64 - 1) (2 ^ 64 - 1)) ≡ found 1 1 two (20 ∷ 30 ∷ []) (0 ∷ 1 ∷ []))
+    × (by false shifted (recordWith false (2 ^ 64 - 1) (2 ^ 64 - 1)) ≡ found 1 1 two [] [])
+unfolding fileWith knownBy sizesGood recordWithin knownOf leAt leBytes beAt idAt halvesAt order lastByte varFrom varintAt narrowed findFrom findIn positive degreeIn degreeAt plus edgesBefore startOf onVarint splitStep denseStep stepAt onStep cons walkFrom degreeOf headOf onHead groupOf partnersOf outcome groupCheck groupFault before within firstOf logsFrom marksFrom short lookCheck lookGroup onFound lookIn lookWith
+by-record = (refl, refl, refl, refl, refl, refl, refl, refl, refl, refl, refl, refl, refl, refl, refl, refl)

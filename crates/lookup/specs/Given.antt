@@ -72,8 +72,8 @@ abbrev pub FaultIn : Known → ℕ → ℕ → Fault → Type 0
 FaultIn k key i f = GroupIn k key i (λ g. groupOf g ≡ bad f)
 
 -- it has none, and where its edges begin cannot be told, or they pass the edge count
-abbrev pub UnsummedIn : Known → ℕ → ℕ → Type 0
-UnsummedIn k key i =
+abbrev pub UnplacedIn : Known → ℕ → ℕ → Type 0
+UnplacedIn k key i =
     GroupIn k key i
     (λ g. (isGood (groupOf g) ≡ true) × (within (k .edgecount) (length (partnersOf (groupOf g))) (before k i (length (partnersOf (groupOf g)))) ≡ false))
 
@@ -93,13 +93,13 @@ module _ (full : Bool) (rooms : Rooms) (k : Known) where
   abbrev misses : ℕ → Bool
   misses i = misplaced (k .partners) (begins i) (begins (i + 1))
 
-  abbrev unsummed : ℕ → ℕ → Bool
-  unsummed i d = full && not (within (k .edgecount) d (before k i d))
+  abbrev unplaced : ℕ → ℕ → Bool
+  unplaced i d = full && not (within (k .edgecount) d (before k i d))
 
-  late-numbers : (i d : ℕ) → Numbers (19 ∷ 20 ∷ []) (refuse (Refusal.Degrees i) (unsummed i d) ⊳ refuse (Refusal.Room d) (short full rooms d))
+  late-numbers : (i d : ℕ) → Numbers (19 ∷ 20 ∷ []) (refuse (Refusal.Degrees i) (unplaced i d) ⊳ refuse (Refusal.Room d) (short full rooms d))
   late-numbers i d =
       let late : List ℕ = 19 ∷ 20 ∷ [] in
-      numbers-then late _ _ (numbers-refuse late (Refusal.Degrees i) (unsummed i d) refl) (numbers-refuse late (Refusal.Room d) (short full rooms d) refl)
+      numbers-then late _ _ (numbers-refuse late (Refusal.Degrees i) (unplaced i d) refl) (numbers-refuse late (Refusal.Room d) (short full rooms d) refl)
 
   check-numbers : (i d : ℕ) → Numbers lookNumbers (lookCheck full rooms k i d)
   unfolding lookCheck groupFault
@@ -172,7 +172,7 @@ module _ (full : Bool) (rooms : Rooms) (k : Known) where
       misplaced-not : (j : ℕ) → refuse (Refusal.Offset j) (misses j) ≡ Check.Bad told-by → ⊥
       misplaced-not j = fault-apart i f (14 ∷ []) (numbers-refuse (14 ∷ []) (Refusal.Offset j) (misses j) refl) refl
 
-      late-not : (j d : ℕ) → refuse (Refusal.Degrees j) (unsummed j d) ⊳ refuse (Refusal.Room d) (short full rooms d) ≡ Check.Bad told-by → ⊥
+      late-not : (j d : ℕ) → refuse (Refusal.Degrees j) (unplaced j d) ⊳ refuse (Refusal.Room d) (short full rooms d) ≡ Check.Bad told-by → ⊥
       late-not j d = fault-apart i f (19 ∷ 20 ∷ []) (late-numbers j d) refl
 
       -- a fault of group i, exactly
@@ -223,12 +223,12 @@ module _ (full : Bool) (rooms : Rooms) (k : Known) where
         back t = look-back (Refusal.Offset i) i (t .compared) (t .found) (bad-then _ (bad-then _ (refuse-bad (Refusal.Offset i) (misses i) .1 (missed i (t .misplaced)))))
 
     -- 19 at i, exactly; partners alone never give it
-    pub look-unsummed : (i : ℕ) → (lookIn full rooms k key ≡ refused (Refusal.Degrees i)) ↔ ((full ≡ true) × UnsummedIn k key i)
+    pub look-unplaced : (i : ℕ) → (lookIn full rooms k key ≡ refused (Refusal.Degrees i)) ↔ ((full ≡ true) × UnplacedIn k key i)
     unfolding lookCheck groupFault
-    look-unsummed i = (λ e. found (look-by (Refusal.Degrees i) Here told e), back)
+    look-unplaced i = (λ e. found (look-by (Refusal.Degrees i) Here told e), back)
       where
         Here : ℕ → Type 0
-        Here j = (misses j ≡ false) × (isGood (groupOf (group j)) ≡ true) × (unsummed j (length (partnersAt full rooms k j)) ≡ true) × (j ≡ i)
+        Here j = (misses j ≡ false) × (isGood (groupOf (group j)) ≡ true) × (unplaced j (length (partnersAt full rooms k j)) ≡ true) × (j ≡ i)
 
         of-rule : (j : ℕ) (t : Bool) → refuse (Refusal.Degrees j) t ≡ Check.Bad (Refusal.Degrees i) → (t ≡ true) × (j ≡ i)
         of-rule j true e = (refl, cc)
@@ -245,22 +245,22 @@ module _ (full : Bool) (rooms : Rooms) (k : Known) where
             let faults : Check = groupCheck j (groupOf (group j)) in
             let a = by-second (rule ⊳ faults) _ r (λ q. not-group j (groupOf (group j)) (by-second rule faults r (refuse-own (Refusal.Offset j) r (misses j) (λ z. omega arith)) .0 q .1)) .0 e in
             let fine = fine-parts rule faults (a .0) in
-            let b = by-first (refuse (Refusal.Degrees j) (unsummed j d)) _ r (refuse-own (Refusal.Room d) r (short full rooms d) (λ z. omega arith)) .0 (a .1) in
-            let t = of-rule j (unsummed j d) b in
+            let b = by-first (refuse (Refusal.Degrees j) (unplaced j d)) _ r (refuse-own (Refusal.Room d) r (short full rooms d) (λ z. omega arith)) .0 (a .1) in
+            let t = of-rule j (unplaced j d) b in
             (refuse-fine (Refusal.Offset j) (misses j) .0 (fine .0), group-fine j (groupOf (group j)) .0 (fine .1), t .0, t .1)
 
-        found : ((j : ℕ) × (c : ℕ) × (findIn (k .keys) (k .keycount) key ≡ Found.At j c) × Here j) → (full ≡ true) × UnsummedIn k key i
+        found : ((j : ℕ) × (c : ℕ) × (findIn (k .keys) (k .keycount) key ≡ Found.At j c) × Here j) → (full ≡ true) × UnplacedIn k key i
         found (j, c, q, t) =
             let o = placed j (t .0) in
             let u = and-parts full (not (within (k .edgecount) (length (partnersAt full rooms k j)) (before k j (length (partnersAt full rooms k j))))) (t .2) in
-            let here : UnsummedIn k key j = record { compared = c; found = q; rises = o .0; inside = o .1; group = (t .1, not-true _ (u .1)) } in
+            let here : UnplacedIn k key j = record { compared = c; found = q; rises = o .0; inside = o .1; group = (t .1, not-true _ (u .1)) } in
             (u .0, rw (t .3) at here)
 
-        back : (full ≡ true) × UnsummedIn k key i → lookIn full rooms k key ≡ refused (Refusal.Degrees i)
+        back : (full ≡ true) × UnplacedIn k key i → lookIn full rooms k key ≡ refused (Refusal.Degrees i)
         back (all, t) =
             let d : ℕ = length (partnersAt full rooms k i) in
             let rule = refuse-fine (Refusal.Offset i) (misses i) .1 (not-missed i (t .rises) (t .inside)) in
             let faults = group-fine i (groupOf (group i)) .1 (t .group .0) in
-            let test : unsummed i d ≡ true = rw (all, t .group .1) in
+            let test : unplaced i d ≡ true = rw (all, t .group .1) in
             look-back (Refusal.Degrees i) i (t .compared) (t .found)
-            (fine-then _ (fine-both rule faults) ∙ bad-then _ (refuse-bad (Refusal.Degrees i) (unsummed i d) .1 test))
+            (fine-then _ (fine-both rule faults) ∙ bad-then _ (refuse-bad (Refusal.Degrees i) (unplaced i d) .1 test))

@@ -15,13 +15,15 @@ use Rattle.codes.specs.declared.ids.Id.{Id}
 use Rattle.refusal.specs.declared.Refusal.{Refusal}
 use Rattle.refusal.specs.declared.Check.{Check}
 use Rattle.refusal.specs.Check.{_⊳_, refuse}
-use Rattle.frame.specs.Open.{Known, offsetAt, startAt}
+use Rattle.refusal.specs.Check.Laws.{fine-parts, good-parts}
+use Rattle.frame.specs.declared.Opened.{Opened}
+use Rattle.frame.specs.Open.{Known, knownOf, bytesAt, offsetAt, startAt}
 use Rattle.index.specs.declared.keys.Found.{Found}
 use Rattle.index.specs.Find.{findIn}
 use Rattle.degrees.specs.declared.Sum.{Sum}
 use Rattle.degrees.specs.Degrees.{misplaced, edgesBefore, startOf}
 use Rattle.group.specs.Group.{groupOf, partnersOf}
-use Rattle.lookup.specs.Lookup.{Outcome, found, outcome, Rooms, groupCheck, groupFault, before, within, firstOf, logsFrom, marksFrom, short, lookCheck, lookGroup, onFound, lookIn}
+use Rattle.lookup.specs.Lookup.{Outcome, found, outcome, Rooms, groupCheck, groupFault, before, within, firstOf, logsFrom, marksFrom, short, offset, partnersAt, lookCheck, lookGroup, onFound, lookIn}
 
 clash : {t : Bool} → t ≡ true → t ≡ false → ⊥
 clash a b = let q : _≡_ {A = ℕ} 0 1 = cc in omega arith
@@ -80,6 +82,16 @@ module _ (k : Known) (there : k .indexed ≡ true) (i d : ℕ) where
         | no h ↦ absurd (clash e (unlike-bad h))
       ]
 
+-- what is known of the start index is the record's own
+pub known-starts : (f : List ℕ) (o : Opened) → (knownOf f o .indexed ≡ o .indexed) × (o .indexed ≡ true → knownOf f o .starts ≡ bytesAt f (o .starts))
+unfolding knownOf
+known-starts f o = (refl, λ m. rw m)
+
+-- "A record without the index sums degrees as before, also where the file has the section"
+pub summed-there : (k : Known) → k .indexed ≡ false → (i d : ℕ) → before k i d ≡ edgesBefore (k .partners) (k .offsets) (k .bits / 8) i
+unfolding before
+summed-there k m i d = rw m
+
 -- ---- no other group is read: two files that know the same but for the partners and the offsets of other groups
 
 -- group i is the same in both
@@ -134,3 +146,38 @@ module _ (full : Bool) (rooms : Rooms) where
           (startOf (s .starts t) i (length (partnersOf (groupOf (g .bytes t))))) (s .edgecount t) (s .logs t) (s .dead t))
           ∙ sym (is-seen j b i c)
       go (Found.Absent c) e = refl
+
+-- ---- what is found begins where the start index says
+
+-- an outcome that is found is the one that was meant, and nothing was refused
+found-is : (c : Check) (x : Outcome) {i n : ℕ} {ps : List Id} {ls ms : List ℕ} → outcome c x ≡ found i n ps ls ms → (c ≡ Check.Fine) × (x ≡ found i n ps ls ms)
+unfolding outcome
+found-is Check.Fine x e = (refl, e)
+found-is (Check.Bad r) x e = let z : _≡_ {A = ℕ} 0 1 = cc in absurd (omega arith)
+
+module _ (rooms : Rooms) (k : Known) (there : k .indexed ≡ true) where
+  group-taken : (i c : ℕ) {j n : ℕ} {ps : List Id} {ls ms : List ℕ} → lookGroup true rooms k i c ≡ found j n ps ls ms
+      → (ls ≡ logsFrom (length ps) (k .logs) (startAt (k .starts) j)) × (ms ≡ marksFrom (length ps) (k .dead) (startAt (k .starts) j))
+  unfolding lookGroup lookCheck
+  group-taken i c {j = j} {ps = ps} {ls = ls} {ms = ms} e =
+      let qs : List Id = partnersAt true rooms k i in
+      let d : ℕ = length qs in
+      let x = found-is (lookCheck true rooms k i d) _ e in
+      let late = fine-parts (groupFault (k .partners) (offset true rooms k i) (offset true rooms k (i + 1)) i) _ (x .0) .1 in
+      let good : within (k .edgecount) d (before k i d) ≡ true = good-parts (Refusal.Degrees i) (within (k .edgecount) d (before k i d)) (fine-parts (refuse (Refusal.Degrees i) (not (within (k .edgecount) d (before k i d)))) _ late .0) in
+      let at = starts-there k there i d good in
+      let same : i ≡ j = cc (x .1) in
+      let list : qs ≡ ps = cc (x .1) in
+      let logs : logsFrom d (k .logs) (firstOf (before k i d)) ≡ ls = cc (x .1) in
+      let marks : marksFrom d (k .dead) (firstOf (before k i d)) ≡ ms = cc (x .1) in
+      (sym logs ∙ (λ t. logsFrom (length (list t)) (k .logs) ((at ∙ ap (startAt (k .starts)) same) t)), sym marks ∙ (λ t. marksFrom (length (list t)) (k .dead) ((at ∙ ap (startAt (k .starts)) same) t)))
+
+  -- "A lookup takes its start there": the log numbers and marks of an answer are those from the group's own entry on
+  pub taken : (key : ℕ) {i c : ℕ} {ps : List Id} {ls ms : List ℕ} → lookIn true rooms k key ≡ found i c ps ls ms
+      → (ls ≡ logsFrom (length ps) (k .logs) (startAt (k .starts) i)) × (ms ≡ marksFrom (length ps) (k .dead) (startAt (k .starts) i))
+  unfolding lookIn onFound
+  taken key {i = i} {c = n} {ps = ps} {ls = ls} {ms = ms} = go (findIn (k .keys) (k .keycount) key)
+    where
+      go : (x : Found) → onFound true rooms k x ≡ found i n ps ls ms → (ls ≡ logsFrom (length ps) (k .logs) (startAt (k .starts) i)) × (ms ≡ marksFrom (length ps) (k .dead) (startAt (k .starts) i))
+      go (Found.At j c) e = group-taken j c e
+      go (Found.Absent c) e = let z : _≡_ {A = ℕ} 0 1 = cc in absurd (omega arith)

@@ -27,11 +27,11 @@ use Rattle.group.specs.Fault.Laws.{fault-number, fault-place, fault-beside, fau
 use Rattle.group.specs.Group.{isGood, groupOf}
 use Rattle.group.specs.Wrong.{Wrong, wrong-exactly}
 use Rattle.lookup.specs.Lookup.{Rooms, refused, lookOf, lookWith}
-use Rattle.lookup.specs.Given.{GroupIn, FaultIn, UnsummedIn, MisplacedIn}
+use Rattle.lookup.specs.Given.{GroupIn, FaultIn, UnplacedIn, MisplacedIn}
 use Rattle.reader.specs.declared.header.HeaderRead.{HeaderRead}
 use Rattle.reader.specs.Header.{headerOf, header-opening}
 use Rattle.reader.specs.Opened.{opened-keys, opened-offsets}
-use Rattle.reader.specs.Given.{look-of-fault, look-with-fault, look-of-unsummed, look-with-unsummed, look-with-misplaced}
+use Rattle.reader.specs.Given.{look-of-fault, look-with-fault, look-of-unplaced, look-with-unplaced, look-with-misplaced}
 use Rattle.full_check.specs.Full.{sumsFrom, fullCheck, checkedOf}
 use Rattle.full_check.specs.Given.{FaultFirst, full-fault}
 use Rattle.readout.specs.declared.ReadOut.{ReadOut}
@@ -174,20 +174,20 @@ same-fault f i w b g full rooms =
     let (c, at) = find-complete keys n (opened-keys f (recordOf f) (t .opens)) (keyAt keys i) i (t .within) refl in
     faulty f i w b .lookup full rooms (keyAt keys i) .1 (record { opens = t .opens; compared = c; found = at; wrong = t .wrong })
 
--- "14 and 19 keep the group alone", beside it 0: of a lookup by a record, whoever filled it, 14 exactly if the group's offsets fall or pass the
--- partner range; 19 exactly if log numbers are asked, the group has no fault, and the edges before it cannot be summed or pass the edge
--- count with its own
+-- "14 and 19 keep the group as their one place", beside it 0: of a lookup by a record, whoever filled it, 14 exactly if the group's offsets fall or
+-- pass the partner range; 19 exactly if log numbers are asked, the group has no fault, and where its edges begin cannot be told (by the
+-- sum of the earlier degrees, or by the start index) or they pass the edge count
 pub record Kept (f : List ℕ) (i : ℕ) : Type 0 where
   pub offsets : (full : Bool) (rooms : Rooms) (key : ℕ) (o : Opened) → Gives refused (lookWith full rooms key f o) 14 i 0 ↔ ((recordGood f o ≡ true) × MisplacedIn (knownOf f o) key i)
-  pub degrees : (full : Bool) (rooms : Rooms) (key : ℕ) → Gives refused (lookOf full rooms key f) 19 i 0 ↔ ((fileCheck f ≡ Check.Fine) × ((full ≡ true) × UnsummedIn (knownOf f (recordOf f)) key i))
+  pub degrees : (full : Bool) (rooms : Rooms) (key : ℕ) → Gives refused (lookOf full rooms key f) 19 i 0 ↔ ((fileCheck f ≡ Check.Fine) × ((full ≡ true) × UnplacedIn (knownOf f (recordOf f)) key i))
   pub degrees-with : (full : Bool) (rooms : Rooms) (key : ℕ) (o : Opened)
-      → Gives refused (lookWith full rooms key f o) 19 i 0 ↔ ((recordGood f o ≡ true) × ((full ≡ true) × UnsummedIn (knownOf f o) key i))
+      → Gives refused (lookWith full rooms key f o) 19 i 0 ↔ ((recordGood f o ≡ true) × ((full ≡ true) × UnplacedIn (knownOf f o) key i))
 
 pub kept : (f : List ℕ) (i : ℕ) → Kept f i
 kept f i = record {
   offsets = λ full rooms key o. Iff·trans (gives-is refused (lookWith full rooms key f o) (Refusal.Offset i)) (look-with-misplaced full rooms key f o i);
-  degrees = λ full rooms key. Iff·trans (gives-is refused (lookOf full rooms key f) (Refusal.Degrees i)) (look-of-unsummed full rooms key f i);
-  degrees-with = λ full rooms key o. Iff·trans (gives-is refused (lookWith full rooms key f o) (Refusal.Degrees i)) (look-with-unsummed full rooms key f o i);
+  degrees = λ full rooms key. Iff·trans (gives-is refused (lookOf full rooms key f) (Refusal.Degrees i)) (look-of-unplaced full rooms key f i);
+  degrees-with = λ full rooms key o. Iff·trans (gives-is refused (lookWith full rooms key f o) (Refusal.Degrees i)) (look-with-unplaced full rooms key f o i);
 }
 
 -- a number that is given no longer is given by no call

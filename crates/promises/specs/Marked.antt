@@ -21,7 +21,7 @@ use Rattle.group.specs.Written.{splitFrom, splitBytes, denseBytes}
 use Rattle.lookup.specs.Lookup.{groupCheck}
 use Rattle.batch.specs.Batch.{headingOf, edgeAt, edgesAt, edgesOf, before, inOrder, faultFrom, headed, batchCheck, partnersIn, logsIn, marksIn}
 use Rattle.batch_groups.specs.Groups.{anyDead, join, groupsOf}
-use Rattle.write_image.specs.Image.{keysIn, splitCost, denseBy, isDense, groupBytes, anyDense, numbers, partnerBytes, startsFrom, widthOf, octet, octets, fenceBytes, fenceKeysFrom, fencesOf, lastSections, sectionsBy, layoutBy, layoutOf, fileOf}
+use Rattle.write_image.specs.Image.{keysIn, splitCost, denseBy, isDense, groupBytes, anyDense, numbers, partnerBytes, offsetsFrom, widthOf, octet, octets, fenceBytes, fenceKeysFrom, fencesOf, lastSections, sectionsBy, layoutBy, layoutOf, fileOf}
 use Rattle.write_plan.specs.Bounds.{tooMany}
 use Rattle.write_file.specs.declared.Written.{Written}
 use Rattle.write_file.specs.Written.{writtenAnswer, neededCheck, neededOf}
@@ -94,7 +94,7 @@ by-cost ps n = ap (λ (d : ℕ). denseBy 65536 d (splitCost 0 ps)) n ∙ or-fals
     or-false false = refl
 
 pub marked : Marked
-unfolding empty live one rising headingOf edgeAt edgesAt edgesOf before inOrder faultFrom headed batchCheck tooMany writtenAnswer neededCheck neededOf leAt leBytes beAt halvesAt beBytes idBytes lastByte varFrom varintAt bytesFrom varBytes mul fold xorshift rotl swap rrmxmx secret of1to3 of4to8 of9to16 small pair mixStep inward of17to128 onward of129to240 lane accumulate stir scramble turn runOn startLanes twice merge finish large xxh3 headBytes payload entry entries bodyBytes trailer layOut headingOnly oneEdge onVarint splitStep denseStep stepAt onStep cons walkFrom degreeOf headOf onHead groupOf bytesOf splitFrom splitBytes denseBytes groupCheck join groupsOf partnersIn logsIn marksIn keysIn anyDead splitCost denseBy isDense groupBytes anyDense numbers partnerBytes startsFrom widthOf octet octets fenceBytes fenceKeysFrom fencesOf lastSections sectionsBy layoutBy layoutOf fileOf
+unfolding empty live one rising headingOf edgeAt edgesAt edgesOf before inOrder faultFrom headed batchCheck tooMany writtenAnswer neededCheck neededOf leAt leBytes beAt halvesAt beBytes idBytes lastByte varFrom varintAt bytesFrom varBytes mul fold xorshift rotl swap rrmxmx secret of1to3 of4to8 of9to16 small pair mixStep inward of17to128 onward of129to240 lane accumulate stir scramble turn runOn startLanes twice merge finish large xxh3 headBytes payload entry entries bodyBytes trailer layOut headingOnly oneEdge onVarint splitStep denseStep stepAt onStep cons walkFrom degreeOf headOf onHead groupOf bytesOf splitFrom splitBytes denseBytes groupCheck join groupsOf partnersIn logsIn marksIn keysIn anyDead splitCost denseBy isDense groupBytes anyDense numbers partnerBytes offsetsFrom widthOf octet octets fenceBytes fenceKeysFrom fencesOf lastSections sectionsBy layoutBy layoutOf fileOf
 marked = record {
   c1 = (refl, refl);
   c2 = (refl, refl);

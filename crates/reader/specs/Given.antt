@@ -18,7 +18,7 @@ use Rattle.group.specs.declared.fault.Fault.{Fault}
 use Rattle.group.specs.Fault.{refusalOf}
 use Rattle.group.specs.Fault.Laws.{fault-apart}
 use Rattle.lookup.specs.Lookup.{Rooms, refused, lookIn, lookWith, lookOf}
-use Rattle.lookup.specs.Given.{lookNumbers, FaultIn, UnsummedIn, MisplacedIn, look-numbers, look-fault, look-misplaced, look-unsummed}
+use Rattle.lookup.specs.Given.{lookNumbers, FaultIn, UnplacedIn, MisplacedIn, look-numbers, look-fault, look-misplaced, look-unplaced}
 use Rattle.reader.specs.Look.{with-bad, with-good, of-refused, of-good}
 
 module _ (full : Bool) (rooms : Rooms) (key : ℕ) (f : List ℕ) where
@@ -79,13 +79,13 @@ module _ (full : Bool) (rooms : Rooms) (key : ℕ) (f : List ℕ) where
       (both (look-fault full rooms (knownOf f o) key i fault))
 
   -- 19 of a file, and by a record; 14 by a record
-  pub look-of-unsummed : (i : ℕ) → (lookOf full rooms key f ≡ refused (Refusal.Degrees i)) ↔ ((fileCheck f ≡ Check.Fine) × ((full ≡ true) × UnsummedIn (knownOf f (recordOf f)) key i))
-  look-of-unsummed i =
-      Iff·trans (look-of-told (Refusal.Degrees i) (not-given openingNumbers (opening-numbers f) (Refusal.Degrees i) refl)) (both (look-unsummed full rooms (knownOf f (recordOf f)) key i))
+  pub look-of-unplaced : (i : ℕ) → (lookOf full rooms key f ≡ refused (Refusal.Degrees i)) ↔ ((fileCheck f ≡ Check.Fine) × ((full ≡ true) × UnplacedIn (knownOf f (recordOf f)) key i))
+  look-of-unplaced i =
+      Iff·trans (look-of-told (Refusal.Degrees i) (not-given openingNumbers (opening-numbers f) (Refusal.Degrees i) refl)) (both (look-unplaced full rooms (knownOf f (recordOf f)) key i))
 
-  pub look-with-unsummed : (o : Opened) (i : ℕ) → (lookWith full rooms key f o ≡ refused (Refusal.Degrees i)) ↔ ((recordGood f o ≡ true) × ((full ≡ true) × UnsummedIn (knownOf f o) key i))
-  look-with-unsummed o i =
-      Iff·trans (look-with-told o (Refusal.Degrees i) (λ e. let z : _≡_ {A = ℕ} 0 1 = cc in omega arith)) (both (look-unsummed full rooms (knownOf f o) key i))
+  pub look-with-unplaced : (o : Opened) (i : ℕ) → (lookWith full rooms key f o ≡ refused (Refusal.Degrees i)) ↔ ((recordGood f o ≡ true) × ((full ≡ true) × UnplacedIn (knownOf f o) key i))
+  look-with-unplaced o i =
+      Iff·trans (look-with-told o (Refusal.Degrees i) (λ e. let z : _≡_ {A = ℕ} 0 1 = cc in omega arith)) (both (look-unplaced full rooms (knownOf f o) key i))
 
   pub look-with-misplaced : (o : Opened) (i : ℕ) → (lookWith full rooms key f o ≡ refused (Refusal.Offset i)) ↔ ((recordGood f o ≡ true) × MisplacedIn (knownOf f o) key i)
   look-with-misplaced o i =

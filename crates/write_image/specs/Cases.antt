@@ -1,10 +1,14 @@
 -- The writer's choices at the edges of their rules, and a batch carried through to its file, by computing. Document 01's own
 -- table of marked cases is not here: it stands in crate promises.
 use mathlib.Core.Path.{_≡_, refl, ap, _∙_}
-use Prim.Native.Nat.{ℕ, _+_, _-_, _*_, _^_}
+use Prim.Native.Nat.{ℕ, _+_, _-_, _*_, _^_, _≤_}
+use native.Mathlib.Omega.{arith}
 use mathlib.Core.List.{List, [], _∷_, _++_}
 use mathlib.Core.Bool.{Bool, true, false}
 use lib.ListN.{length}
+use lib.Dec.{ltb}
+use borrow.Author.Tests.{le-ltb}
+use Rattle.base.specs.Pick.{pick}
 use Rattle.codes.specs.declared.ids.Id.{Id}
 use Rattle.codes.specs.Little.{leAt, leBytes}
 use Rattle.codes.specs.Ids.{beAt, beBytes, halvesAt, idBytes}
@@ -16,9 +20,9 @@ use Rattle.frame.specs.Cases.{ids}
 use Rattle.group.specs.Group.{bytesOf}
 use Rattle.group.specs.Written.{splitFrom, splitBytes, denseBytes}
 use Rattle.batch.specs.declared.Edge.{Edge}
-use Rattle.batch.specs.Batch.{headingOf, edgeAt, edgesAt, edgesOf, partnersIn, logsIn, marksIn}
+use Rattle.batch.specs.Batch.{Heading, headingOf, edgeAt, edgesAt, edgesOf, partnersIn, logsIn, marksIn}
 use Rattle.batch_groups.specs.Groups.{none, anyDead, Group, join, groupsOf}
-use Rattle.write_image.specs.Image.{keysIn, splitCost, denseBy, isDense, groupBytes, anyDense, numbers, partnerBytes, startsFrom, widthOf, octet, octets, fenced, fenceBytes, fenceKeysFrom, fencesOf, firstsFrom, startBytes, indexed, minorOf, keyBytes, offsetBytes, logBytes, tombBytes, lastSections, sectionsBy, layoutBy, layoutOf, fileOf}
+use Rattle.write_image.specs.Image.{keysIn, splitCost, denseBy, isDense, groupBytes, anyDense, numbers, partnerBytes, offsetsFrom, widthOf, octet, octets, fenced, fenceBytes, fenceKeysFrom, fencesOf, firstsFrom, startBytes, indexed, minorOf, keyBytes, offsetBytes, logBytes, tombBytes, bit, flagsBy, lastSections, sectionsBy, layoutBy, layoutOf, fileOf}
 use Rattle.write_image.specs.Image.Laws.{length-fences}
 
 abbrev zeros7 : List ℕ → List ℕ
@@ -101,7 +105,30 @@ module _ (w : ℕ) (es : List Edge) (gs : List Group) where
   unfolding sectionsBy lastSections
   fenced-at n = (ap (withKeys false) n, ap (withKeys true) n)
 
+  -- of every count of keys: which sections, in which order
+  pub sections-are : (keys : ℕ) (dead : Bool) → sectionsBy keys w dead es gs
+      ≡ rawSection 1 (keyBytes gs) ∷ rawSection 2 (offsetBytes w keys 0 gs) ∷ rawSection 3 (partnerBytes keys gs) ∷ rawSection 4 (logBytes es)
+      ∷ (pick dead (rawSection 5 (tombBytes es) ∷ []) [] ++ (pick (ltb 65536 keys) (rawSection 6 (fencesOf (keysIn gs)) ∷ []) [] ++ pick (ltb 1024 keys) (rawSection 0x0200 (startBytes gs) ∷ []) []))
+  unfolding sectionsBy lastSections
+  sections-are keys dead = refl
+
+  -- up to 1,024 keys the file is as it was before there was a start index: minor version 0 and sections 1 to 5 alone
+  pub layout-kept : (h : Heading) (keys : ℕ) (dense dead : Bool) → keys ≤ 1024 → layoutBy h keys w dense dead es gs
+      ≡ record {
+        head = headBytes 0 (flagsBy (h .direction) dense dead) (h .ids);
+        sections = rawSection kind.keys (keyBytes gs) ∷ rawSection kind.offsets (offsetBytes w keys 0 gs) ∷ rawSection kind.partners (partnerBytes keys gs) ∷ rawSection kind.logs (logBytes es)
+            ∷ (pick dead (tombstones ∷ []) [] ++ []);
+        keycount = keys;
+        edgecount = length es;
+        bits = 8 * w;
+      }
+  unfolding layoutBy sectionsBy lastSections
+  layout-kept h keys dense dead few = rw (le-ltb 65536 keys (omega arith), le-ltb 1024 keys few)
+
 -- "with minor version 1": exactly where there is a start index
+pub minor-is : (keys : ℕ) → minorOf keys ≡ bit (ltb 1024 keys)
+minor-is keys = refl
+
 pub minor : (minorOf 0 ≡ 0) × (minorOf 1 ≡ 0) × (minorOf 1024 ≡ 0) × (minorOf 1025 ≡ 1) × (minorOf 65536 ≡ 1) × (minorOf 65537 ≡ 1)
 minor = (refl, refl, refl, refl, refl, refl)
 
@@ -172,5 +199,5 @@ unfolding mixed edgeAt edgesAt edgesOf halvesAt beAt leAt
 mixed-edges = refl
 
 pub mixed-written : fileOf (headingOf mixed) (edgesOf mixed) ≡ mixedFile
-unfolding mixed mixedFile headingOf edgeAt edgesAt edgesOf leAt leBytes beAt beBytes halvesAt idBytes bytesFrom varBytes mul fold xorshift rotl swap rrmxmx secret of1to3 of4to8 of9to16 small pair mixStep inward of17to128 onward of129to240 lane accumulate stir scramble turn runOn startLanes twice merge finish large xxh3 headBytes payload entry entries bodyBytes trailer layOut bytesOf splitFrom splitBytes denseBytes join groupsOf partnersIn logsIn marksIn keysIn anyDead splitCost denseBy isDense groupBytes anyDense numbers partnerBytes startsFrom widthOf octet octets fenceBytes fenceKeysFrom fencesOf lastSections sectionsBy layoutBy layoutOf fileOf
+unfolding mixed mixedFile headingOf edgeAt edgesAt edgesOf leAt leBytes beAt beBytes halvesAt idBytes bytesFrom varBytes mul fold xorshift rotl swap rrmxmx secret of1to3 of4to8 of9to16 small pair mixStep inward of17to128 onward of129to240 lane accumulate stir scramble turn runOn startLanes twice merge finish large xxh3 headBytes payload entry entries bodyBytes trailer layOut bytesOf splitFrom splitBytes denseBytes join groupsOf partnersIn logsIn marksIn keysIn anyDead splitCost denseBy isDense groupBytes anyDense numbers partnerBytes offsetsFrom widthOf octet octets fenceBytes fenceKeysFrom fencesOf lastSections sectionsBy layoutBy layoutOf fileOf
 mixed-written = refl

@@ -68,12 +68,12 @@ partnerBytes keys [] = []
 partnerBytes keys (g ∷ gs) = bytesIn keys g ++ partnerBytes keys gs
 
 -- 2: where each group begins, the first at `at`, and where the last ends
-unfoldable pub startsFrom : ℕ → ℕ → List Group → List ℕ
-startsFrom keys at [] = at ∷ []
-startsFrom keys at (g ∷ gs) = at ∷ startsFrom keys (at + length (bytesIn keys g)) gs
+unfoldable pub offsetsFrom : ℕ → ℕ → List Group → List ℕ
+offsetsFrom keys at [] = at ∷ []
+offsetsFrom keys at (g ∷ gs) = at ∷ offsetsFrom keys (at + length (bytesIn keys g)) gs
 
 abbrev pub offsetBytes : ℕ → ℕ → ℕ → List Group → List ℕ
-offsetBytes w keys at gs = numbers w (startsFrom keys at gs)
+offsetBytes w keys at gs = numbers w (offsetsFrom keys at gs)
 
 -- "Offset width: 24 bits for a partner section below 2^24 bytes, otherwise 32", in bytes
 unfoldable pub widthOf : ℕ → ℕ

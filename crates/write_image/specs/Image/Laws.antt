@@ -28,7 +28,7 @@ use Rattle.group.specs.Written.{Halves, Above, splitFrom, payloadOf, writtenAs,
 use Rattle.batch.specs.declared.Edge.{Edge}
 use Rattle.batch_groups.specs.Groups.{none, Group, groupsOf, flat, GroupEnd, Run, Grouped}
 use Rattle.batch_groups.specs.Groups.Laws.{flat-append, flat-groups, grouped-step, groups-end}
-use Rattle.write_image.specs.Image.{keysIn, splitCost, denseBy, isDense, groupBytes, bytesIn, anyDense, keyBytes, numbers, partnerBytes, startsFrom, offsetBytes, widthOf, logBytes, bit, octet, octets, tombBytes, fenceBytes, fenceKeysFrom, fencesOf, firstsFrom, startBytes}
+use Rattle.write_image.specs.Image.{keysIn, splitCost, denseBy, isDense, groupBytes, bytesIn, anyDense, keyBytes, numbers, partnerBytes, offsetsFrom, offsetBytes, widthOf, logBytes, bit, octet, octets, tombBytes, fenceBytes, fenceKeysFrom, fencesOf, firstsFrom, startBytes}
 
 -- ---- a part of the edges, one edge further
 
@@ -249,7 +249,7 @@ module _ (es : List Edge) (i j : ℕ) (e : GroupEnd es i j) where
 
     pub offsets-step : (w at : ℕ) → offsetBytes w n at (groupsOf (drop i es))
         ≡ leBytes w at ++ offsetBytes w n (at + length (groupBytes n (partnersIn (part es i j)))) (groupsOf (drop j es))
-    unfolding numbers startsFrom
+    unfolding numbers offsetsFrom
     offsets-step w at = ap (λ (t : List Group). offsetBytes w n at t) (e .groups)
 
 module _ (es : List Edge) (i : ℕ) (e : i ≡ length es) where
@@ -271,7 +271,7 @@ module _ (es : List Edge) (i : ℕ) (e : i ≡ length es) where
     any-end = ap (anyDense n) (groups-end es i e)
 
     pub offsets-end : (w at : ℕ) → offsetBytes w n at (groupsOf (drop i es)) ≡ leBytes w at
-    unfolding numbers startsFrom
+    unfolding numbers offsetsFrom
     offsets-end w at = ap (λ (t : List Group). offsetBytes w n at t) (groups-end es i e) ∙ append-nil (leBytes w at)
 
 -- ---- the sections, an edge further
@@ -393,14 +393,14 @@ length-numbers w (x ∷ xs) =
     let c : suc (length xs) * w ≡ w + length xs * w = omega arith in
     length-append (leBytes w x) (numbers w xs) ∙ omega arith
 
-length-starts : (n at : ℕ) (gs : List Group) → length (startsFrom n at gs) ≡ suc (length gs)
-unfolding startsFrom
-length-starts n at [] = refl
-length-starts n at (g ∷ gs) = ap suc (length-starts n (at + length (bytesIn n g)) gs)
+length-offsetsFrom : (n at : ℕ) (gs : List Group) → length (offsetsFrom n at gs) ≡ suc (length gs)
+unfolding offsetsFrom
+length-offsetsFrom n at [] = refl
+length-offsetsFrom n at (g ∷ gs) = ap suc (length-offsetsFrom n (at + length (bytesIn n g)) gs)
 
 pub length-offsets : (w n at : ℕ) (gs : List Group) → length (offsetBytes w n at gs) ≡ (length gs + 1) * w
 length-offsets w n at gs =
-    length-numbers w (startsFrom n at gs) ∙ ap (λ (t : ℕ). t * w) (length-starts n at gs ∙ sym (add-one (length gs)))
+    length-numbers w (offsetsFrom n at gs) ∙ ap (λ (t : ℕ). t * w) (length-offsetsFrom n at gs ∙ sym (add-one (length gs)))
 
 length-firsts : (e : ℕ) (gs : List Group) → length (firstsFrom e gs) ≡ suc (length gs)
 unfolding firstsFrom
