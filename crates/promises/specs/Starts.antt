@@ -93,8 +93,8 @@ record-here full rooms key f o = Iff·trans (gives-is refused (lookWith full roo
     there false g e s = clash (recorded-made (length f) o s) g
 
     back : (b : Bool) → recordGood f o ≡ b → (Recorded (length f) o → ⊥) → lookWith full rooms key f o ≡ refused Refusal.Record
-    back true g no = absurd (no (recorded-parts (length f) o g))
-    back false g no = with-bad full rooms key f o g
+    back true g un = absurd (un (recorded-parts (length f) o g))
+    back false g un = with-bad full rooms key f o g
 
 pub start-index-kept : StartIndex
 start-index-kept = record {
