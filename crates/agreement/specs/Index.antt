@@ -1,10 +1,10 @@
 -- The start index does not show: of a file that passes the full check, the lookup by a record with the start index and by the same
 -- record without it give the same answer, refusals, places and counts included.
 use mathlib.Core.Path.{_≡_, refl, sym, ap, _∙_}
-use Prim.Native.Nat.{ℕ, _+_, _/_}
+use Prim.Native.Nat.{ℕ, _+_}
 use native.Mathlib.Omega.{arith}
 use mathlib.Core.List.{List, []}
-use mathlib.Core.Bool.{Bool, true, false, not, _&&_}
+use mathlib.Core.Bool.{Bool, true, not, _&&_}
 use lib.ListN.{length}
 use Rattle.base.specs.Pick.{pick}
 use Rattle.refusal.specs.declared.Refusal.{Refusal}

@@ -1,7 +1,7 @@
 -- Whenever the full check passes, both users see the same edges: for every key, the lookup with enough room gives exactly
 -- the read-out's edges of that key, in order, with log numbers and dead marks, and absence exactly if it has none.
 use mathlib.Core.Path.{_≡_, refl, sym, ap, ap₂, _∙_}
-use Prim.Native.Nat.{ℕ, zero, suc, _+_, _-_, _*_, _/_, _%_, _^_, _≤_, _<_}
+use Prim.Native.Nat.{ℕ, zero, suc, _+_, _-_, _*_, _/_, _%_, _≤_, _<_}
 use native.Mathlib.Nat.{add-zero, zero-add, sub-zero}
 use native.Mathlib.Numerals.{add-one}
 use native.Mathlib.Omega.{arith}
@@ -10,7 +10,7 @@ use mathlib.Core.List.{List, [], _∷_, _++_, append-nil}
 use mathlib.Core.Bool.{Bool, true, false}
 use lib.ListN.{length}
 use lib.Dec.{eqb, ltb}
-use borrow.Author.Tests.{eq-eqb, ne-eqb, le-ltb, ltb-false}
+use borrow.Author.Tests.{eq-eqb, ne-eqb, ltb-false}
 use Rattle.batch.specs.Batch.{partnersIn, logsIn}
 use Rattle.base.specs.Pick.{pick}
 use Rattle.base.specs.Over.{part}
@@ -36,12 +36,12 @@ use Rattle.degrees.specs.declared.Sum.{Sum}
 use Rattle.degrees.specs.Degrees.{groupAt, degreeAt, edgesBefore, startOf, plus, capped}
 use Rattle.degrees.specs.Degrees.Laws.{in-is, degree-is, capped-is, start-is}
 use Rattle.codes.specs.Varint.{varintAt}
-use Rattle.group.specs.Group.{Decoded, degreeOf, groupOf, isGood, partnersOf}
+use Rattle.group.specs.Group.{degreeOf, groupOf, isGood, partnersOf}
 use Rattle.group.specs.Group.Laws.{good-is}
 use Rattle.group.specs.Good as group
 use Rattle.lookup.specs.declared.groups.GroupSeen.{GroupSeen}
-use Rattle.lookup.specs.Lookup.{Outcome, found, absent, refused, Rooms, groupCheck, before, markAt, logsFrom, marksFrom, short, lookIn, lookWith, lookOf}
-use Rattle.lookup.specs.Groups.{check-good, groupSeen, good-seen}
+use Rattle.lookup.specs.Lookup.{Outcome, found, absent, refused, Rooms, groupCheck, before, logsFrom, marksFrom, short, lookIn, lookWith, lookOf}
+use Rattle.lookup.specs.Groups.{check-good, good-seen}
 use Rattle.lookup.specs.Calls as calls
 use Rattle.reader.specs.Opened.{opened-keys, opened-offsets}
 use Rattle.reader.specs.Look.{of-good, with-record}

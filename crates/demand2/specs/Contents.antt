@@ -2,13 +2,13 @@
 -- g ∷ hs, and the number of g is the length of gs.
 use mathlib.Core.Path.{_≡_, refl, sym, ap, ap₂, _∙_}
 use Prim.Native.Nat.{ℕ, zero, suc, _+_, _-_, _*_, _/_, _%_, _^_, _≤_, _<_}
-use native.Mathlib.Nat.{zero-add, zero-div, add-zero}
+use native.Mathlib.Nat.{zero-add, zero-div}
 use native.Mathlib.Omega.{arith}
-use mathlib.Core.List.{List, [], _∷_, _++_, append-nil, append-assoc}
+use mathlib.Core.List.{List, [], _∷_, _++_, append-nil}
 use mathlib.Core.Bool.{Bool, true, false, not, _||_}
-use lib.ListN.{length, getD, drop, take, length-append}
-use lib.Seq.{drop-append-seam, take-append-seam, append-snoc}
-use lib.Dec.{ltb, leb, eqb}
+use lib.ListN.{length, getD, length-append}
+use lib.Seq.{append-snoc}
+use lib.Dec.{ltb, eqb}
 use borrow.Author.Tests.{lt-ltb, eq-eqb}
 use Rattle.batch.specs.Batch.{partnersIn, logsIn, marksIn}
 use Rattle.base.specs.Pick.{pick}
@@ -19,20 +19,19 @@ use Rattle.codes.specs.Ids.{halvesAt, idNumber}
 use Rattle.codes.specs.Ids.Laws.{number-halves}
 use Rattle.refusal.specs.declared.Refusal.{Refusal}
 use Rattle.refusal.specs.declared.Check.{Check}
-use Rattle.refusal.specs.Check.{_⊳_}
 use Rattle.refusal.specs.Check.Laws.{fine-both, fine-pick}
 use Rattle.frame.specs.Open.{keyAt, keysFrom, offsetAt, startAt}
-use Rattle.group.specs.Group.{Decoded, good, groupOf, partnersOf, bytesOf}
+use Rattle.group.specs.Group.{good, groupOf, partnersOf, bytesOf}
 use Rattle.group.specs.Group.Laws.{partners-good}
 use Rattle.group.specs.Written.{written-back}
 use Rattle.lookup.specs.Lookup.{groupCheck, markAt}
 use Rattle.batch.specs.declared.Edge.{Edge}
 use Rattle.batch_groups.specs.Groups.{anyDead, Group, flat, IdFits, Run, Grouped}
 use Rattle.batch_groups.specs.Groups.Laws.{flat-append}
-use Rattle.write_image.specs.Image.{keysIn, isDense, groupBytes, bytesIn, anyDense, keyBytes, partnerBytes, offsetsFrom, offsetBytes, logBytes, octets, tombBytes, startBytes, bit}
+use Rattle.write_image.specs.Image.{keysIn, isDense, bytesIn, anyDense, keyBytes, partnerBytes, offsetsFrom, offsetBytes, logBytes, tombBytes, startBytes, bit}
 use Rattle.write_image.specs.Image.Laws.{length-partners, run-partners, group-is, group-some, length-keysIn, numbers-at, start-is}
 use Rattle.full_check.specs.Full.{denseOf, groupIn, groupsFrom, degreesFrom, denseFrom, strayFrom}
-use Rattle.readout.specs.Edges.{edgeOf, edgesFrom, keyDegree, keyEdges, readFrom}
+use Rattle.readout.specs.Edges.{edgesFrom, keyEdges, readFrom}
 use Rattle.demand2.specs.Rows.{ids-mid, partners-append, length-offsetsFrom, offsets-at, keys-append, marks-at, logs-at, length-logsIn, mark-at, bit-is, none-dead}
 
 -- ---- where groups lie

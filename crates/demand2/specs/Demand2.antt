@@ -1,8 +1,8 @@
 -- Demand 2: "For each well-formed batch within the limits, given room, the file we write passes the full check, reads out to
 -- that same batch, and a lookup of any key gives exactly its written partners, in order, with log numbers and dead marks, or
 -- absence."
-use mathlib.Core.Path.{_≡_, refl, sym, ap, _∙_}
-use Prim.Native.Nat.{ℕ, _+_, _*_, _^_, _≤_, _<_}
+use mathlib.Core.Path.{_≡_, refl, ap, _∙_}
+use Prim.Native.Nat.{ℕ, _*_, _^_, _≤_}
 use native.Mathlib.Omega.{arith}
 use mathlib.Core.List.{List}
 use mathlib.Core.Bool.{Bool, true, false, _&&_}
@@ -20,8 +20,7 @@ use Rattle.frame.specs.Frame.{headerIn, recordOf}
 use Rattle.frame.specs.Open.{knownOf, openOf}
 use Rattle.lookup.specs.Lookup.{Rooms, lookOf, lookWith}
 use Rattle.lookup.specs.Calls.{alone}
-use Rattle.batch.specs.declared.Edge.{Edge}
-use Rattle.batch.specs.Batch.{Heading, headingOf, edgesOf, recordCount, faultFrom, headed, batchCheck, batchBytes}
+use Rattle.batch.specs.Batch.{headingOf, edgesOf, recordCount, faultFrom, headed, batchCheck}
 use Rattle.batch_groups.specs.Groups.{anyDead, groupsOf}
 use Rattle.batch_groups.specs.Groups.Laws.{grouped}
 use Rattle.batch_groups.specs.Order.{batch-ordered, fine-long}

@@ -1,22 +1,19 @@
 -- Numbers, ids and marks that were written one after the other, read by their number.
 use mathlib.Core.Path.{_≡_, refl, sym, ap, ap₂, _∙_}
-use Prim.Native.Nat.{ℕ, zero, suc, _+_, _-_, _*_, _/_, _%_, _^_, _≤_, _<_}
+use Prim.Native.Nat.{ℕ, zero, suc, _+_, _-_, _*_, _/_, _%_, _^_, _<_}
 use native.Mathlib.Nat.{add-assoc, zero-div, div-one, pow-suc, div-div-eq-div-mul, mul-comm}
 use native.Mathlib.Omega.{arith}
 use native.Mathlib.Decide.{decLt}
 use mathlib.Core.List.{List, [], _∷_, _++_, append-assoc}
 use mathlib.Core.Bool.{Bool, true, false, true≢false, _||_}
-use lib.ListN.{length, getD, take, drop, length-append}
-use lib.Seq.{split-at, length-take-le, getD-drop, drop-drop, drop-nil}
+use lib.ListN.{length, getD, drop, length-append}
+use lib.Seq.{getD-drop, drop-drop}
 use lib.Dec.{eqb, ltb}
 use borrow.Author.Tests.{lt-ltb, le-ltb}
 use Rattle.batch.specs.Batch.{logsIn, marksIn}
-use Rattle.base.specs.Pick.{pick}
 use Rattle.codes.specs.declared.ids.Id.{Id}
-use Rattle.codes.specs.Little.{leAt, leBytes}
-use Rattle.codes.specs.Little.Laws.{leAt-back, length-leBytes}
 use Rattle.codes.specs.Ids.{halvesAt, idBytes}
-use Rattle.codes.specs.Ids.Laws.{halves-back, length-idBytes}
+use Rattle.codes.specs.Ids.Laws.{halves-back}
 use Rattle.group.specs.Group.{bytesOf}
 use Rattle.group.specs.Group.Laws.{length-bytesOf}
 use Rattle.batch.specs.declared.Edge.{Edge}

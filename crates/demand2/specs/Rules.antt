@@ -1,37 +1,30 @@
 -- Rules 14, 15, 23 and 37 of the writer's sections: offsets, fences, marks, start index.
 use mathlib.Core.Path.{_≡_, refl, sym, ap, ap₂, _∙_}
-use Prim.Native.Nat.{ℕ, zero, suc, _+_, _-_, _*_, _/_, _%_, _^_, _≤_, _<_}
-use native.Mathlib.Nat.{zero-add, add-zero}
+use Prim.Native.Nat.{ℕ, zero, suc, _+_, _-_, _*_, _/_, _^_, _≤_, _<_}
+use native.Mathlib.Nat.{zero-add}
 use native.Mathlib.Omega.{arith}
-use native.Mathlib.Decide.{ℕ-discrete, decLt}
-use mathlib.Core.List.{List, [], _∷_, _++_, append-assoc}
-use mathlib.Core.Bool.{Bool, true, false, not, _&&_, _||_}
-use lib.ListN.{length, getD, drop, take, length-append, List·getD-eq-default}
-use lib.Seq.{drop-cons, getD-append-add, append-snoc}
-use lib.Dec.{ltb, leb, eqb, lit<}
-use borrow.Author.Tests.{lt-ltb, eq-eqb, ne-eqb, le-leb, eqb-true}
+use mathlib.Core.List.{List, [], _∷_, _++_}
+use mathlib.Core.Bool.{Bool, true, false, not, _||_}
+use lib.ListN.{length, getD, length-append, List·getD-eq-default}
+use lib.Seq.{append-snoc}
+use lib.Dec.{ltb, eqb}
+use borrow.Author.Tests.{lt-ltb, eq-eqb, ne-eqb, eqb-true}
 use Rattle.batch.specs.Batch.{marksIn}
 use Rattle.base.specs.Pick.{pick}
-use Rattle.codes.specs.declared.ids.Id.{Id}
-use Rattle.codes.specs.Little.{leAt, leBytes}
-use Rattle.codes.specs.Little.Laws.{leAt-back, length-leBytes}
-use Rattle.codes.specs.Ids.{idAt, idNumber, idBytes, halvesAt}
-use Rattle.codes.specs.Ids.Laws.{number-halves, halves-back, length-idBytes}
+use Rattle.codes.specs.Ids.{idNumber}
 use Rattle.refusal.specs.declared.Refusal.{Refusal}
 use Rattle.refusal.specs.declared.Check.{Check}
 use Rattle.refusal.specs.Check.Laws.{fine-pick, and-both}
 use Rattle.frame.specs.Kind as kind
-use Rattle.frame.specs.Open.{keyAt, offsetAt, offsetGood, risingFrom, offsetsCheck, startAt, startsCheck, fenceGood, fencesFrom, fencesGood, strideOf, fencesTold}
-use Rattle.lookup.specs.Lookup.{markAt}
+use Rattle.frame.specs.Open.{offsetAt, offsetGood, risingFrom, offsetsCheck, startAt, startsCheck}
 use Rattle.batch.specs.declared.Edge.{Edge}
-use Rattle.batch_groups.specs.Groups.{none, anyDead, Group, flat, IdFits, Grouped}
-use Rattle.write_image.specs.Image.{keysIn, keyBytes, partnerBytes, offsetBytes, tombBytes, startBytes, fenceBytes, fencesOf}
+use Rattle.batch_groups.specs.Groups.{anyDead, Group, flat, Grouped}
+use Rattle.write_image.specs.Image.{partnerBytes, offsetBytes, tombBytes, startBytes}
 use Rattle.write_image.specs.Image as image
-use Rattle.write_image.specs.Image.Laws.{length-keysIn, length-fence, length-fences, fences-are, fence-is, length-tombs, start-first, start-next, start-last}
-use Rattle.laid_out.specs.Rows.{leAt-at, leAt-past}
+use Rattle.write_image.specs.Image.Laws.{length-tombs, start-first, start-next, start-last}
 use Rattle.full_check.specs.Full.{deadFrom}
 use Rattle.demand2.specs.Rows.{length-marksIn, marks-at}
-use Rattle.demand2.specs.Contents.{offset-is, offset-rises, offset-first, offset-last, group-key, tombs, mark-is}
+use Rattle.demand2.specs.Contents.{offset-rises, offset-first, offset-last, tombs, mark-is}
 
 -- ---- groups by their number
 

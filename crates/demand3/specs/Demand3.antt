@@ -14,16 +14,15 @@ use Rattle.frame.specs.declared.Opened.{Opened}
 use Rattle.frame.specs.declared.Opening.{Opening}
 use Rattle.frame.specs.declared.ends.Header.{Header}
 use Rattle.frame.specs.Kind as kind
-use Rattle.frame.specs.Frame.{all, rowsOf, bodyOf, recordFrom, recordOf, atMinor}
+use Rattle.frame.specs.Frame.{has, all, rowsOf, bodyOf, recordOf, atMinor}
 use Rattle.frame.specs.Frame.Laws.{header-minor}
 use Rattle.frame.specs.Open.{openOf}
-use Rattle.frame.specs.Open.Laws.{opens-record}
 use Rattle.lookup.specs.Lookup.{Rooms, lookOf, lookWith}
 use Rattle.reader.specs.declared.header.HeaderRead.{HeaderRead}
 use Rattle.reader.specs.Header.{headerOf, header-opens, header-good}
 use Rattle.reader.specs.Look.{with-record}
 use Rattle.laid_out.specs.Laid.{file-rows}
-use Rattle.demand3.specs.Stripped.{copyMinor, Stripped, Later, opened-later, copy-opens, copy-answers, added-opens}
+use Rattle.demand3.specs.Stripped.{Stripped, Later, opened-later, copy-opens, copy-answers, added-opens}
 use Rattle.demand3.specs.Strip.{strip, stripped, is-copy, h64, small, fits}
 use Rattle.demand3.specs.Whole.{Byted, byted-strip, none-unknown}
 
@@ -33,8 +32,8 @@ pub record Alike (f : List ℕ) (o : Opened) (g : List ℕ) : Type 0 where
   -- from the file, and from the records that opening gave
   pub answers : (full : Bool) (rooms : Rooms) (key : ℕ) → lookOf full rooms key g ≡ lookOf full rooms key f
   pub answers-with : (full : Bool) (rooms : Rooms) (key : ℕ) → lookWith full rooms key g (recordOf g) ≡ lookWith full rooms key f o
-  -- and the header is the file's, at minor version 0, or 1 where there is a start index
-  pub header : (h : Header) → headerOf f ≡ HeaderRead.Good h → headerOf g ≡ HeaderRead.Good (atMinor (pick (o .indexed) 1 0) h)
+  -- and the header is the file's, at minor version 0, or 1 where there is a section of kind 0x0200
+  pub header : (h : Header) → headerOf f ≡ HeaderRead.Good h → headerOf g ≡ HeaderRead.Good (atMinor (pick (has 0x0200 (rowsOf (bodyOf f))) 1 0) h)
 
 -- bytes, a copy, no unknown kind in it, and the same answers
 pub record Copy (f : List ℕ) (o : Opened) (g : List ℕ) : Type 0 where
@@ -59,11 +58,6 @@ pub record Demand3 : Type 0 where
   -- no more is asked of it than of every file: a file opens exactly if it keeps those rules and `strip` of it opens
   pub exactly : (f : List ℕ) → Bytes f → (openOf f ≡ Opening.Good (recordOf f)) ↔ (Later f × (openOf (strip f) ≡ Opening.Good (recordOf (strip f))))
 
--- the record says whether there is a start index
-minor-by : (f : List ℕ) (o : Opened) → openOf f ≡ Opening.Good o → copyMinor (rowsOf (bodyOf f)) ≡ pick (o .indexed) 1 0
-unfolding recordOf recordFrom
-minor-by f o e = ap (λ (x : Opened). pick (x .indexed) 1 0) (opens-record f o e)
-
 alike : (f : List ℕ) (o : Opened) → openOf f ≡ Opening.Good o → (g : List ℕ) → Stripped f g → Alike f o g
 alike f o e g s = record {
   opens = copy-opens f g s o e;
@@ -72,7 +66,7 @@ alike f o e g s = record {
       with-record full rooms key g (recordOf g) (copy-opens f g s o e) ∙ copy-answers f g s o e full rooms key ∙ sym (with-record full rooms key f o e);
   header = λ h q.
       header-good g (recordOf g) (copy-opens f g s o e)
-      ∙ ap HeaderRead.Good (header-minor g f (s .header) ∙ (λ j. atMinor ((s .minor ∙ minor-by f o e) j) (header-opens f h .0 q .1 j)));
+      ∙ ap HeaderRead.Good (header-minor g f (s .header) ∙ (λ j. atMinor (s .minor j) (header-opens f h .0 q .1 j)));
 }
 
 stripped-copy : (f : List ℕ) → Bytes f → (o : Opened) → openOf f ≡ Opening.Good o → Copy f o (strip f)

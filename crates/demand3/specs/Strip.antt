@@ -3,12 +3,11 @@ use mathlib.Core.Path.{_≡_, refl, sym, ap, ap₂, _∙_}
 use mathlib.Core.Logic.{inl}
 use Prim.Native.Nat.{ℕ, zero, suc, _+_, _-_, _*_, _^_, _≤_, _<_}
 use native.Mathlib.Omega.{arith}
-use native.Mathlib.Decide.{decLt}
 use mathlib.Core.List.{List, [], _∷_, _++_, append-assoc}
-use mathlib.Core.Bool.{Bool, true, false, not, _&&_, _||_}
-use lib.ListN.{length, getD, take, drop, set, length-append, length-set, length-take, List·getD-eq-default}
-use lib.Seq.{length-take-le, getD-take, getD-drop, getD-set-same, getD-set-other, drop-at, take-at}
-use lib.Dec.{ltb, leb, eqb}
+use mathlib.Core.Bool.{Bool, true, false}
+use lib.ListN.{length, getD, take, drop, set, length-append, length-set, length-take}
+use lib.Seq.{length-take-le, getD-take, getD-set-same, getD-set-other}
+use lib.Dec.{leb}
 use borrow.Author.Tests.{leb-true}
 use Rattle.base.specs.Pick.{pick}
 use Rattle.base.specs.Over.{part, length-part}
@@ -20,12 +19,12 @@ use Rattle.refusal.specs.declared.Refusal.{Refusal}
 use Rattle.refusal.specs.declared.Check.{Check}
 use Rattle.refusal.specs.Check.Laws.{pick-fine, and-parts}
 use Rattle.frame.specs.declared.Row.{Row}
-use Rattle.frame.specs.Frame.{rangeOf, rowAt, nextAt, rowsFrom, endFrom, rowsOf, endOf, entryCount, keyCount, edgeCount, bitsOf, rangeGood, ranges, footLen, bodyOf}
+use Rattle.frame.specs.Frame.{rowAt, nextAt, rowsFrom, endFrom, rowsOf, endOf, entryCount, keyCount, edgeCount, bitsOf, rangeGood, ranges, footLen, bodyOf}
 use Rattle.frame.specs.Kind as kind
 use Rattle.frame.specs.Frame.Laws.{length-rows, end-room, ranges-parts, ranges-made}
 use Rattle.frame.specs.Open.Laws.{size-parts, tail-parts}
 use Rattle.frame.specs.Layout.{Section, Layout, payload, entry, entries, bodyBytes, trailer, layOut}
-use Rattle.laid_out.specs.Rows.{rowsIn, SectionFits, SectionsFit, Small, length-entry, past-first, length-first, name-back, length-body, body-rows, body-end, keys-back, edges-back, bits-back}
+use Rattle.laid_out.specs.Rows.{rowsIn, SectionsFit, Small, length-entry, past-first, length-first, name-back, length-body, body-end, keys-back, edges-back, bits-back}
 use Rattle.laid_out.specs.Laid.{length-laid, sum-back, magic-back, body-back, size-fine, tail-fine, file-rows, ranges-fine, head-back, bytes-first}
 use Rattle.demand3.specs.Stripped.{Kept, Copied, none, dropped, kept, Outer, copyMinor, Stripped, Later}
 

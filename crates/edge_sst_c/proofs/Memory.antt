@@ -1,8 +1,7 @@
 -- How an EdgeSstOpened lies in memory: as its twenty numbers, one after the other, so that what `edge_sst_open` gave can be
 -- lent to the calls that take twenty numbers.
 use mathlib.Core.Path.{_≡_, refl}
-use mathlib.Core.List.{List, map}
-use Prim.Native.Nat.{ℕ}
+use mathlib.Core.List.{map}
 use mir.Syntax.{Ty, tyInt, tyArray, w64}
 use mir.Val.{vint}
 use prog.Memory.{enc, align}

@@ -1,21 +1,24 @@
 -- The start index: when opening gives 37, exactly.
 use mathlib.Core.Path.{_≡_, refl, sym, ap, _∙_}
 use mathlib.Core.Logic.{_↔_, _⊎_, inl, inr, ⊎-elim}
-use Prim.Native.Nat.{ℕ, zero, suc, _+_, _-_, _*_, _≤_, _<_}
+use Prim.Native.Nat.{ℕ, zero, suc, _+_, _-_, _*_, _/_, _≤_, _<_}
 use native.Mathlib.Decide.{ℕ-discrete, decLt}
 use native.Mathlib.Omega.{arith}
 use mathlib.Core.List.{List, [], _∷_, _++_}
 use mathlib.Core.Bool.{Bool, true, false, not, _&&_, _||_}
-use lib.Dec.{eqb, ltb}
+use lib.Dec.{eqb, ltb, leb}
 use borrow.Author.Tests.{eqb-true, eqb-false, ltb-true, eq-eqb, ne-eqb, lt-ltb}
 use Rattle.base.specs.Pick.{pick}
 use Rattle.codes.specs.Little.{leAt}
 use Rattle.refusal.specs.declared.Refusal.{Refusal}
 use Rattle.refusal.specs.declared.Check.{Check}
-use Rattle.refusal.specs.Check.{_⊳_}
 use Rattle.refusal.specs.Check.Laws.{by-second, and-parts, not-given}
 use Rattle.frame.specs.Kind as kind
-use Rattle.frame.specs.Frame.{recordOf}
+use Rattle.frame.specs.declared.Row.{Row}
+use Rattle.frame.specs.declared.Opened.{Opened}
+use Rattle.frame.specs.declared.Framed.{Framed}
+use Rattle.frame.specs.Frame.{rowsOf, bodyOf, has, sectionOf, nowhere, nameGood, codecGood, sizesGood, presenceGood, recordFrom, recordOf}
+use Rattle.frame.specs.Frame.Laws.{ReadKind, fixed-kinds}
 use Rattle.frame.specs.Open.{knownOf, bytesAt, startAt, offsetGood, risingFrom, startsCheck, fileCheck}
 use Rattle.frame.specs.Given.{earlyNumbers, remainingNumbers, startsRule, otherRules, others-numbers, chain-starts}
 
@@ -25,6 +28,65 @@ entry-bytes s i = refl
 
 pub starts-bytes : (n : ℕ) → kind.startsLen n ≡ (n + 1) * 8
 starts-bytes n = refl
+
+-- a section of a kind that is read, so of 0x0200 too, is "raw, unnamed": codec 0 and no name, and no other
+pub raw-alone : (r : Row) → ReadKind (r .kind) → codecGood r ≡ eqb (r .codec) 0
+raw-alone r h = rw (fixed-kinds (r .kind) .1 h)
+
+pub unnamed-alone : (r : Row) → ReadKind (r .kind) → nameGood r ≡ eqb (r .namelen) 0
+unnamed-alone r h = rw (fixed-kinds (r .kind) .1 h) (go (r .namelen))
+  where
+    go : (n : ℕ) → (leb n 63 && eqb n 0) ≡ eqb n 0
+    go zero = refl
+    go (suc n) = rw (ne-eqb (suc n) 0 (λ e. omega arith)) (both (leb (suc n) 63))
+      where
+        both : (b : Bool) → (b && false) ≡ false
+        both true = refl
+        both false = refl
+
+-- whether it is there is the table's word, and where it lies too; the rules of presence do not see it: "lawful at any minor version and any
+-- key count"
+pub starts-there : (f : List ℕ) → (recordOf f .indexed ≡ has 0x0200 (rowsOf (bodyOf f))) × (recordOf f .starts ≡ sectionOf 0x0200 (rowsOf (bodyOf f)))
+unfolding recordOf recordFrom
+starts-there f = (refl, refl)
+
+abbrev without : Framed → Framed
+without x = record {
+  opened = record {
+    keys = x .opened .keys;
+    offsets = x .opened .offsets;
+    partners = x .opened .partners;
+    logs = x .opened .logs;
+    marked = x .opened .marked;
+    dead = x .opened .dead;
+    indexed = false;
+    starts = nowhere;
+    keycount = x .opened .keycount;
+    edgecount = x .opened .edgecount;
+    bits = x .opened .bits;
+  };
+  fenced = x .fenced;
+  fences = x .fences;
+  streams = x .streams;
+}
+
+pub presence-same : (flags : ℕ) (x : Framed) → presenceGood flags x ≡ presenceGood flags (without x)
+unfolding presenceGood
+presence-same flags x = refl
+
+-- 12 and 21 ask its length and no more of it
+pub long-alone : (o : Opened) → o .indexed ≡ true → sizesGood o ≡ (sizesGood (without (record { opened = o; fenced = false; fences = nowhere; streams = false }) .opened) && eqb (o .starts .len) ((o .keycount + 1) * 8))
+unfolding sizesGood
+long-alone o m = rw m (go (leb (o .keycount) kind.mostKeys) (leb (o .edgecount) kind.mostEdges) (eqb (o .keys .len) (kind.keysLen (o .keycount))) (eqb (o .offsets .len) (kind.offsetsLen (o .keycount) (o .bits / 8))) (eqb (o .logs .len) (kind.logsLen (o .edgecount))) (not (o .marked) || eqb (o .dead .len) (kind.tombstonesLen (o .edgecount))) (eqb (o .starts .len) ((o .keycount + 1) * 8)))
+  where
+    go : (a b c d e f g : Bool) → (a && (b && (c && (d && (e && (f && g)))))) ≡ ((a && (b && (c && (d && (e && (f && true)))))) && g)
+    go true true true true true true g = refl
+    go true true true true true false g = refl
+    go true true true true false f g = refl
+    go true true true false e f g = refl
+    go true true false d e f g = refl
+    go true false c d e f g = refl
+    go false b c d e f g = refl
 
 -- s holds the start index of n keys and e edges
 module _ (s : List ℕ) (n e : ℕ) where

@@ -1,10 +1,9 @@
 -- The full check of a file that opens, from the answers of its parts.
 use mathlib.Core.Path.{_≡_, refl, sym, ap, _∙_}
-use Prim.Native.Nat.{ℕ, zero, suc, _+_, _-_, _*_, _/_, _^_, _≤_}
+use Prim.Native.Nat.{ℕ, zero, suc, _+_, _-_, _*_, _/_}
 use native.Mathlib.Omega.{arith}
 use mathlib.Core.List.{List, []}
-use mathlib.Core.Bool.{Bool, true, false, not, _&&_, _||_, Bool·beq}
-use lib.ListN.{length}
+use mathlib.Core.Bool.{Bool, true, false, not, _&&_, Bool·beq}
 use lib.Dec.{eqb}
 use borrow.Author.Tests.{ne-eqb}
 use Rattle.base.specs.Pick.{pick}
@@ -21,7 +20,7 @@ use Rattle.lookup.specs.Lookup.{markAt}
 use Rattle.lookup.specs.Lookup.Laws.{mark-none}
 use Rattle.full_check.specs.declared.groups.Groups.{Groups}
 use Rattle.full_check.specs.declared.marks.Marks.{Marks}
-use Rattle.full_check.specs.Full.{sumsFrom, groupsFrom, degreesFrom, denseFrom, deadFrom, marksOf, dataGood, edgesCheck, fullCheck, groupsTold, groupsSeen, checkedOf}
+use Rattle.full_check.specs.Full.{sumsFrom, deadFrom, marksOf, dataGood, edgesCheck, fullCheck, groupsTold, groupsSeen, checkedOf}
 
 -- ---- tombstones
 

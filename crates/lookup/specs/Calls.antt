@@ -4,7 +4,7 @@ use Prim.Native.Nat.{ℕ, _+_, _*_, _/_, _≤_, _<_}
 use native.Mathlib.Decide.{decLe}
 use native.Mathlib.Omega.{arith}
 use mathlib.Core.List.{List, []}
-use mathlib.Core.Bool.{Bool, true, false, true≢false, not, _&&_, _||_}
+use mathlib.Core.Bool.{Bool, true, false, true≢false, not, _||_}
 use lib.ListN.{length}
 use lib.Dec.{ltb, leb}
 use borrow.Author.Tests.{lt-ltb, le-ltb, le-leb, lt-leb}
@@ -24,7 +24,7 @@ use Rattle.degrees.specs.Degrees.{capped}
 use Rattle.group.specs.Group.{bytesOf}
 use Rattle.lookup.specs.declared.Looked.{Looked}
 use Rattle.lookup.specs.declared.groups.GroupSeen.{GroupSeen}
-use Rattle.lookup.specs.Lookup.{Outcome, found, absent, refused, outcome, Rooms, groupFault, logsFrom, marksFrom, within, firstOf, short, partnersAt, before, lookCheck, lookGroup, onFound, lookIn, lookedOf, partnersLeft, logsLeft, marksLeft}
+use Rattle.lookup.specs.Lookup.{Outcome, found, absent, refused, outcome, Rooms, logsFrom, marksFrom, within, firstOf, short, partnersAt, before, lookCheck, lookGroup, onFound, lookIn, lookedOf, partnersLeft, logsLeft, marksLeft}
 use Rattle.lookup.specs.Groups.{groupSeen, seen-fault, seen-degree, seen-refusal}
 
 -- partners alone lend n bytes

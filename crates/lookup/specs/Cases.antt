@@ -12,14 +12,11 @@ use Rattle.refusal.specs.declared.Refusal.{Refusal}
 use Rattle.frame.specs.declared.Opened.{Opened}
 use Rattle.frame.specs.Frame.{sizesGood}
 use Rattle.frame.specs.Open.{Known, knownOf, recordWithin}
+use Rattle.frame.specs.Cases.{words}
 use Rattle.index.specs.Find.{narrowed, findFrom, findIn}
 use Rattle.degrees.specs.Degrees.{positive, degreeIn, degreeAt, plus, edgesBefore, startOf}
 use Rattle.group.specs.Group.{onVarint, splitStep, denseStep, stepAt, onStep, cons, walkFrom, degreeOf, headOf, onHead, groupOf, partnersOf}
-use Rattle.lookup.specs.Lookup.{Outcome, found, refused, outcome, Rooms, groupCheck, groupFault, before, within, firstOf, logsFrom, marksFrom, short, lookCheck, lookGroup, onFound, lookIn, lookWith}
-
-abbrev words : List ℕ → List ℕ
-words [] = []
-words (x ∷ xs) = leBytes 8 x ++ words xs
+use Rattle.lookup.specs.Lookup.{Outcome, found, refused, outcome, groupCheck, groupFault, before, within, firstOf, logsFrom, marksFrom, short, lookCheck, lookGroup, onFound, lookIn, lookWith}
 
 -- what is known, by the degree's byte of the first group, the edge count, whether there is a start index, and its entries
 unfoldable pub knownBy : ℕ → ℕ → Bool → List ℕ → Known

@@ -1,7 +1,7 @@
 -- A lookup, as a function of what is known of a file: the bytes of the known sections, the counts, the offset bits.
 use Prim.Native.Nat.{ℕ, zero, suc, _+_, _*_, _/_, _%_, _^_}
 use mathlib.Core.List.{List, [], _∷_}
-use mathlib.Core.Bool.{Bool, true, false, not, _&&_, _||_}
+use mathlib.Core.Bool.{Bool, false, not, _&&_, _||_}
 use lib.ListN.{length, getD}
 use lib.Dec.{ltb, leb}
 use Rattle.base.specs.Pick.{pick}

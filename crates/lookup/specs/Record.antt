@@ -1,6 +1,6 @@
 -- What rule 21 gives a lookup: ranges that lie within the file, and lengths that the counts give.
 use mathlib.Core.Path.{_≡_}
-use Prim.Native.Nat.{ℕ, _+_, _*_, _/_, _≤_}
+use Prim.Native.Nat.{ℕ, _+_, _/_, _≤_}
 use native.Mathlib.Omega.{arith}
 use mathlib.Core.List.{List}
 use mathlib.Core.Bool.{true}
@@ -10,7 +10,7 @@ use Rattle.frame.specs.declared.Range.{Range}
 use Rattle.frame.specs.declared.Opened.{Opened}
 use Rattle.frame.specs.Kind as kind
 use Rattle.frame.specs.Open.{recordGood, bytesAt}
-use Rattle.frame.specs.Open.Laws.{Recorded, recorded-parts, width-bytes}
+use Rattle.frame.specs.Open.Laws.{recorded-parts, width-bytes}
 
 pub record Holds (f : List ℕ) (o : Opened) : Type 0 where
   pub size : length f ≤ kind.mostBytes

@@ -1,5 +1,5 @@
 -- Document 01's twelve marked cases, one table, computed through the definitions.
-use mathlib.Core.Path.{_≡_, refl, sym, ap, _∙_}
+use mathlib.Core.Path.{_≡_, refl, ap, _∙_}
 use Prim.Native.Nat.{ℕ, zero, suc, _+_, _-_, _*_, _^_}
 use mathlib.Core.List.{List, [], _∷_, _++_}
 use mathlib.Core.Bool.{Bool, true, false, _||_}
@@ -16,7 +16,7 @@ use Rattle.refusal.specs.declared.Refusal.{Refusal}
 use Rattle.refusal.specs.declared.Check.{Check}
 use Rattle.frame.specs.Layout.{headBytes, payload, entry, entries, bodyBytes, trailer, layOut}
 use Rattle.frame.specs.Cases.{ids, headingOnly, oneEdge}
-use Rattle.group.specs.Group.{Decoded, good, onVarint, splitStep, denseStep, stepAt, onStep, cons, walkFrom, degreeOf, headOf, onHead, groupOf, bytesOf}
+use Rattle.group.specs.Group.{good, onVarint, splitStep, denseStep, stepAt, onStep, cons, walkFrom, degreeOf, headOf, onHead, groupOf, bytesOf}
 use Rattle.group.specs.Written.{splitFrom, splitBytes, denseBytes}
 use Rattle.lookup.specs.Lookup.{groupCheck}
 use Rattle.batch.specs.Batch.{headingOf, edgeAt, edgesAt, edgesOf, before, inOrder, faultFrom, headed, batchCheck, partnersIn, logsIn, marksIn}

@@ -1,6 +1,6 @@
 -- The start index: when opening refuses it, what a lookup takes from it, and that it does not show in a file that passes the full
 -- check.
-use mathlib.Core.Path.{_≡_, refl, sym, ap, _∙_}
+use mathlib.Core.Path.{_≡_, refl, sym, _∙_}
 use mathlib.Core.Logic.{_↔_, _⊎_, Iff·trans}
 use Prim.Native.Nat.{ℕ, _+_, _/_, _≤_, _<_}
 use native.Mathlib.Omega.{arith}
@@ -12,8 +12,9 @@ use Rattle.refusal.specs.declared.Refusal.{Refusal}
 use Rattle.refusal.specs.declared.Check.{Check}
 use Rattle.frame.specs.declared.Range.{Range}
 use Rattle.frame.specs.declared.Opened.{Opened}
-use Rattle.frame.specs.Frame.{recordOf}
-use Rattle.frame.specs.Open.{Known, knownOf, bytesAt, startAt, recordGood}
+use Rattle.refusal.specs.Check.Laws.{fine-parts, fine-both}
+use Rattle.frame.specs.Frame.{rowsOf, bodyOf, flagsOf, recordOf}
+use Rattle.frame.specs.Open.{Known, knownOf, bytesAt, startAt, recordGood, fileCheck}
 use Rattle.frame.specs.Open.Laws.{Recorded, recorded-parts, recorded-made}
 use Rattle.frame.specs.Starts.{StartAt, starts-exactly}
 use Rattle.group.specs.Group.{isGood, groupOf, partnersOf}
@@ -24,7 +25,7 @@ use Rattle.lookup.specs.Starts.{unlike-exactly, SameGroup, SameBut, no-other, t
 use Rattle.reader.specs.Look.{with-bad, with-good}
 use Rattle.index.specs.declared.keys.Found.{Found}
 use Rattle.index.specs.Find.{findIn}
-use Rattle.full_check.specs.Full.{degreesFrom, edgesCheck, fullCheck}
+use Rattle.full_check.specs.Full.{sumsFrom, degreesFrom, edgesCheck, fullCheck}
 use Rattle.full_check.specs.Starts.{hidden, edges-exactly}
 use Rattle.agreement.specs.SameEdges.{unindexed}
 use Rattle.agreement.specs.Index.{same-without}
@@ -55,6 +56,9 @@ pub record StartIndex : Type 0 where
   pub summed : (k : Known) → k .indexed ≡ false → (i d : ℕ) → before k i d ≡ edgesBefore (k .partners) (k .offsets) (k .bits / 8) i
   -- 21 exactly where the record's numbers, those of a start index that it says is there among them, do not fit the file
   pub record-told : (full : Bool) (rooms : Rooms) (key : ℕ) (f : List ℕ) (o : Opened) → Gives refused (lookWith full rooms key f o) 21 0 0 ↔ (Recorded (length f) o → ⊥)
+  -- a file passes the full check exactly if it opens, its sums are right and its edges pass
+  pub passes : (f : List ℕ)
+      → (fullCheck f ≡ Check.Fine) ↔ ((fileCheck f ≡ Check.Fine) × (sumsFrom f (rowsOf (bodyOf f)) 0 ≡ Check.Fine) × (edgesCheck (flagsOf f) (knownOf f (recordOf f)) ≡ Check.Fine))
   -- 23: the edges of a file pass the full check exactly if they pass without the start index, and each entry says how many edges stand
   -- before its group
   pub checked : (flags : ℕ) (k : Known)
@@ -96,6 +100,14 @@ record-here full rooms key f o = Iff·trans (gives-is refused (lookWith full roo
     back true g un = absurd (un (recorded-parts (length f) o g))
     back false g un = with-bad full rooms key f o g
 
+passes-here : (f : List ℕ)
+    → (fullCheck f ≡ Check.Fine) ↔ ((fileCheck f ≡ Check.Fine) × (sumsFrom f (rowsOf (bodyOf f)) 0 ≡ Check.Fine) × (edgesCheck (flagsOf f) (knownOf f (recordOf f)) ≡ Check.Fine))
+unfolding fullCheck
+passes-here f = (
+  λ e. let a = fine-parts (fileCheck f) _ e in let b = fine-parts (sumsFrom f (rowsOf (bodyOf f)) 0) _ (a .1) in (a .0, b .0, b .1),
+  λ h. fine-both (h .0) (fine-both (h .1) (h .2)),
+)
+
 pub start-index-kept : StartIndex
 start-index-kept = record {
   unlike = unlike-here;
@@ -103,6 +115,7 @@ start-index-kept = record {
   own = known-starts;
   summed = summed-there;
   record-told = record-here;
+  passes = passes-here;
   checked = edges-exactly;
   alone = λ k j a b s full rooms key same. no-other full rooms k j a b s key same;
   unseen = same-without;

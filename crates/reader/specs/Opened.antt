@@ -1,6 +1,6 @@
 -- What holds of every file that opens.
-use mathlib.Core.Path.{_≡_, refl, sym, ap, _∙_}
-use Prim.Native.Nat.{ℕ, suc, _+_, _-_, _*_, _/_, _^_, _≤_, _<_}
+use mathlib.Core.Path.{_≡_}
+use Prim.Native.Nat.{ℕ, _+_, _-_, _/_, _≤_}
 use native.Mathlib.Omega.{arith}
 use mathlib.Core.List.{List}
 use mathlib.Core.Bool.{true}
@@ -10,7 +10,7 @@ use Rattle.frame.specs.declared.Opening.{Opening}
 use Rattle.frame.specs.Kind as kind
 use Rattle.frame.specs.Frame.{sectionOf, rowsOf, bodyOf}
 use Rattle.frame.specs.Open.{recordFrom, recordOf, bytesAt, recordGood, openOf}
-use Rattle.frame.specs.Open.Laws.{Opens, Frames, opens-parts, opens-record, size-parts, frames-sized, frames-width, frames-within, recorded-made}
+use Rattle.frame.specs.Open.Laws.{Opens, opens-parts, opens-record, size-parts, frames-sized, frames-width, frames-within, recorded-made}
 use Rattle.index.specs.Order.{KeysRise, keys-rise, OffsetsRise, offsets-rise}
 
 module _ (f : List ℕ) (o : Opened) (op : openOf f ≡ Opening.Good o) where

@@ -1,5 +1,5 @@
 -- `degrees::start_of` meets its contract.
-use mathlib.Core.Path.{_≡_, sym, ap, _∙_}
+use mathlib.Core.Path.{sym, ap, _∙_}
 use Rattle.degrees.specs.declared.Sum.{Sum}
 use Rattle.degrees.specs.Degrees.Laws.{start-over, start-unlike, start-told}
 use native.Mathlib.Omega.{arith}

@@ -1,11 +1,10 @@
 -- The full check by its ways out, as the code meets them.
 use mathlib.Core.Path.{_≡_, refl, sym, ap, ap₂, _∙_}
-use Prim.Native.Nat.{ℕ, zero, suc, _+_, _-_, _*_, _≤_, _<_}
+use Prim.Native.Nat.{ℕ, zero, suc, _+_, _-_, _≤_, _<_}
 use native.Mathlib.Nat.{sub-zero, add-zero, zero-add}
-use native.Mathlib.Numerals.{add-one}
 use native.Mathlib.Omega.{arith}
 use mathlib.Core.List.{List, [], _∷_}
-use mathlib.Core.Bool.{Bool, true, false, not, _&&_, _||_, Bool·beq}
+use mathlib.Core.Bool.{Bool, true, false, not, _&&_, _||_}
 use lib.ListN.{length}
 use lib.Dec.{eqb, leb}
 use borrow.Author.Tests.{eq-eqb, ne-eqb, leb-true}
@@ -15,16 +14,15 @@ use Rattle.refusal.specs.Check.Laws.{pick-fine, and-parts}
 use Rattle.frame.specs.declared.Row.{Row}
 use Rattle.frame.specs.Kind as kind
 use Rattle.frame.specs.Frame.{rowAt, rowsFrom, endFrom, rowsOf, footLen, bodyOf, rangeOf, rangeGood, ranges}
-use Rattle.frame.specs.Frame.Laws.{Table, rows-on, end-on, rows-none}
+use Rattle.frame.specs.Frame.Laws.{rows-on, end-on, rows-none}
 use Rattle.frame.specs.Open.Laws.{Frames}
 use Rattle.base.specs.Over.{part, length-part}
 use Rattle.codes.specs.declared.ids.Id.{Id}
 use Rattle.refusal.specs.declared.Refusal.{Refusal}
 use Rattle.refusal.specs.declared.Check.{Check}
-use Rattle.refusal.specs.Check.{_⊳_, refuse}
+use Rattle.refusal.specs.Check.{_⊳_}
 use Rattle.frame.specs.Open.{bytesAt, offsetAt, startAt}
 use Rattle.index.specs.Order.{OffsetsRise}
-use Rattle.degrees.specs.Degrees.{groupAt}
 use Rattle.group.specs.declared.GroupVerdict.{GroupVerdict}
 use Rattle.group.specs.declared.fault.Fault.{Fault}
 use Rattle.group.specs.Fault.{refusalOf}

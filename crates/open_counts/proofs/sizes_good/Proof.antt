@@ -1,9 +1,9 @@
 -- `counts::sizes_good` meets its contract.
-use mathlib.Core.Path.{_≡_, sym, ap, _∙_}
-use Prim.Native.Nat.{ℕ, _+_, _*_, _/_, _≤_, _<_}
-use mathlib.Core.Bool.{true, false, not, _&&_, _||_}
+use mathlib.Core.Path.{_≡_, sym, _∙_}
+use Prim.Native.Nat.{_/_, _≤_, _<_}
+use mathlib.Core.Bool.{false, not, _&&_, _||_}
 use lib.Dec.{eqb}
-use borrow.Author.Tests.{le-leb, lt-leb, eq-eqb, ne-eqb, not-true, not-false}
+use borrow.Author.Tests.{le-leb, lt-leb, eq-eqb, ne-eqb}
 use Rattle.frame.specs.declared.Opened.{Opened}
 use Rattle.frame.specs.Kind as kind
 use Rattle.frame.specs.Frame.{sizesGood}

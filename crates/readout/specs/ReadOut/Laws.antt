@@ -1,8 +1,7 @@
 -- The read-out by its ways out.
 use mathlib.Core.Path.{_≡_, refl, sym, ap, ap₂, _∙_}
 use mathlib.Core.Logic.{_↔_}
-use Prim.Native.Nat.{ℕ, suc, _+_, _-_, _*_, _/_, _%_, _≤_, _<_}
-use native.Mathlib.Nat.{zero-add}
+use Prim.Native.Nat.{ℕ, suc, _+_, _-_, _*_, _/_, _≤_, _<_}
 use native.Mathlib.Omega.{arith}
 use mathlib.Core.List.{List, [], _++_}
 use mathlib.Core.Bool.{Bool, true, false, not, _&&_, Bool·beq}
@@ -21,13 +20,12 @@ use Rattle.refusal.specs.Check.Laws.{fine-parts, good-parts, and-parts, bad-the
 use Rattle.frame.specs.declared.Opened.{Opened}
 use Rattle.frame.specs.declared.Opening.{Opening}
 use Rattle.frame.specs.Frame.{rowsOf, flag, bodyOf, recordOf}
-use Rattle.frame.specs.Open.{Known, knownOf, bytesAt, startAt, openOf, opening, fileCheck}
+use Rattle.frame.specs.Open.{knownOf, bytesAt, startAt, openOf}
 use Rattle.frame.specs.Open.Laws.{opens-parts, size-parts, opens-record}
-use Rattle.lookup.specs.Record.{Holds}
 use Rattle.reader.specs.Opened.{opened-offsets}
 use Rattle.reader.specs.Look.{opened-holds}
 use Rattle.batch.specs.declared.Edge.{Edge}
-use Rattle.batch.specs.Batch.{Heading, headingBytes, recordsOf, batchBytes}
+use Rattle.batch.specs.Batch.{headingBytes, recordsOf, batchBytes}
 use Rattle.batch.specs.Batch.Laws.{length-records}
 use Rattle.full_check.specs.Full.{sumsFrom, groupsFrom, degreesFrom, marksOf, dataGood, strayIn, edgesCheck, fullCheck, checkedOf}
 use Rattle.full_check.specs.Starts.{stray-none}

@@ -1,5 +1,5 @@
 -- `full_check::data::edges_check` meets its contract.
-use mathlib.Core.Path.{_≡_, sym, _∙_}
+use mathlib.Core.Path.{sym, _∙_}
 use lib.ListN.{length}
 use Rattle.frame.specs.Frame.{flagsOf}
 use Rattle.frame.specs.Open.Laws.{opens-parts, size-parts}

@@ -1,10 +1,6 @@
 -- `full_check::data::groups_in` meets its contract.
-use mathlib.Core.Path.{_≡_, sym, _∙_}
-use Prim.Native.Nat.{ℕ, _/_}
-use mathlib.Core.List.{List, []}
-use lib.ListN.{length}
-use Rattle.base.specs.Pick.{pick}
-use Rattle.frame.specs.Open.{bytesAt}
+use mathlib.Core.Path.{_∙_}
+use Prim.Native.Nat.{_/_}
 use Rattle.reader.specs.Opened.{opened-offsets}
 use Rattle.reader.specs.Look.{opened-holds}
 use Rattle.full_check.specs.Full.{groupsSeen}

@@ -1,5 +1,5 @@
 -- `full_check::data::starts_in` meets its contract.
-use mathlib.Core.Path.{_≡_, refl}
+use mathlib.Core.Path.{refl}
 use Rattle.reader.specs.Look.{opened-holds}
 use borrow.Author.Needs.{needs}
 use Rattle.full_check.proofs.data.starts_in.Statement.{statement}

@@ -1,6 +1,6 @@
 -- `full_check::groups::groups_of` meets its contract. Invariant: `Walk`, of the groups that are passed.
-use mathlib.Core.Path.{_≡_, sym, ap, _∙_}
-use mathlib.Core.Bool.{Bool, false, _||_}
+use mathlib.Core.Path.{sym, ap, _∙_}
+use mathlib.Core.Bool.{Bool, _||_}
 use Prim.Native.Nat.{_+_, _-_, _*_, _≤_}
 use native.Mathlib.Nat.{mul-le-mul-right}
 use Rattle.full_check.specs.declared.groups.Groups.{Groups}

@@ -1,7 +1,7 @@
 -- `index::starts::starts_check` meets its contract. Invariant: `last` is entry i, it rises, and what is left to check from i on gives the whole.
 use mathlib.Core.Path.{_≡_, _∙_, sym}
-use Prim.Native.Nat.{_+_, _-_, _*_, _≤_}
-use native.Mathlib.Nat.{sub-zero, mul-le-mul-right}
+use Prim.Native.Nat.{_+_, _-_, _≤_}
+use native.Mathlib.Nat.{sub-zero}
 use native.Mathlib.Omega.{arith}
 use mathlib.Core.Bool.{true, false}
 use borrow.Author.Tests.{eq-eqb, ne-eqb}

@@ -1,5 +1,4 @@
 -- `reader::look::inside_if` meets its contract.
-use mathlib.Core.Path.{_≡_, sym, _∙_}
 use borrow.Author.Tests.{not-true, not-false}
 use borrow.Author.Needs.{needs}
 use Rattle.reader.proofs.look.inside_if.Statement.{statement}

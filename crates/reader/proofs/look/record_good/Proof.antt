@@ -1,5 +1,5 @@
 -- `reader::look::record_good` meets its contract.
-use mathlib.Core.Path.{_≡_, refl, sym, ap, _∙_}
+use mathlib.Core.Path.{_≡_, sym, _∙_}
 use Prim.Native.Nat.{ℕ, _≤_, _<_}
 use mathlib.Core.Bool.{true, false}
 use borrow.Author.Tests.{le-leb, lt-leb, not-true, not-false}

@@ -1,5 +1,5 @@
 -- `reader::open::content_of` meets its contract.
-use mathlib.Core.Path.{_≡_, sym, ap, _∙_}
+use mathlib.Core.Path.{sym, ap, _∙_}
 use lib.ListN.{length}
 use Rattle.base.specs.Over.{length-part}
 use Rattle.refusal.specs.Check.Laws.{bad-then, fine-then}

@@ -1,6 +1,5 @@
 -- `reader::open::index_check` meets its contract.
-use mathlib.Core.Path.{_≡_, refl, sym, ap, _∙_}
-use Prim.Native.Nat.{_+_}
+use mathlib.Core.Path.{sym, _∙_}
 use Rattle.refusal.specs.Check.Laws.{bad-then, fine-then}
 use Rattle.frame.specs.Open.{offsetsCheck}
 use Rattle.reader.proofs.open.index_check.Statement.{statement}
