@@ -1,8 +1,8 @@
 -- Demand 3, in one statement: "For every file that opens, take those sections away and set the minor version to 0, mending
 -- offsets, lengths and checksums: the copy opens too, and with equal room every key gets the same answer from both, refusals
 -- and places included." "Demand 3 now speaks of added sections outside the range only": those of unknown kinds (`kind.unknown`),
--- which the reserved range is no part of, nor is kind 0x0200: it is kept, and where it is present the copy has minor 1. And the other way: a later writer's file, with such sections and any minor version, opens where that
--- copy does.
+-- which the reserved range is no part of, nor is kind 0x0200: it is kept, and where it is present the copy has minor 1. And the
+-- other way: a later writer's file, with such sections and any minor version, opens where that copy does.
 use mathlib.Core.Path.{_≡_, sym, ap, _∙_}
 use mathlib.Core.Logic.{_↔_}
 use Prim.Native.Nat.{ℕ}

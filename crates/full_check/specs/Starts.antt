@@ -11,7 +11,8 @@ use lib.Dec.{eqb}
 use borrow.Author.Tests.{eqb-true, eq-eqb, not-false}
 use Rattle.refusal.specs.declared.Refusal.{Refusal}
 use Rattle.refusal.specs.declared.Check.{Check}
-use Rattle.refusal.specs.Check.Laws.{fine-parts, fine-both, good-parts, good-fine}
+use Rattle.refusal.specs.Check.{refuse}
+use Rattle.refusal.specs.Check.Laws.{fine-parts, fine-both, fine-then, good-parts, good-fine}
 use Rattle.frame.specs.Frame.{flag}
 use Rattle.frame.specs.Open.{Known, startAt}
 use Rattle.group.specs.Group.{partnersOf}
@@ -124,3 +125,14 @@ edges-exactly flags k =
           let x = fine-parts groups _ (h .0) in
           fine-both (x .0) (good-fine Refusal.Data (d .1 (good-parts Refusal.Data _ (x .1), stray-exactly k .1 (h .1)))),
     )
+
+-- and a stray entry, where all groups are good, is told by 23
+pub stray-told : (flags : ℕ) (k : Known) → groupsFrom (k .partners) (k .offsets) (k .bits / 8) (k .keycount) 0 ≡ Check.Fine → strayIn k ≡ true → edgesCheck flags k ≡ Check.Bad Refusal.Data
+unfolding edgesCheck
+stray-told flags k fine e =
+    fine-then _ fine ∙ go (dataGood flags (k .edgecount) (k .dead) (degreesFrom (k .partners) (k .offsets) (k .bits / 8) (k .keycount) 0) (denseFrom (k .partners) (k .offsets) (k .bits / 8) (k .keycount) 0) (strayIn k)) refl
+  where
+    go : (b : Bool) → dataGood flags (k .edgecount) (k .dead) (degreesFrom (k .partners) (k .offsets) (k .bits / 8) (k .keycount) 0) (denseFrom (k .partners) (k .offsets) (k .bits / 8) (k .keycount) 0) (strayIn k) ≡ b
+        → refuse Refusal.Data (not b) ≡ Check.Bad Refusal.Data
+    go true g = let x = data-by flags (k .edgecount) (k .dead) (degreesFrom (k .partners) (k .offsets) (k .bits / 8) (k .keycount) 0) (denseFrom (k .partners) (k .offsets) (k .bits / 8) (k .keycount) 0) (strayIn k) .0 g .1 in let z : _≡_ {A = ℕ} 0 1 = cc (e, x) in absurd (omega arith)
+    go false g = refl

@@ -70,7 +70,7 @@ pub by-starts :
 unfolding knownBy leAt leBytes beAt idAt halvesAt order lastByte varFrom varintAt narrowed findFrom findIn positive degreeIn degreeAt plus edgesBefore startOf onVarint splitStep denseStep stepAt onStep cons walkFrom degreeOf headOf onHead groupOf partnersOf outcome groupCheck groupFault before within firstOf logsFrom marksFrom short lookCheck lookGroup onFound lookIn
 by-starts = (refl, refl, refl, refl, refl, refl, refl, refl, refl, refl, refl, refl, refl, refl, refl, refl, refl, refl)
 
--- ---- by a record: the same sections one after the other in a file of 131 bytes, with the entries last
+-- ---- by a record: the same sections one after the other in a file of 137 bytes, with the entries last
 
 unfoldable pub fileWith : List ℕ → List ℕ
 fileWith entries =

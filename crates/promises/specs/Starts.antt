@@ -14,19 +14,20 @@ use Rattle.frame.specs.declared.Range.{Range}
 use Rattle.frame.specs.declared.Opened.{Opened}
 use Rattle.refusal.specs.Check.Laws.{fine-parts, fine-both}
 use Rattle.frame.specs.Frame.{rowsOf, bodyOf, flagsOf, recordOf}
-use Rattle.frame.specs.Open.{Known, knownOf, bytesAt, startAt, recordGood, fileCheck}
+use Rattle.frame.specs.declared.Opening.{Opening}
+use Rattle.frame.specs.Open.{Known, knownOf, bytesAt, startAt, recordGood, fileCheck, openOf}
 use Rattle.frame.specs.Open.Laws.{Recorded, recorded-parts, recorded-made}
 use Rattle.frame.specs.Starts.{StartAt, starts-exactly}
 use Rattle.group.specs.Group.{isGood, groupOf, partnersOf}
 use Rattle.degrees.specs.Degrees.{edgesBefore}
-use Rattle.lookup.specs.Lookup.{found, refused, Rooms, before, logsFrom, marksFrom, lookIn, lookWith}
+use Rattle.lookup.specs.Lookup.{found, refused, Rooms, before, logsFrom, marksFrom, lookIn, lookWith, lookOf}
 use Rattle.lookup.specs.Given.{GroupIn, look-numbers, look-unplaced}
 use Rattle.lookup.specs.Starts.{unlike-exactly, SameGroup, SameBut, no-other, taken, known-starts, summed-there}
-use Rattle.reader.specs.Look.{with-bad, with-good}
+use Rattle.reader.specs.Look.{with-bad, with-good, of-good}
 use Rattle.index.specs.declared.keys.Found.{Found}
 use Rattle.index.specs.Find.{findIn}
-use Rattle.full_check.specs.Full.{sumsFrom, degreesFrom, edgesCheck, fullCheck}
-use Rattle.full_check.specs.Starts.{hidden, edges-exactly}
+use Rattle.full_check.specs.Full.{sumsFrom, groupsFrom, degreesFrom, strayIn, edgesCheck, fullCheck}
+use Rattle.full_check.specs.Starts.{hidden, edges-exactly, stray-told}
 use Rattle.agreement.specs.SameEdges.{unindexed}
 use Rattle.agreement.specs.Index.{same-without}
 use Rattle.promises.specs.Given.{Gives, gives-is, Every, every}
@@ -51,6 +52,9 @@ pub record StartIndex : Type 0 where
   -- "A lookup takes its start there": log numbers and marks of an answer are those from the group's own entry on
   pub taken : (k : Known) → k .indexed ≡ true → (rooms : Rooms) (key : ℕ) {i c : ℕ} {ps : List Id} {ls ms : List ℕ} → lookIn true rooms k key ≡ found i c ps ls ms
       → (ls ≡ logsFrom (length ps) (k .logs) (startAt (k .starts) i)) × (ms ≡ marksFrom (length ps) (k .dead) (startAt (k .starts) i))
+  -- what a lookup is by a record that fits, and of a file that opens: the lookup in what is known by that record
+  pub record-looks : (full : Bool) (rooms : Rooms) (key : ℕ) (f : List ℕ) (o : Opened) → recordGood f o ≡ true → lookWith full rooms key f o ≡ lookIn full rooms (knownOf f o) key
+  pub file-looks : (full : Bool) (rooms : Rooms) (key : ℕ) (f : List ℕ) (o : Opened) → openOf f ≡ Opening.Good o → lookOf full rooms key f ≡ lookIn full rooms (knownOf f o) key
   -- what is known of the start index is the record's own; without it, the earlier degrees are summed
   pub own : (f : List ℕ) (o : Opened) → (knownOf f o .indexed ≡ o .indexed) × (o .indexed ≡ true → knownOf f o .starts ≡ bytesAt f (o .starts))
   pub summed : (k : Known) → k .indexed ≡ false → (i d : ℕ) → before k i d ≡ edgesBefore (k .partners) (k .offsets) (k .bits / 8) i
@@ -65,6 +69,8 @@ pub record StartIndex : Type 0 where
       → (edgesCheck flags k ≡ Check.Fine)
       ↔ ((edgesCheck flags (hidden k) ≡ Check.Fine)
       × (k .indexed ≡ true → (j : ℕ) → j ≤ k .keycount → startAt (k .starts) j ≡ degreesFrom (k .partners) (k .offsets) (k .bits / 8) j 0))
+  -- and by no other number: where all groups are good, an entry that is not as the degrees is 23
+  pub stray : (flags : ℕ) (k : Known) → groupsFrom (k .partners) (k .offsets) (k .bits / 8) (k .keycount) 0 ≡ Check.Fine → strayIn k ≡ true → edgesCheck flags k ≡ Check.Bad Refusal.Data
   -- "With the index in the record the earlier degrees are not read at all": what stands in other groups changes nothing
   pub alone : (k j : Known) → k .indexed ≡ true → j .indexed ≡ true → SameBut k j → (full : Bool) (rooms : Rooms) (key : ℕ)
       → ((i c : ℕ) → findIn (k .keys) (k .keycount) key ≡ Found.At i c → SameGroup k j i) → lookIn full rooms k key ≡ lookIn full rooms j key
@@ -112,11 +118,14 @@ pub start-index-kept : StartIndex
 start-index-kept = record {
   unlike = unlike-here;
   taken = λ k there rooms key e. taken rooms k there key e;
+  record-looks = with-good;
+  file-looks = of-good;
   own = known-starts;
   summed = summed-there;
   record-told = record-here;
   passes = passes-here;
   checked = edges-exactly;
+  stray = stray-told;
   alone = λ k j a b s full rooms key same. no-other full rooms k j a b s key same;
   unseen = same-without;
 }
