@@ -32,11 +32,6 @@
  *   edge_sst_lookup           those of edge_sst_open, the group's, 19, 20
  *   edge_sst_partners_with    21, 14, the group's, 20
  *   edge_sst_lookup_with      21, 14, the group's, 19, 20
- *   edge_sst_fetch_begin      1, 38, 38, 2 to 7, 38, 8, 9, 36, 10 to 12
- *   edge_sst_fetch_fences     21, 38, 15
- *   edge_sst_fetch_keys       21, 38
- *   edge_sst_fetch_offsets    21, 38, 14
- *   edge_sst_fetch_group      21, 38, the group's, 20
  *   edge_sst_check            those of edge_sst_open, 22, each group's, 23
  *   edge_sst_read_out         those of edge_sst_check, 20
  *   edge_sst_summary          those of edge_sst_check
@@ -54,8 +49,7 @@
  *   10, 11, 22, 36            the entry of the section table, skipped kinds counted
  *   13                        the key that is not above the one before
  *   14                        the offset, of key count plus one; from the lookups by a
- *                             record and from edge_sst_fetch_offsets the group, whose
- *                             offsets fall or leave the partners (in a fetch: also equal)
+ *                             record the group, whose offsets fall or leave the partners
  *   16, 28 to 35              the byte in the group, counted from the group's first;
  *                             beside: the group, which is the index of its key.
  *                             16: the tag. 28, 30, 33 to 35: the varint. 29: the later
@@ -72,7 +66,6 @@
  *                             short. Section list: rows. Read-out and writer: bytes
  *   24, 25                    the first byte of the record in the batch
  *   37                        the entry of the start index, of key count plus one
- *   38                        the bytes wanted in all, not those that are missing
  *   all others                0 */
 #ifndef EDGE_SST_H
 #define EDGE_SST_H
@@ -93,11 +86,11 @@ extern "C" {
  * and rows lie back to back, an archive goes with the header of its own version and no
  * other. */
 #define EDGE_SST_VERSION_MAJOR 0
-#define EDGE_SST_VERSION_MINOR 6
+#define EDGE_SST_VERSION_MINOR 5
 #define EDGE_SST_VERSION_PATCH 0
 #define EDGE_SST_VERSION \
     (10000 * EDGE_SST_VERSION_MAJOR + 100 * EDGE_SST_VERSION_MINOR + EDGE_SST_VERSION_PATCH)
-#define EDGE_SST_VERSION_TEXT "0.6.0"
+#define EDGE_SST_VERSION_TEXT "0.5.0"
 
 /* Bytes of a key and of a partner. They compare as 16 bytes from the first. */
 #define EDGE_SST_KEY_BYTES 16
@@ -125,13 +118,6 @@ extern "C" {
 #define EDGE_SST_MOST_SECTIONS 64
 #define EDGE_SST_MOST_NAME 63
 #define EDGE_SST_MOST_COMPARED 25
-#define EDGE_SST_MOST_FETCH_COMPARED 26
-
-/* Bytes of the header, which begins a file, and of the trailer, which ends it. A footer, the
- * trailer with it, has at most EDGE_SST_MOST_FOOTER bytes in a file that opens. */
-#define EDGE_SST_HEADER_BYTES 64
-#define EDGE_SST_TRAILER_BYTES 20
-#define EDGE_SST_MOST_FOOTER 5863
 
 /* Flag bits of a header. Every other bit is 0. */
 #define EDGE_SST_FLAG_PROPERTIES 1
@@ -193,7 +179,6 @@ enum {
     EDGE_SST_VARINT_LARGE,
     EDGE_SST_RESERVED,
     EDGE_SST_START,
-    EDGE_SST_WANTED,
     /* numbers: to here */
 };
 
@@ -239,7 +224,6 @@ static inline const char *edge_sst_text(uint64_t number) {
         "varint too large",
         "a section of a reserved kind",
         "start index entry",
-        "fetched bytes fewer than wanted",
         /* texts: to here */
     };
     return number < sizeof texts / sizeof texts[0] ? texts[number] : "unknown refusal";
@@ -330,75 +314,6 @@ EdgeSstLooked edge_sst_lookup_with(const uint8_t *p, size_t n, const EdgeSstOpen
 /* The same of the n bytes at p, which are opened first. */
 EdgeSstLooked edge_sst_lookup(const uint8_t *p, size_t n, const uint8_t key[16], uint8_t *out,
                               size_t m, uint64_t *logs, size_t l, uint8_t *marks, size_t k);
-
-/* Fetching only what is needed: the partners of a key of a file that lies elsewhere, step
- * by step. Each step is lent what the one before gave and the bytes that were fetched, and
- * gives what to fetch next:
- *
- *   edge_sst_fetch_begin      EDGE_SST_NEXT_FENCES, or without fences EDGE_SST_NEXT_KEYS
- *   edge_sst_fetch_fences     EDGE_SST_NEXT_KEYS: one window of keys
- *   edge_sst_fetch_keys       EDGE_SST_NEXT_OFFSETS: the two offsets of the key's group
- *   edge_sst_fetch_offsets    EDGE_SST_NEXT_GROUP: the group
- *   edge_sst_fetch_group      the partners
- *
- * For a file that opens, the last step's answer, absence or refusal is that of
- * edge_sst_partners, but for the count of keys compared. A file of which some rule of
- * opening fails that the bytes fetched do not show may be answered. */
-enum {
-    EDGE_SST_NEXT_NOTHING = 0,
-    EDGE_SST_NEXT_FENCES,
-    EDGE_SST_NEXT_KEYS,
-    EDGE_SST_NEXT_OFFSETS,
-    EDGE_SST_NEXT_GROUP
-};
-
-/* What a step gives. next says what to fetch, the len bytes from byte start of the file on,
- * and which step is lent them with this struct. Where number and next are 0 the key is
- * absent. compared counts the keys or fences that this step compared; of a whole fetch they
- * are together at most EDGE_SST_MOST_FETCH_COMPARED.
- *
- * Of what a step is lent it looks at size and what stands after it, and there only at what
- * it needs: the window (first, count) is that of edge_sst_fetch_keys, index that of
- * edge_sst_fetch_offsets, and index, from and to are those of edge_sst_fetch_group. fenced
- * other than 0 is 1; without fences their range is not looked at. Any numbers may be lent:
- * those that no file of that size has are refusal 21, which is asked first. Then 38: fewer
- * bytes are lent than the step asked for. Longer ones are taken from their front, the tail
- * of edge_sst_fetch_begin from its end. */
-typedef struct {
-    uint64_t number, place, beside;
-    uint64_t next, start, len, compared;
-    uint64_t size;
-    uint64_t keystart, keylen;
-    uint64_t offsetstart, offsetlen;
-    uint64_t partnerstart, partnerlen;
-    uint64_t fencestart, fencelen, fenced;
-    uint64_t keycount, bits;
-    uint64_t first, count;
-    uint64_t index;
-    uint64_t from, to;
-} EdgeSstFetch;
-
-/* The first step: the file's size, its first bytes (at least EDGE_SST_HEADER_BYTES) and its
- * last ones (at least EDGE_SST_TRAILER_BYTES; 38 then tells the footer's length, and so many
- * are to be lent). Nothing is asked of a key: what it gives serves any number of keys. */
-EdgeSstFetch edge_sst_fetch_begin(uint64_t size, const uint8_t *head, size_t n,
-                                  const uint8_t *tail, size_t m);
-
-/* The fences, of which the last at or below the key opens the window. */
-EdgeSstFetch edge_sst_fetch_fences(const EdgeSstFetch *state, const uint8_t *p, size_t n,
-                                   const uint8_t key[16]);
-
-/* The keys of the window. */
-EdgeSstFetch edge_sst_fetch_keys(const EdgeSstFetch *state, const uint8_t *p, size_t n,
-                                 const uint8_t key[16]);
-
-/* The two offsets. */
-EdgeSstFetch edge_sst_fetch_offsets(const EdgeSstFetch *state, const uint8_t *p, size_t n);
-
-/* The group: writes the partners, EDGE_SST_KEY_BYTES each, over the start of the m bytes at
- * out. compared is 0: this step compares no key. */
-EdgeSstLooked edge_sst_fetch_group(const EdgeSstFetch *state, const uint8_t *p, size_t n,
-                                   uint8_t *out, size_t m);
 
 /* What a check gives: zeros where the file passes. And what a chunk gives: zeros where it
  * is taken. */

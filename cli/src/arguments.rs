@@ -33,21 +33,6 @@ pub const PARTNERS: Choice = Choice {
     long: "--partners",
     takes_value: false,
 };
-pub const SIZE: Choice = Choice {
-    short: "",
-    long: "--size",
-    takes_value: true,
-};
-pub const GET: Choice = Choice {
-    short: "",
-    long: "--get",
-    takes_value: true,
-};
-pub const COUNTS: Choice = Choice {
-    short: "",
-    long: "--counts",
-    takes_value: false,
-};
 pub const HELP: Choice = Choice {
     short: "-h",
     long: "--help",
@@ -157,29 +142,6 @@ impl Arguments {
     pub fn needed_output(&self) -> Result<Name, Failure> {
         let none = || Failure::Usage("no output is given: -o FILE, or -o -".to_string());
         self.output().ok_or_else(none)
-    }
-
-    /// Every word that is no option.
-    pub fn operands(&self) -> &[OsString] {
-        &self.operands
-    }
-
-    /// The size of a file that lies elsewhere, in bytes.
-    pub fn size(&self) -> Result<u64, Failure> {
-        let wrong = match self.value(&SIZE) {
-            None => "no size is given: --size N".to_string(),
-            Some(value) => match value.to_str().and_then(|text| text.parse().ok()) {
-                Some(size) => return Ok(size),
-                None => format!("--size takes a number, not '{}'", value.to_string_lossy()),
-            },
-        };
-        Err(Failure::Usage(wrong))
-    }
-
-    /// The command that gets a range of such a file.
-    pub fn get(&self) -> Result<&OsStr, Failure> {
-        let none = || Failure::Usage("nothing gets the ranges: --get COMMAND".to_string());
-        self.value(&GET).ok_or_else(none)
     }
 
     /// How many files are worked on at once.

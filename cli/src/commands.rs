@@ -1,7 +1,6 @@
 //! The commands. Each is a file of its own and a row of the table here.
 
 mod check;
-mod fetch;
 mod from_text;
 mod lookup;
 mod print;
@@ -31,11 +30,10 @@ pub struct Command {
     run: fn(&Arguments, &Watch) -> Result<Status, Failure>,
 }
 
-const COMMANDS: [&Command; 11] = [
+const COMMANDS: [&Command; 10] = [
     &check::COMMAND,
     &print::COMMAND,
     &lookup::COMMAND,
-    &fetch::COMMAND,
     &sections::COMMAND,
     &summary::COMMAND,
     &write::COMMAND,
@@ -50,8 +48,7 @@ const VERSION: &str = concat!("edge-sst ", env!("CARGO_PKG_VERSION"), "\n");
 const ABOUT: &str = "\
 'edge-sst COMMAND --help' says more of a command, 'edge-sst --version' the version.
 An input '-' is standard input, and '-o -' is standard output. A file has at most
-2^30 bytes and is read whole, but by 'sum', which reads it in chunks, and by 'fetch',
-which reads a few ranges.
+2^30 bytes and is read whole, but by 'sum', which reads it in chunks.
 Exit status: 0 fine, 1 refused, 2 for a usage, input or output error. A refusal has
 the numbers and texts of the library; entries, keys, offsets, groups and edges are
 counted from 0.
@@ -148,7 +145,7 @@ impl Command {
 
 /// Tells a failure where the work goes on after it, or where it is read by a
 /// program: as an object on standard output, otherwise on standard error.
-pub fn told(failure: Failure, json: bool) -> Result<Status, Failure> {
+fn told(failure: Failure, json: bool) -> Result<Status, Failure> {
     match failure.json().filter(|_| json) {
         Some(object) => output::print(|out| writeln!(out, "{object}"))?,
         None => match failure {

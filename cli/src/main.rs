@@ -6,12 +6,10 @@
 
 #![forbid(unsafe_code)]
 
-mod answers;
 mod arguments;
 mod batch_text;
 mod commands;
 mod failure;
-mod get;
 mod header;
 mod id;
 mod input;

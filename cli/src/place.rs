@@ -4,7 +4,7 @@ use crate::failure::{Failure, Refused};
 use crate::id::Hex;
 use crate::input::Name;
 use crate::kinds;
-use edge_sst::{EdgeSst, Heading, Id, Record, Refusal};
+use edge_sst::{EdgeSst, Heading, Record, Refusal};
 
 /// What was refused: the words of a place may need it.
 pub enum Source<'a> {
@@ -14,8 +14,6 @@ pub enum Source<'a> {
     Text(&'a [u64]),
     /// A part of a file of any sort.
     Chunk,
-    /// Ranges of a file, for a key if they are not of its frame.
-    Fetched(Option<&'a Id>),
 }
 
 /// What the place of a refusal counts.
@@ -30,8 +28,6 @@ enum Counts {
     /// The bytes of a group; the group stands beside.
     GroupBytes,
     Needed,
-    /// Bytes that are to be fetched.
-    Wanted,
     Bytes,
     /// A number that is not known here.
     Unknown,
@@ -48,7 +44,6 @@ impl Counts {
             16 | 28..=35 => Counts::GroupBytes,
             19 => Counts::Groups,
             20 => Counts::Needed,
-            38 => Counts::Wanted,
             24 | 25 => Counts::Bytes,
             _ => Counts::Unknown,
         }
@@ -70,12 +65,11 @@ fn words(refusal: &Refusal, source: &Source) -> String {
         Counts::Nothing => String::new(),
         Counts::Entries => with("entry", place, section(source, place)),
         Counts::Keys => with("key", place, None),
-        Counts::Offsets => offset(source, place),
+        Counts::Offsets => with("offset", place, None),
         Counts::Starts => with("start", place, None),
         Counts::Groups => group(source, place),
         Counts::GroupBytes => format!("{}, byte {place}", group(source, refusal.beside)),
         Counts::Needed => format!("{place} needed"),
-        Counts::Wanted => format!("{place} bytes wanted"),
         Counts::Bytes => record(source, place),
         Counts::Unknown => with("place", place, None),
     }
@@ -98,30 +92,18 @@ fn section(source: &Source, entry: u64) -> Option<String> {
     Some(kinds::describe(section))
 }
 
-/// Of a fetch, which sees two offsets alone, the place is the group.
-fn offset(source: &Source, place: u64) -> String {
-    match source {
-        Source::Fetched(_) => group(source, place),
-        _ => with("offset", place, None),
-    }
-}
-
 fn group(source: &Source, group: u64) -> String {
     with("group", group, key(source, group))
 }
 
-/// The key of a group, where the file opens; of a fetch it is the one that is asked for.
+/// The key of a group, where the file opens.
 fn key(source: &Source, group: u64) -> Option<String> {
-    let words = |key| format!("key {}", Hex(key));
-    match source {
-        Source::File(bytes) => {
-            let opened = EdgeSst::open(bytes).ok()?;
-            let key = opened.keys().nth(usize::try_from(group).ok()?)?;
-            Some(words(key))
-        }
-        Source::Fetched(key) => key.map(words),
-        _ => None,
-    }
+    let Source::File(bytes) = source else {
+        return None;
+    };
+    let opened = EdgeSst::open(bytes).ok()?;
+    let key = opened.keys().nth(usize::try_from(group).ok()?)?;
+    Some(format!("key {}", Hex(key)))
 }
 
 /// The record that begins at a byte of a batch: the records before it are whole.

@@ -2,7 +2,6 @@
 //! any, against a second way to the same result where there are none.
 
 mod checking;
-mod fetching;
 mod groups;
 mod listing;
 mod lookups;
@@ -14,8 +13,7 @@ mod writing;
 
 use crate::corpus::{self, Record};
 use crate::family;
-use crate::numbers::{compare_ids, read_be, read_le, write_be, write_le, Id};
-use crate::open::Range;
+use crate::numbers::{compare_ids, read_be, read_le, write_be, write_le};
 use crate::random::Random;
 use crate::varint::{self, Read};
 use crate::xxh3::xxh3_64;
@@ -60,7 +58,6 @@ pub fn all() -> Tally {
     listing::check(&mut tally);
     groups::check(&mut tally);
     lookups::check(&mut tally);
-    fetching::check(&mut tally);
     checking::check(&mut tally);
     printing::check(&mut tally);
     writing::check(&mut tally);
@@ -264,67 +261,17 @@ fn check_corpus(tally: &mut Tally) {
 /// A file or a batch of a corpus, and its name.
 type Named = (String, Vec<u8>);
 
-/// Each name has the right form, is not too long, and tells one item.
-fn check_unique<'a>(tally: &mut Tally, names: impl Iterator<Item = &'a String>, longest: usize) {
+/// Each name has the right form and tells one item.
+fn check_names(tally: &mut Tally, items: &[Named]) {
     let mut seen = BTreeSet::new();
-    for name in names {
+    for (name, _) in items {
         let words = name.split('-').all(|word| {
             let letter = |c: char| c.is_ascii_lowercase() || c.is_ascii_digit();
             !word.is_empty() && word.chars().all(letter)
         });
-        let good = words && name.len() <= longest;
+        let good = words && name.len() <= 60;
         tally.same(&format!("form of the name {name}"), good, true);
         tally.same(&format!("only one {name}"), seen.insert(name), true);
-    }
-}
-
-/// Each name tells one file or batch.
-fn check_names(tally: &mut Tally, items: &[Named]) {
-    check_unique(tally, items.iter().map(|(name, _)| name), 60);
-}
-
-/// The most letters of a call's name.
-const CALL_NAME: usize = 80;
-
-/// What is left of an input of calls.
-struct Input<'a> {
-    rest: &'a [u8],
-}
-
-impl<'a> Input<'a> {
-    fn take(&mut self, count: u64) -> &'a [u8] {
-        let (taken, rest) = self.rest.split_at(self.rest.len().min(count as usize));
-        self.rest = rest;
-        taken
-    }
-
-    fn number(&mut self, width: u64) -> u64 {
-        match self.take(width) {
-            [] => 0,
-            bytes => read_le(bytes),
-        }
-    }
-
-    /// A length in so many bytes, and as many bytes.
-    fn counted(&mut self, width: u64) -> &'a [u8] {
-        let length = self.number(width);
-        self.take(length)
-    }
-
-    fn name(&mut self) -> String {
-        String::from_utf8_lossy(self.counted(1)).into_owned()
-    }
-
-    fn id(&mut self) -> Id {
-        self.take(16).try_into().unwrap_or_default()
-    }
-
-    /// Two numbers of so many bytes each.
-    fn range(&mut self, width: u64) -> Range {
-        Range {
-            offset: self.number(width),
-            length: self.number(width),
-        }
     }
 }
 

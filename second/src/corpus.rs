@@ -3,7 +3,6 @@
 pub mod bad_groups;
 pub mod check_files;
 mod codes_vectors;
-pub mod fetch_calls;
 pub mod list_files;
 pub mod lookup_calls;
 pub mod open_files;
@@ -74,7 +73,6 @@ fn reader_vectors() -> Vec<VectorFile> {
     let opened = open_files::small();
     let listed = list_files::files();
     let looked_up = lookup_calls::files();
-    let fetched = fetch_calls::files();
     vec![
         VectorFile {
             path: "test_open/stdin",
@@ -99,14 +97,6 @@ fn reader_vectors() -> Vec<VectorFile> {
         VectorFile {
             path: "test_lookup/stdout",
             bytes: lookup_calls::stdout(&looked_up),
-        },
-        VectorFile {
-            path: "test_fetch/stdin",
-            bytes: fetch_calls::stdin(&fetched),
-        },
-        VectorFile {
-            path: "test_fetch/stdout",
-            bytes: fetch_calls::stdout(&fetched),
         },
     ]
 }
@@ -185,22 +175,6 @@ fn framed(name: &str, bytes: &[u8]) -> Vec<u8> {
 /// What each call finds in an output of bytes.
 pub fn fresh_output(length: usize) -> Vec<u8> {
     (0..length).map(|i| (7 * i + 3) as u8).collect()
-}
-
-/// Numbers that a slip would take for this one.
-pub fn others(number: u64) -> Vec<u64> {
-    vec![
-        0,
-        1,
-        number.wrapping_sub(1),
-        number.wrapping_add(1),
-        1 << 32,
-        number | 1 << 32,
-        1 << 63,
-        number | 1 << 63,
-        u64::MAX,
-        u64::MAX - 1,
-    ]
 }
 
 /// The vector files too large to be kept beside the library.

@@ -4,7 +4,6 @@
 
 use crate::format::{HEADER, MAGIC, MAJOR, TRAILER};
 use crate::numbers::{read_le, write_le, Id};
-use crate::open::Range;
 use crate::xxh3::xxh3_64;
 
 #[derive(Clone)]
@@ -179,15 +178,6 @@ impl Layout {
             place += section.bytes.len();
         }
         offsets
-    }
-
-    /// Where the first section of the kind truly lies, if there is one.
-    pub fn range(&self, kind: u16) -> Option<Range> {
-        let index = self.sections.iter().position(|s| s.kind == kind)?;
-        Some(Range {
-            offset: self.offsets()[index],
-            length: self.sections[index].bytes.len() as u64,
-        })
     }
 
     /// Where the footer truly begins.

@@ -5,13 +5,12 @@
 
 pub mod group;
 mod record;
-pub mod search;
+mod search;
 
 use crate::format::START;
 use crate::numbers::{id_number, read_le, Id};
 use crate::open::{bytes_of, open, OpenedRecord};
 use crate::refusal::Refusal;
-use search::Ending;
 
 /// What a lookup says that is not refused. It carries the count of keys that
 /// the search compared.
@@ -131,8 +130,8 @@ impl<'a> Sections<'a> {
         key: &Id,
         write: impl FnOnce(usize, &[u128]) -> Result<(), Refusal>,
     ) -> Result<Answer, Refusal> {
-        let (ending, compared) = search::halving(self.keys, key);
-        let Ending::Met(index) = ending else {
+        let (index, compared) = search::halving(self.keys, key);
+        let Some(index) = index else {
             return Ok(Answer::Absent { compared });
         };
         let Some(group) = self.group(index) else {
@@ -218,7 +217,7 @@ impl<'a> Sections<'a> {
 }
 
 /// Refuses an output without room for all partners.
-pub fn write_partners(partners: &[u128], output: &mut [u8]) -> Result<(), Refusal> {
+fn write_partners(partners: &[u128], output: &mut [u8]) -> Result<(), Refusal> {
     let degree = partners.len();
     let Some(room) = output.get_mut(..16 * degree) else {
         return refuse(20, degree as u64);

@@ -1,14 +1,12 @@
 //! The second program: an independent opinion on checksums, number codes, the
-//! opening of files, the lookup of keys, fetching only what is needed for one,
-//! the full check, the summary, read-out and writing.
+//! opening of files, the lookup of keys, the full check, the summary, read-out
+//! and writing.
 //! See README.md.
 
 mod batch;
 mod check;
 mod corpus;
 mod family;
-mod fences;
-mod fetch;
 mod format;
 mod full_check;
 mod groups;
@@ -118,9 +116,6 @@ fn bytes(name: &str) -> Result<(), String> {
     let looked_up = corpus::lookup_calls::files()
         .into_iter()
         .map(|file| (file.name, file.bytes));
-    let fetched = corpus::fetch_calls::files()
-        .into_iter()
-        .map(|file| (file.name, file.bytes));
     let checked = corpus::check_files::files()
         .into_iter()
         .map(|file| (file.name, file.bytes));
@@ -130,7 +125,6 @@ fn bytes(name: &str) -> Result<(), String> {
         .map(|batch| (batch.name, batch.bytes));
     let (_, bytes) = opened
         .chain(looked_up)
-        .chain(fetched)
         .chain(checked)
         .chain(written)
         .find(|item| item.0 == name)

@@ -8,9 +8,44 @@
  *   ./example samples/board.edges 018f6e2a7c1070000000000000000001 */
 #include <stdio.h>
 #include <stdlib.h>
+#include <string.h>
 
 #include "edge_sst.h"
 #include "read_file.h"
+
+/* A refusal is a number and a place; the header has a text for each number. Of a group's
+ * fault the place is a byte in the group, and the group is told beside it. */
+static int refused(uint64_t number, uint64_t place, uint64_t beside) {
+    fprintf(stderr, "refused %llu at ", (unsigned long long)number);
+    if (edge_sst_has_beside(number))
+        fprintf(stderr, "group %llu, byte ", (unsigned long long)beside);
+    fprintf(stderr, "%llu: %s\n", (unsigned long long)place, edge_sst_text(number));
+    return 1;
+}
+
+static int digit(char c) {
+    if ('0' <= c && c <= '9')
+        return c - '0';
+    if ('a' <= c && c <= 'f')
+        return c - 'a' + 10;
+    if ('A' <= c && c <= 'F')
+        return c - 'A' + 10;
+    return -1;
+}
+
+/* The key of exactly 32 hexadecimal digits; 0 where it is none. */
+static int read_key(const char *hex, uint8_t key[EDGE_SST_KEY_BYTES]) {
+    int i;
+    if (strlen(hex) != 2 * EDGE_SST_KEY_BYTES)
+        return 0;
+    for (i = 0; i < EDGE_SST_KEY_BYTES; i++) {
+        int high = digit(hex[2 * i]), low = digit(hex[2 * i + 1]);
+        if (high < 0 || low < 0)
+            return 0;
+        key[i] = (uint8_t)(16 * high + low);
+    }
+    return 1;
+}
 
 /* Looks the key up with no room: refusal 20 tells how many partners there are. */
 static EdgeSstLooked look(const uint8_t *p, size_t n, const EdgeSstOpened *o, const uint8_t key[EDGE_SST_KEY_BYTES],
@@ -24,6 +59,13 @@ static EdgeSstLooked look(const uint8_t *p, size_t n, const EdgeSstOpened *o, co
     if (*out == NULL)
         exit(2);
     return edge_sst_partners_with(p, n, o, key, *out, EDGE_SST_KEY_BYTES * l.place);
+}
+
+static void print_id(const uint8_t *id) {
+    int i;
+    for (i = 0; i < EDGE_SST_KEY_BYTES; i++)
+        printf("%02x", id[i]);
+    putchar('\n');
 }
 
 int main(int argc, char **argv) {

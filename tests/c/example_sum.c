@@ -23,6 +23,12 @@ typedef struct {
     EdgeSstRunning sum;
 } Download;
 
+static int refused(uint64_t number, uint64_t place) {
+    fprintf(stderr, "refused %llu at %llu: %s\n", (unsigned long long)number, (unsigned long long)place,
+            edge_sst_text(number));
+    return 1;
+}
+
 static void begin(Download *d, const EdgeSstRow *row) {
     d->row = row;
     d->sum = edge_sst_running_new();
@@ -61,7 +67,7 @@ static int download(const uint8_t *file, const EdgeSstRow *rows, uint64_t count)
             continue;
         told = take_chunk(d, file);
         if (told.number != 0)
-            return refused(told.number, told.place, told.beside);
+            return refused(told.number, told.place);
         if (d->sum.total == d->row->len) {
             status |= tell((uint64_t)(d->row - rows), d);
             d->row = NULL;
@@ -84,7 +90,7 @@ int main(int argc, char **argv) {
     bytes = read_file(argv[1], &n);
     listed = edge_sst_list(bytes, n, rows, EDGE_SST_MOST_SECTIONS);
     if (listed.number != 0)
-        return refused(listed.number, listed.place, listed.beside);
+        return refused(listed.number, listed.place);
     status = download(bytes, rows, listed.rows);
     free(bytes);
     return status;

@@ -1,5 +1,5 @@
 /* What is wrong with a group, by the names of the header: groups made by hand, with
- * the byte counted by hand, looked up by a record and fetched. */
+ * the byte counted by hand, looked up by a record. */
 #include <inttypes.h>
 #include <string.h>
 
@@ -61,19 +61,6 @@ static EdgeSstOpened around(const Group *g, uint8_t bytes[GROUPS + LONGEST]) {
     return o;
 }
 
-/* The same as the last step of a fetch is lent it. */
-static EdgeSstFetch fetched(const Group *g, const EdgeSstOpened *o) {
-    EdgeSstFetch s;
-    memset(&s, 0, sizeof s);
-    s.size = GROUPS + g->n;
-    s.keystart = o->keystart, s.keylen = o->keylen;
-    s.offsetstart = o->offsetstart, s.offsetlen = o->offsetlen;
-    s.partnerstart = o->partnerstart, s.partnerlen = o->partnerlen;
-    s.keycount = o->keycount, s.bits = o->bits;
-    s.index = BAD, s.to = g->n;
-    return s;
-}
-
 static void hold_group(const char *call, const Group *g, EdgeSstLooked got) {
     calls++;
     if (got.number != g->number || got.place != g->byte || got.beside != BAD || got.found != 0)
@@ -100,10 +87,8 @@ void test_groups(const char *dir) {
         uint64_t logs[1];
         const Group *g = &groups[i];
         EdgeSstOpened o = around(g, bytes);
-        EdgeSstFetch f = fetched(g, &o);
         size_t n = GROUPS + g->n;
         hold_group("partners", g, edge_sst_partners_with(bytes, n, &o, key, out, 0));
         hold_group("lookup", g, edge_sst_lookup_with(bytes, n, &o, key, out, 0, logs, 0, marks, 0));
-        hold_group("fetch", g, edge_sst_fetch_group(&f, bytes + GROUPS, g->n, out, 0));
     }
 }

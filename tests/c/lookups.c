@@ -415,7 +415,8 @@ static void hold_key(const char *name, Bytes file, const EdgeSstOpened *o, const
     drop(&e);
 }
 
-void beside(uint8_t id[ID], int up) {
+/* The id one above, or one below; ids wrap. */
+static void beside(uint8_t id[ID], int up) {
     int i = ID;
     while (i-- > 0) {
         id[i] = (uint8_t)(up ? id[i] + 1 : id[i] - 1);

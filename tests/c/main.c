@@ -26,7 +26,6 @@ static const Part parts[] = {
     {"checks", test_checks},
     {"writing", test_writes},
     {"summaries", test_summaries},
-    {"fetches", test_fetches},
 #endif
 };
 

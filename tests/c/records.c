@@ -14,7 +14,7 @@ enum {
     INDEXED = offsetof(EdgeSstOpened, indexed) / sizeof(uint64_t)
 };
 
-int within(uint64_t start, uint64_t len, uint64_t size) { return start <= size && len <= size - start; }
+static int within(uint64_t start, uint64_t len, uint64_t size) { return start <= size && len <= size - start; }
 
 /* Tombstones and the start index are asked only where the record says that they are there. */
 static int possible_extras(const EdgeSstOpened *o, uint64_t size) {

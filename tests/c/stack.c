@@ -19,8 +19,6 @@ static uint8_t file[ROOM], batch[ROOM], out[ROOM], key[EDGE_SST_KEY_BYTES], mark
 static uint64_t logs[4096];
 static size_t file_bytes, batch_bytes;
 static EdgeSstOpened record;
-static EdgeSstFetch begun, window, located, extent;
-static uint8_t fence[8 + EDGE_SST_KEY_BYTES + 8];
 static EdgeSstRunning running;
 static volatile uint64_t told;
 
@@ -40,17 +38,6 @@ static void lookup(void) {
 }
 static void lookup_with(void) {
     told = edge_sst_lookup_with(file, file_bytes, &record, key, out, ROOM, logs, 4096, marks, 4096).number;
-}
-static void fetch_begin(void) { told = edge_sst_fetch_begin(file_bytes, file, file_bytes, file, file_bytes).number; }
-static void fetch_fences(void) { told = edge_sst_fetch_fences(&begun, fence, sizeof fence, key).number; }
-static void fetch_keys(void) {
-    told = edge_sst_fetch_keys(&window, file + window.start, (size_t)window.len, key).number;
-}
-static void fetch_offsets(void) {
-    told = edge_sst_fetch_offsets(&located, file + located.start, (size_t)located.len).number;
-}
-static void fetch_group(void) {
-    told = edge_sst_fetch_group(&extent, file + extent.start, (size_t)extent.len, out, ROOM).number;
 }
 static void check(void) { told = edge_sst_check(file, file_bytes).number; }
 static void read_out(void) { told = edge_sst_read_out(file, file_bytes, out, ROOM).number; }
@@ -75,11 +62,6 @@ static struct {
     {"edge_sst_partners_with", partners_with, 0},
     {"edge_sst_lookup", lookup, 0},
     {"edge_sst_lookup_with", lookup_with, 0},
-    {"edge_sst_fetch_begin", fetch_begin, 0},
-    {"edge_sst_fetch_fences", fetch_fences, 0},
-    {"edge_sst_fetch_keys", fetch_keys, 0},
-    {"edge_sst_fetch_offsets", fetch_offsets, 0},
-    {"edge_sst_fetch_group", fetch_group, 0},
     {"edge_sst_check", check, 0},
     {"edge_sst_read_out", read_out, 0},
     {"edge_sst_summary", summary, 0},
@@ -116,24 +98,7 @@ static size_t depth(uint8_t *stack, size_t i) {
     return STACK - free_bytes;
 }
 
-/* What each step of a fetch of the first key gives. One fence, at that key, is claimed: of any
- * stride that the keys do not pass there is one alone. */
-static void begin_fetch(void) {
-    begun = edge_sst_fetch_begin(file_bytes, file, file_bytes, file, file_bytes);
-    memset(fence, 0, sizeof fence);
-    fence[2] = fence[4] = 1;
-    memcpy(fence + 8, key, sizeof key);
-    begun.fenced = 1;
-    begun.fencestart = 0;
-    begun.fencelen = sizeof fence;
-    window = edge_sst_fetch_fences(&begun, fence, sizeof fence, key);
-    located = edge_sst_fetch_keys(&window, file + window.start, (size_t)window.len, key);
-    extent = edge_sst_fetch_offsets(&located, file + located.start, (size_t)located.len);
-    if (extent.next != EDGE_SST_NEXT_GROUP)
-        fail("a file of at most 65,536 keys is wanted");
-}
-
-/* The file, its batch, its record, its first key and the fetch of it. */
+/* The file, its batch, its record and its first key. */
 static void load(const char *path) {
     FILE *f = fopen(path, "rb");
     if (f == NULL)
@@ -145,7 +110,6 @@ static void load(const char *path) {
     if (batch_bytes < EDGE_SST_HEADING_BYTES + EDGE_SST_EDGE_BYTES)
         fail("a file that passes and has edges is wanted");
     memcpy(key, file + record.keystart, sizeof key);
-    begin_fetch();
 }
 
 int main(int argc, char **argv) {

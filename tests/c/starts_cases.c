@@ -245,7 +245,8 @@ void test_changed_starts(const char *dir) {
     }
 }
 
-Bytes batch_of(size_t keys, int dead) {
+/* A batch of so many keys; key i has 1 + i % 3 edges, and the last edge may be dead. */
+static Bytes batch_of(size_t keys, int dead) {
     size_t edges = 0, i, j;
     uint8_t *p = memory(HEADING + 3 * EDGE * keys), *at = p + HEADING;
     Bytes batch;

@@ -111,24 +111,15 @@ void test_groups(const char *dir);
 void test_checks(const char *dir);
 void test_writes(const char *dir);
 void test_summaries(const char *dir);
-void test_fetches(const char *dir);
 
 /* Lookups of every key of a file that passes, against its read-out. */
 void test_keys(const char *name, Bytes file, Bytes batch);
 
-/* The id one above, or one below; ids wrap. */
-void beside(uint8_t id[ID], int up);
-
-/* The format's rule 21, once more: may the record be of a file of this size? And a range alone:
- * does it end there? */
+/* The format's rule 21, once more: may the record be of a file of this size? */
 int possible_record(const EdgeSstOpened *o, uint64_t size);
-int within(uint64_t start, uint64_t len, uint64_t size);
 
 /* Lookups by records with a number changed: 21 exactly where it must be. */
 void test_records(const char *name, Bytes file, const EdgeSstOpened *opened);
-
-/* A batch of so many keys; key i has 1 + i % 3 edges, and the last edge may be dead. */
-Bytes batch_of(size_t keys, int dead);
 
 /* The batch of a file that passes, written and read out again. */
 void test_again(const char *name, Bytes batch);

@@ -56,41 +56,6 @@ pub struct Looked {
 }
 
 #[repr(C)]
-#[derive(Clone, Copy, Debug, Default)]
-pub struct Fetch {
-    pub number: u64,
-    pub place: u64,
-    pub beside: u64,
-    pub next: u64,
-    pub start: u64,
-    pub len: u64,
-    pub compared: u64,
-    pub size: u64,
-    pub keystart: u64,
-    pub keylen: u64,
-    pub offsetstart: u64,
-    pub offsetlen: u64,
-    pub partnerstart: u64,
-    pub partnerlen: u64,
-    pub fencestart: u64,
-    pub fencelen: u64,
-    pub fenced: u64,
-    pub keycount: u64,
-    pub bits: u64,
-    pub first: u64,
-    pub count: u64,
-    pub index: u64,
-    pub from: u64,
-    pub to: u64,
-}
-
-/// What `Fetch::next` says to fetch; any other number is nothing.
-pub const NEXT_FENCES: u64 = 1;
-pub const NEXT_KEYS: u64 = 2;
-pub const NEXT_OFFSETS: u64 = 3;
-pub const NEXT_GROUP: u64 = 4;
-
-#[repr(C)]
 #[derive(Clone, Copy, Debug)]
 pub struct Told {
     pub number: u64,
@@ -164,33 +129,6 @@ extern "C" {
         l: usize,
         marks: *mut u8,
         k: usize,
-    ) -> Looked;
-    pub fn edge_sst_fetch_begin(
-        size: u64,
-        head: *const u8,
-        n: usize,
-        tail: *const u8,
-        m: usize,
-    ) -> Fetch;
-    pub fn edge_sst_fetch_fences(
-        state: *const Fetch,
-        p: *const u8,
-        n: usize,
-        key: *const u8,
-    ) -> Fetch;
-    pub fn edge_sst_fetch_keys(
-        state: *const Fetch,
-        p: *const u8,
-        n: usize,
-        key: *const u8,
-    ) -> Fetch;
-    pub fn edge_sst_fetch_offsets(state: *const Fetch, p: *const u8, n: usize) -> Fetch;
-    pub fn edge_sst_fetch_group(
-        state: *const Fetch,
-        p: *const u8,
-        n: usize,
-        out: *mut u8,
-        m: usize,
     ) -> Looked;
     pub fn edge_sst_check(p: *const u8, n: usize) -> Told;
     pub fn edge_sst_read_out(p: *const u8, n: usize, out: *mut u8, m: usize) -> Done;

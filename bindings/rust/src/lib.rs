@@ -5,8 +5,7 @@
 //! file with one wrong section byte: [`check`], [`read_out`]. The query planner asks
 //! for the counts and degrees of a file that passes: [`summary()`]. [`write`] makes a
 //! file of a batch, [`Batch`] reads its records, and [`sum`] is XXH3-64 alone, which
-//! [`RunningSum`] takes of bytes that come in chunks. The field tool, which cannot load a
-//! whole file, fetches only what it needs of it: [`Fetch`].
+//! [`RunningSum`] takes of bytes that come in chunks.
 //!
 //! Any bytes may be given: each call answers, or refuses with a [`Refusal`].
 //!
@@ -25,7 +24,6 @@
 //! ```
 
 mod batch;
-pub mod fetch;
 mod ffi;
 mod opened;
 mod refusal;
@@ -33,7 +31,6 @@ mod running;
 mod summary;
 
 pub use batch::{Batch, Heading, Record};
-pub use fetch::{Fetch, FetchError, Ranges};
 pub use opened::{Edge, EdgeSst, Edges, Header, Id, Opened, Partners, Section};
 pub use refusal::Refusal;
 pub use running::RunningSum;

@@ -190,13 +190,13 @@ impl<'a> Opened<'a> {
 }
 
 /// How many partners were found, `None` where the key is absent.
-pub(crate) fn degree_of(looked: &ffi::Looked) -> Result<Option<usize>, Refusal> {
+fn degree_of(looked: &ffi::Looked) -> Result<Option<usize>, Refusal> {
     refuse_if(looked.number, looked.place, looked.beside)?;
     Ok((looked.found != 0).then_some(looked.degree as usize))
 }
 
 /// Asks with a guess, and once more with what refusal 20 says is needed.
-pub(crate) fn with_room<T>(ask: impl Fn(usize) -> Result<T, Refusal>) -> Result<T, Refusal> {
+fn with_room<T>(ask: impl Fn(usize) -> Result<T, Refusal>) -> Result<T, Refusal> {
     match ask(GUESS) {
         Err(Refusal {
             number: Refusal::ROOM,

@@ -14,7 +14,7 @@ pub struct Refusal {
 
 /// The text of each number, as in the C header.
 // texts: from refusals.txt
-const TEXTS: [&str; 39] = [
+const TEXTS: [&str; 38] = [
     "no refusal",
     "file under 84 or over 2^30 bytes",
     "magic",
@@ -53,16 +53,12 @@ const TEXTS: [&str; 39] = [
     "varint too large",
     "a section of a reserved kind",
     "start index entry",
-    "fetched bytes fewer than wanted",
 ];
 // texts: to here
 
 impl Refusal {
     /// The number of a refusal for want of room; its place is what is needed.
     pub const ROOM: u64 = 20;
-
-    /// The number of a refusal for want of fetched bytes; its place is how many are wanted.
-    pub const WANTED: u64 = 38;
 
     /// What `place` and `beside` count, of a number that has both.
     fn places(&self) -> Option<(&'static str, &'static str)> {

@@ -6,13 +6,13 @@ use crate::run::{folder, run_on, sample, second, Folder, Ran};
 use std::collections::HashMap;
 
 /// The board's lines of edges, as the second program prints them.
-pub fn board() -> Vec<String> {
+fn board() -> Vec<String> {
     let text = String::from_utf8(second(&["print"], &sample("board.edges"))).unwrap();
     let lines: Vec<String> = text.lines().map(str::to_string).collect();
     lines[1..lines.len() - 1].to_vec()
 }
 
-pub fn keys(lines: &[String]) -> Vec<&str> {
+fn keys(lines: &[String]) -> Vec<&str> {
     let mut keys: Vec<&str> = lines.iter().map(|line| &line[..32]).collect();
     keys.dedup();
     keys

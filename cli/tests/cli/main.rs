@@ -5,7 +5,6 @@
 mod check;
 mod convert;
 mod corpora;
-mod fetch;
 mod json;
 mod lookup;
 mod outputs;

@@ -2,11 +2,10 @@
 
 use crate::run::{folder, run, run_on, sample};
 
-const COMMANDS: [&str; 11] = [
+const COMMANDS: [&str; 10] = [
     "check",
     "print",
     "lookup",
-    "fetch",
     "sections",
     "summary",
     "write",
@@ -51,7 +50,7 @@ fn the_version_is_told() {
 }
 
 /// Words that a command does not take, and what is said of them.
-const WRONG: [(&[&str], &str); 22] = [
+const WRONG: [(&[&str], &str); 16] = [
     (&["check"], "no file is given"),
     (&["check", "--jsno", "x"], "unknown option --jsno"),
     (&["check", "-o", "y", "x"], "unknown option -o"),
@@ -72,27 +71,6 @@ const WRONG: [(&[&str], &str); 22] = [
     ),
     (&["lookup"], "no file is given"),
     (&["lookup", "x"], "no key is given"),
-    (&["fetch", "x"], "no size is given: --size N"),
-    (
-        &["fetch", "--size", "-1", "x"],
-        "--size takes a number, not '-1'",
-    ),
-    (
-        &["fetch", "--size", "84", "x"],
-        "nothing gets the ranges: --get COMMAND",
-    ),
-    (
-        &["fetch", "--size=84", "--get=cat x", "x"],
-        "--get has no range: neither {first} nor {start}",
-    ),
-    (
-        &["fetch", "--size=84", "--get", "get {first}"],
-        "no key is given",
-    ),
-    (
-        &["fetch", "--size=84", "--get", "get {first}", "x"],
-        "'x' is no key: 32 hexadecimal digits",
-    ),
     (&["write", "x"], "no output is given: -o FILE, or -o -"),
     (&["write", "-o", "y"], "no batch is given"),
     (

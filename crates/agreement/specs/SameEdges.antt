@@ -328,15 +328,15 @@ module _ (f : List ℕ) (o : Opened) (pass : checked_of f ≡ Opening.Good o) (k
     here : (i < o.keycount) × (key_at keys i ≡ k)
     here = find_sound keys o.keycount k i c e
 
-    group_partners_lem : List Id
-    group_partners_lem = partners_of (group_in ps os w i)
+    group_partners : List Id
+    group_partners = partners_of (group_in ps os w i)
 
     first : ℕ
     first = degrees_from ps os w i 0
 
     -- the edges of key i are those of its group
-    mine_one : mine ≡ edges_from ls ds (halves_at keys (i * 16)) first group_partners_lem
-    unfolding edges_in known_of group_partners_lem first
+    mine_one : mine ≡ edges_from ls ds (halves_at keys (i * 16)) first group_partners
+    unfolding edges_in known_of group_partners first
     mine_one =
         let lt = here.0 in
         let z : 0 + degrees_from ps os w (i - 0) 0 ≡ degrees_from ps os w i 0 = zero-add _ ∙ ap (λ (t : ℕ). degrees_from ps os w t 0) (sub-zero i) in
@@ -344,13 +344,13 @@ module _ (f : List ℕ) (o : Opened) (pass : checked_of f ≡ Opening.Good o) (k
         (λ m a b q. key_once keys o.keycount rise m i (omega arith) lt (q ∙ sym here.1))
         ∙ ap (λ (t : ℕ). key_edges keys ps os w ls ds i t) z
 
-    some : 1 ≤ length group_partners_lem
-    unfolding group_partners_lem
+    some : 1 ≤ length group_partners
+    unfolding group_partners
     some = (degree_here keys ps os w ls ds o.keycount up ok i here.0).1
 
     -- the group is good
-    seen_good : calls.group f o i ≡ GroupSeen.Good (length group_partners_lem)
-    unfolding group_partners_lem
+    seen_good : calls.group f o i ≡ GroupSeen.Good (length group_partners)
+    unfolding group_partners
     seen_good =
         let lt = here.0 in
         let risen = up.above i lt in
@@ -359,8 +359,8 @@ module _ (f : List ℕ) (o : Opened) (pass : checked_of f ≡ Opening.Good o) (k
         good_seen ps (offset_at os w i) (offset_at os w (i + 1)) i (omega arith) (omega arith) dense (partners_of (group_in ps os w i)) is
 
     -- its edges lie within the edge count
-    through : first + length group_partners_lem ≤ o.edgecount
-    unfolding first group_partners_lem
+    through : first + length group_partners ≤ o.edgecount
+    unfolding first group_partners
     through =
         let lt = here.0 in
         let t = total in
@@ -371,8 +371,8 @@ module _ (f : List ℕ) (o : Opened) (pass : checked_of f ≡ Opening.Good o) (k
         omega (arith, ap (λ (x : ℕ). degrees_from ps os w x 0) all, ap (λ (x : ℕ). length (partners_of (group_in ps os w x))) z)
 
     -- they begin where the degrees before it end, as the start index says too
-    begins : before (known_of f o) i (length group_partners_lem) ≡ Sum.Total first
-    unfolding first group_partners_lem before known_of
+    begins : before (known_of f o) i (length group_partners) ≡ Sum.Total first
+    unfolding first group_partners before known_of
     begins = by o.indexed refl
       where
         next : degrees_from ps os w (suc i) 0 ≡ degrees_from ps os w i 0 + length (partners_of (group_in ps os w i))
@@ -389,31 +389,31 @@ module _ (f : List ℕ) (o : Opened) (pass : checked_of f ≡ Opening.Good o) (k
 
     -- and so without the start index
     pub begins_same : (r : Range) → before (known_of f (unindexed r o)) i (length (partners_of (group_in ps os w i))) ≡ before (known_of f o) i (length (partners_of (group_in ps os w i)))
-    unfolding before known_of first group_partners_lem
+    unfolding before known_of first group_partners
     begins_same r = let lt = here.0 in before_is keys ps os w ls ds o.keycount up ok i (omega arith) ∙ sym begins
 
-    placed : capped o.edgecount (before (known_of f o) i (length group_partners_lem)) ≡ Sum.Total first
-    placed = let h = through in capped_is o.edgecount (before (known_of f o) i (length group_partners_lem)) first begins (omega arith)
+    placed : capped o.edgecount (before (known_of f o) i (length group_partners)) ≡ Sum.Total first
+    placed = let h = through in capped_is o.edgecount (before (known_of f o) i (length group_partners)) first begins (omega arith)
 
     module _ (rooms : Rooms) where
       -- with log numbers and dead marks
       full_here : short true rooms (length mine) ≡ false → Says true (look_in true rooms (known_of f o) k) mine
-      unfolding group_partners_lem first known_of
+      unfolding group_partners first known_of
       full_here room =
-          let d : length mine ≡ length group_partners_lem = ap length mine_one ∙ count_of ls ds (halves_at keys (i * 16)) group_partners_lem first in
+          let d : length mine ≡ length group_partners = ap length mine_one ∙ count_of ls ds (halves_at keys (i * 16)) group_partners first in
           says_as true mine
           (calls.look_at true rooms f o k i c e
-          ∙ calls.whole_found f o i (length group_partners_lem) seen_good rooms c first placed through (ap (short true rooms) (sym d) ∙ room))
-          (found_says true ls ds (halves_at keys (i * 16)) group_partners_lem first i c mine mine_one some)
+          ∙ calls.whole_found f o i (length group_partners) seen_good rooms c first placed through (ap (short true rooms) (sym d) ∙ room))
+          (found_says true ls ds (halves_at keys (i * 16)) group_partners first i c mine mine_one some)
 
     -- partners alone
     alone_here : (n : ℕ) → 16 * length mine ≤ n → Says false (look_in false (calls.alone n) (known_of f o) k) mine
-    unfolding group_partners_lem first known_of
+    unfolding group_partners first known_of
     alone_here n room =
-        let d : length mine ≡ length group_partners_lem = ap length mine_one ∙ count_of ls ds (halves_at keys (i * 16)) group_partners_lem first in
+        let d : length mine ≡ length group_partners = ap length mine_one ∙ count_of ls ds (halves_at keys (i * 16)) group_partners first in
         says_as false mine
-        (calls.look_at false (calls.alone n) f o k i c e ∙ calls.partners_found f o i (length group_partners_lem) seen_good n c (omega arith))
-        (found_says false ls ds (halves_at keys (i * 16)) group_partners_lem first i c mine mine_one some)
+        (calls.look_at false (calls.alone n) f o k i c e ∙ calls.partners_found f o i (length group_partners) seen_good n c (omega arith))
+        (found_says false ls ds (halves_at keys (i * 16)) group_partners first i c mine mine_one some)
 
   full_says : (rooms : Rooms) → short true rooms (length mine) ≡ false → Says true (look_in true rooms (known_of f o) k) mine
   full_says rooms room = by_found (find_in keys o.keycount k) refl

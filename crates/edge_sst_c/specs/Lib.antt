@@ -8,4 +8,3 @@ pub mod Header
 pub mod Refused
 pub mod Back
 pub mod Rows
-pub mod Fetch

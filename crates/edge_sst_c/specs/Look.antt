@@ -57,7 +57,7 @@ starts_place = 17
 abbrev indexed_place : ℕ
 indexed_place = 19
 
-abbrev pub range_at : List ℕ → ℕ → Range
+abbrev range_at : List ℕ → ℕ → Range
 range_at c i = record { start = get_or c i 0; len = get_or c (i + 1) 0 }
 
 -- the record that C lends, with b for its offset bits

@@ -5,7 +5,6 @@ ghost use Rattle.refusal.specs.Refusal.{number_of, place_of, beside_of};
 ghost use Rattle.edge_sst_c.specs.Told.{truth, record_with, refusal_with, opened_told};
 
 pub mod desk;
-pub mod fetching;
 pub mod figures;
 pub mod header;
 pub mod look;
@@ -80,7 +79,7 @@ impl EdgeSstOpened {
     pub const INDEXED: usize = 19;
 }
 
-pub(crate) fn truth(b: bool) -> u64
+fn truth(b: bool) -> u64
     ensures { result ≡ truth b }
 {
     if b {

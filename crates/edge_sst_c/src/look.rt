@@ -41,7 +41,7 @@ fn refused_told(r: Refusal) -> EdgeSstLooked
     }
 }
 
-pub(crate) fn looked_told(l: Looked) -> EdgeSstLooked
+fn looked_told(l: Looked) -> EdgeSstLooked
     ensures { result ≡ looked_told l }
 {
     match l {
@@ -72,7 +72,7 @@ pub(crate) fn looked_told(l: Looked) -> EdgeSstLooked
 }
 
 // Offset bits above 255 are none: rule 21 refuses them as it refuses 0.
-pub(crate) fn byte_or(x: u64) -> u8
+fn byte_or(x: u64) -> u8
     ensures { result ≡ byte_or x }
 {
     if x < 256 {

@@ -113,15 +113,10 @@ starts_check s n edges = rising_from Refusal.Start (n + 1) s kind.start_size n e
 -- ---- rule 15: "Stride u32 (at least 1); entry count u32 = key count divided by stride, rounded up; entries of key and
 -- u64 offset, entry i being key i·stride and 16·i·stride"
 
--- entry i's key, and whether the offset beside it is that of key i·stride
-abbrev pub fence_key : List ℕ → ℕ → ℕ
-fence_key x i = id_at x (kind.fences_head + kind.fence_size * i)
-
-abbrev pub fence_placed : List ℕ → ℕ → ℕ → Bool
-fence_placed x stride i = eqb (le_at x (kind.fences_head + kind.fence_size * i + kind.key_size) 8) (kind.key_size * (i * stride))
-
 unfoldable pub fence_good : List ℕ → List ℕ → ℕ → ℕ → Bool
-fence_good x keys stride i = eqb (fence_key x i) (key_at keys (i * stride)) && fence_placed x stride i
+fence_good x keys stride i =
+    eqb (id_at x (kind.fences_head + kind.fence_size * i)) (key_at keys (i * stride))
+    && eqb (le_at x (kind.fences_head + kind.fence_size * i + kind.key_size) 8) (kind.key_size * (i * stride))
 
 -- d entries from i on
 unfoldable pub fences_from : ℕ → List ℕ → List ℕ → ℕ → ℕ → Bool
@@ -134,14 +129,10 @@ stride_of x = le_at x 0 4
 abbrev pub fences_told : List ℕ → ℕ
 fences_told x = le_at x 4 4
 
--- stride, count and length as n keys ask, and then whether the entries are good
-abbrev pub fences_with : List ℕ → ℕ → Bool → Bool
-fences_with x n entries =
-    leb kind.fences_head (length x) && (leb 1 (stride_of x) && (eqb (fences_told x) ((n + (stride_of x - 1)) / stride_of x)
-    && (eqb (length x) (kind.fences_len (fences_told x)) && entries)))
-
 unfoldable pub fences_good : List ℕ → List ℕ → ℕ → Bool
-fences_good x keys n = fences_with x n (fences_from (fences_told x) x keys (stride_of x) 0)
+fences_good x keys n =
+    leb kind.fences_head (length x) && (leb 1 (stride_of x) && (eqb (fences_told x) ((n + (stride_of x - 1)) / stride_of x)
+    && (eqb (length x) (kind.fences_len (fences_told x)) && fences_from (fences_told x) x keys (stride_of x) 0)))
 
 -- ---- opening
 

@@ -15,12 +15,6 @@ use Rattle.index.specs.contracts.starts.start_at as start_at
 use Rattle.index.proofs.starts.start_at.Reads as start_at_reads
 use Rattle.index.specs.contracts.starts.starts_check as starts_check
 use Rattle.index.proofs.starts.starts_check.Reads as starts_check_reads
-use Rattle.index.specs.contracts.fences.stride_of as stride_of
-use Rattle.index.proofs.fences.stride_of.Reads as stride_of_reads
-use Rattle.index.specs.contracts.fences.count_of as count_of
-use Rattle.index.proofs.fences.count_of.Reads as count_of_reads
-use Rattle.index.specs.contracts.fences.fences_sized as fences_sized
-use Rattle.index.proofs.fences.fences_sized.Reads as fences_sized_reads
 use Rattle.index.specs.contracts.fences.fences_good as fences_good
 use Rattle.index.proofs.fences.fences_good.Reads as fences_good_reads
 
@@ -38,15 +32,6 @@ offset_at_determined κs a pre r₁ r₂ w₁ w₂ p q = (p.0 ∙ sym q.0, refl)
 
 pub offsets_check_determined : Determined offsets_check.ended offsets_check_reads.Pre offsets_check_reads.Post
 offsets_check_determined κs a pre r₁ r₂ w₁ w₂ p q = (p ∙ sym q, refl)
-
-pub stride_of_determined : Determined stride_of.ended stride_of_reads.Pre stride_of_reads.Post
-stride_of_determined κs a pre r₁ r₂ w₁ w₂ p q = (p.0 ∙ sym q.0, refl)
-
-pub count_of_determined : Determined count_of.ended count_of_reads.Pre count_of_reads.Post
-count_of_determined κs a pre r₁ r₂ w₁ w₂ p q = (p.0 ∙ sym q.0, refl)
-
-pub fences_sized_determined : Determined fences_sized.ended fences_sized_reads.Pre fences_sized_reads.Post
-fences_sized_determined κs a pre r₁ r₂ w₁ w₂ p q = (p ∙ sym q, refl)
 
 pub fences_good_determined : Determined fences_good.ended fences_good_reads.Pre fences_good_reads.Post
 fences_good_determined κs a pre r₁ r₂ w₁ w₂ p q = (p ∙ sym q, refl)

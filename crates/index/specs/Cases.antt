@@ -1,16 +1,15 @@
 -- Rules 13 to 15 and 37 by their cases, as the loops meet them.
-use Rattle.std.specs.Prelude.{◌≡◌, refl, List, Bool, true, false, ◌&&◌, length, ltb, leb, eqb}
+use Rattle.std.specs.Prelude.{◌≡◌, List, Bool, true, false, ◌&&◌, length, ltb, eqb}
 use Rattle.std.proofs.Common.{sym, ap, ◌∙◌, div-add-mod', mul-le-mul_left, mul-le-mul_right}
 use Prim.Native.Nat.{ℕ, suc, ◌+◌, ◌-◌, ◌*◌, ◌/◌, ◌%◌, ◌≤◌, ◌<◌}
 use native.Mathlib.Omega.{arith}
 use Rattle.std.proofs.Math.Decide.{dec_lt}
-use borrow.Author.Tests.{lt-ltb, le-ltb, lt-leb, le-leb, leb-true, eqb-true, eq-eqb, ne_eqb}
+use borrow.Author.Tests.{lt-ltb, le-ltb, lt-leb, le-leb, eq-eqb, ne_eqb}
 use Rattle.base.specs.Pick.{pick}
 use Rattle.codes.specs.Little.{le_at}
 use Rattle.refusal.specs.declared.Refusal.{Refusal}
 use Rattle.refusal.specs.declared.Check.{Check}
-use Rattle.refusal.specs.Check.Laws.{and_parts}
-use Rattle.frame.specs.Open.{key_at, keys_from, offset_at, offset_good, rising_from, fence_good, fences_from, stride_of, fences_told, fences_with}
+use Rattle.frame.specs.Open.{key_at, keys_from, offset_at, offset_good, rising_from, fence_good, fences_from, fences_good, stride_of, fences_told}
 
 -- ---- rule 13: of n keys, k is the next
 
@@ -88,55 +87,31 @@ pub fences_none : (x keys : List ℕ) (stride m i : ℕ) → m ≤ i → fences_
 unfolding fences_from
 fences_none x keys stride m i h = let d : m - i ≡ 0 = omega arith in rw d
 
--- the tests before the entries, in their order: s is the stride, k the count
-module _ (x : List ℕ) (n : ℕ) (entries : Bool) where
-  pub fences_short : length x < 8 → fences_with x n entries ≡ false
+-- the tests before the walk, in their order: s is the stride, k the count
+module _ (x keys : List ℕ) (n : ℕ) where
+  pub fences_short : length x < 8 → fences_good x keys n ≡ false
+  unfolding fences_good
   fences_short h = simp (lt-leb 8 (length x) h)
 
   module _ (long : 8 ≤ length x) (s : ℕ) (es : s ≡ stride_of x) where
-    pub fences_stride : s < 1 → fences_with x n entries ≡ false
+    pub fences_stride : s < 1 → fences_good x keys n ≡ false
+    unfolding fences_good
     fences_stride h = rw (← es) (simp (le-leb 8 (length x) long, lt-leb 1 s h))
 
     module _ (some : 1 ≤ s) (k : ℕ) (ek : k ≡ fences_told x) where
-      fences_are : fences_with x n entries ≡ (eqb k ((n + (s - 1)) / s) && (eqb (length x) (8 + 24 * k) && entries))
+      fences_are : fences_good x keys n ≡ (eqb k ((n + (s - 1)) / s) && (eqb (length x) (8 + 24 * k) && fences_from k x keys s 0))
+      unfolding fences_good
       fences_are = rw (← es, ← ek) (simp (le-leb 8 (length x) long, le-leb 1 s some))
 
-      pub fences_count : (k ≡ (n + (s - 1)) / s → ⊥) → fences_with x n entries ≡ false
+      pub fences_count : (k ≡ (n + (s - 1)) / s → ⊥) → fences_good x keys n ≡ false
       fences_count ne = fences_are ∙ simp (ne_eqb k ((n + (s - 1)) / s) ne)
 
-      pub fences_length : k ≡ (n + (s - 1)) / s → fences_with x n entries ≡ (eqb (length x) (8 + 24 * k) && entries)
-      fences_length up = fences_are ∙ simp (eq-eqb k ((n + (s - 1)) / s) up)
+      module _ (up : k ≡ (n + (s - 1)) / s) where
+        pub fences_length : (length x ≡ 8 + 24 * k → ⊥) → fences_good x keys n ≡ false
+        fences_length ne = fences_are ∙ simp (eq-eqb k ((n + (s - 1)) / s) up, ne_eqb (length x) (8 + 24 * k) ne)
 
--- the tests hold, and the entries decide
-pub record FencesSized (x : List ℕ) (n : ℕ) : Type 0 where
-  pub long : 8 ≤ length x
-  pub some : 1 ≤ stride_of x
-  pub count : fences_told x ≡ (n + (stride_of x - 1)) / stride_of x
-  pub fill : length x ≡ 8 + 24 * fences_told x
-
-module _ (x : List ℕ) (n : ℕ) where
-  pub fences_sized : {entries : Bool} → fences_with x n entries ≡ true → FencesSized x n × (entries ≡ true)
-  fences_sized {entries} e =
-      let a = and_parts (leb 8 (length x)) _ e in
-      let b = and_parts (leb 1 (stride_of x)) _ a.1 in
-      let c = and_parts (eqb (fences_told x) ((n + (stride_of x - 1)) / stride_of x)) _ b.1 in
-      let d = and_parts (eqb (length x) (8 + 24 * fences_told x)) entries c.1 in
-      (record { long = leb-true _ _ a.0; some = leb-true _ _ b.0; count = eqb-true _ _ c.0; fill = eqb-true _ _ d.0 }, d.1)
-
-  pub fences_unsized : (entries : Bool) → fences_with x n true ≡ false → fences_with x n entries ≡ false
-  fences_unsized true e = e
-  fences_unsized false e = none (leb 8 (length x)) (leb 1 (stride_of x)) (eqb (fences_told x) ((n + (stride_of x - 1)) / stride_of x)) (eqb (length x) (8 + 24 * fences_told x))
-    where
-      none : (a b c d : Bool) → (a && (b && (c && (d && false)))) ≡ false
-      none true true true true = refl
-      none true true true false = refl
-      none true true false d = refl
-      none true false c d = refl
-      none false b c d = refl
-
-  pub fences_decide : FencesSized x n → (entries : Bool) → fences_with x n entries ≡ entries
-  fences_decide z entries =
-      simp (le-leb 8 (length x) z.long, le-leb 1 (stride_of x) z.some, eq-eqb (fences_told x) ((n + (stride_of x - 1)) / stride_of x) z.count, eq-eqb (length x) (8 + 24 * fences_told x) z.fill)
+        pub fences_walked : length x ≡ 8 + 24 * k → {r : Bool} → r ≡ fences_from k x keys s 0 → r ≡ fences_good x keys n
+        fences_walked eq e = e ∙ sym (fences_are ∙ simp (eq-eqb k ((n + (s - 1)) / s) up, eq-eqb (length x) (8 + 24 * k) eq))
 
 -- a count k of n keys divided by the stride s, rounded up: the last fence still is one of the keys
 pub rounded_up : (n s k : ℕ) → 1 ≤ s → k ≡ (n + (s - 1)) / s → (k * s < n + s) × (k ≤ n)

@@ -18,24 +18,20 @@ narrowed Order.Less above here below = above
 narrowed Order.Equal above here below = here
 narrowed Order.Greater above here below = below
 
--- at most d turns of the search for k from low to high, c keys having been compared; key i is nth i
-unfoldable pub find_from : ℕ → (ℕ → ℕ) → ℕ → ℕ → ℕ → ℕ → Found
-find_from zero nth k low high c = Found.Absent c
-find_from (suc d) nth k low high c =
+-- at most d turns of the search for k from low to high, c keys having been compared
+unfoldable pub find_from : ℕ → List ℕ → ℕ → ℕ → ℕ → ℕ → Found
+find_from zero s k low high c = Found.Absent c
+find_from (suc d) s k low high c =
     pick (ltb low high)
-    (narrowed (order (nth (middle low high)) k)
-    (find_from d nth k (middle low high + 1) high (c + 1))
+    (narrowed (order (key_at s (middle low high)) k)
+    (find_from d s k (middle low high + 1) high (c + 1))
     (Found.At (middle low high) (c + 1))
-    (find_from d nth k low (middle low high) (c + 1)))
+    (find_from d s k low (middle low high) (c + 1)))
     (Found.Absent c)
 
 -- the key k among n keys: each turn leaves a key out, so n turns are enough
-abbrev pub find_among : (ℕ → ℕ) → ℕ → ℕ → Found
-find_among nth n k = find_from n nth k 0 n 0
-
--- among the keys of a section
 unfoldable pub find_in : List ℕ → ℕ → ℕ → Found
-find_in s n k = find_among (key_at s) n k
+find_in s n k = find_from n s k 0 n 0
 
 -- the count that an answer carries
 unfoldable pub compared_of : Found → ℕ

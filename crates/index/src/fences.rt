@@ -1,27 +1,12 @@
 // Fences: every stride-th key, with its place among the keys. Rule 15.
-ghost use Rattle.std.specs.Prelude.{◌≡◌, true, ◌+◌, ◌*◌, ◌^◌, ◌≤◌, ◌<◌, length};
+ghost use Rattle.std.specs.Prelude.{◌≡◌, ◌+◌, ◌*◌, ◌≤◌, ◌<◌, length};
 ghost use Rattle.frame.specs.Kind as kind;
-ghost use Rattle.frame.specs.Open.{fence_good, fences_from, stride_of, fences_told, fences_with, fences_good};
+ghost use Rattle.frame.specs.Open.{fence_good, fences_from, fences_good};
 
 use super::keys::key_at;
 use codes::ids::{id_at, same_id};
 use codes::little::{le32, le64};
 use frame::kind::{Fences, Keys};
-
-// What stands before the fences: the stride, and how many there are.
-pub fn stride_of(x: &[u8]) -> usize
-    requires { kind.fences_head ≤ length x.now }
-    ensures { (result ≡ stride_of x.now) × (result < 2 ^ 32) }
-{
-    le32(x, 0) as usize
-}
-
-pub fn count_of(x: &[u8]) -> usize
-    requires { kind.fences_head ≤ length x.now }
-    ensures { (result ≡ fences_told x.now) × (result < 2 ^ 32) }
-{
-    le32(x, 4) as usize
-}
 
 // Is fence i key i * stride, and its place?
 fn fence_good(x: &[u8], keys: &[u8], stride: usize, i: usize) -> bool
@@ -52,34 +37,26 @@ fn all_good(x: &[u8], keys: &[u8], n: usize, stride: usize, count: usize) -> boo
     true
 }
 
-// Stride, count and length of the section x, as n keys ask: the stride is at least 1, the count is that of n keys divided by the
-// stride, rounded up, and so many fences fill the section.
-pub fn fences_sized(x: &[u8], n: usize) -> bool
-    requires { n ≤ kind.most_keys }
-    ensures { result ≡ fences_with x.now n true }
+// Rule 15: the stride is at least 1, the count is that of n keys divided by the stride, rounded up, the fences fill the
+// section x, and each is good.
+pub fn fences_good(x: &[u8], keys: &[u8], n: usize) -> bool
+    requires { (n ≤ kind.most_keys) × (n * kind.key_size ≤ length keys.now) }
+    ensures { result ≡ fences_good x.now keys.now n }
 {
     let head = Fences::HEAD as usize;
     if x.len() < head {
         return false;
     }
-    let stride = stride_of(x);
+    let stride = le32(x, 0) as usize;
     if stride < 1 {
         return false;
     }
-    let count = count_of(x);
+    let count = le32(x, 4) as usize;
     if count != (n + (stride - 1)) / stride {
         return false;
     }
-    x.len() == head + (Fences::ROW as usize) * count
-}
-
-// Rule 15: the section is as n keys ask, and each fence is good.
-pub fn fences_good(x: &[u8], keys: &[u8], n: usize) -> bool
-    requires { (n ≤ kind.most_keys) × (n * kind.key_size ≤ length keys.now) }
-    ensures { result ≡ fences_good x.now keys.now n }
-{
-    if !fences_sized(x, n) {
+    if x.len() != head + (Fences::ROW as usize) * count {
         return false;
     }
-    all_good(x, keys, n, stride_of(x), count_of(x))
+    all_good(x, keys, n, stride, count)
 }

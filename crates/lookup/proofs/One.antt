@@ -9,10 +9,6 @@ use Rattle.lookup.specs.contracts.known.offset_of as offset_of
 use Rattle.lookup.proofs.known.offset_of.Reads as offset_of_reads
 use Rattle.lookup.specs.contracts.known.edges_of as edges_of
 use Rattle.lookup.proofs.known.edges_of.Reads as edges_of_reads
-use Rattle.lookup.specs.contracts.groups.group_seen as group_seen
-use Rattle.lookup.proofs.groups.group_seen.Reads as group_seen_reads
-use Rattle.lookup.specs.contracts.groups.fill_part as fill_part
-use Rattle.lookup.proofs.groups.fill_part.Reads as fill_part_reads
 use Rattle.lookup.specs.contracts.groups.group_of as group_of
 use Rattle.lookup.proofs.groups.group_of.Reads as group_of_reads
 use Rattle.lookup.specs.contracts.known.fill_logs as fill_logs
@@ -36,12 +32,6 @@ offset_of_determined κs a pre r₁ r₂ w₁ w₂ p q = (p ∙ sym q, refl)
 
 pub edges_of_determined : Determined edges_of.ended edges_of_reads.Pre edges_of_reads.Post
 edges_of_determined κs a pre r₁ r₂ w₁ w₂ p q = (p ∙ sym q, refl)
-
-pub group_seen_determined : Determined group_seen.ended group_seen_reads.Pre group_seen_reads.Post
-group_seen_determined κs a pre r₁ r₂ w₁ w₂ p q = (p ∙ sym q, refl)
-
-pub fill_part_determined : Determined fill_part.ended fill_part_reads.Pre fill_part_reads.Post
-fill_part_determined κs a pre r₁ r₂ w₁ w₂ p q = (refl, ap (λ (l : List ℕ). (tt {0}, (tt {0}, (tt {0}, (l, tt {0}))))) (p ∙ sym q))
 
 pub group_of_determined : Determined group_of.ended group_of_reads.Pre group_of_reads.Post
 group_of_determined κs a pre r₁ r₂ w₁ w₂ p q = (p ∙ sym q, refl)

@@ -28,7 +28,7 @@ fn refused(refusal: Refusal) -> GroupSeen
 }
 
 // Group i, from a to e of the partners.
-pub fn group_seen(partners: &[u8], a: usize, e: usize, i: u64) -> GroupSeen
+fn group_seen(partners: &[u8], a: usize, e: usize, i: u64) -> GroupSeen
     ensures { result ≡ group_seen partners.now a e i }
 {
     if e < a {
@@ -55,7 +55,7 @@ pub fn group_of(file: &[u8], o: Opened, i: u64) -> GroupSeen
 }
 
 // Writes the partners of a good group from a to e.
-pub fn fill_part(partners: &[u8], a: usize, e: usize, out: &mut [u8])
+fn fill_part(partners: &[u8], a: usize, e: usize, out: &mut [u8])
     requires { Fills partners.now a e (length out.old) }
     ensures { out.new ≡ over (bytes_of (partners_of (group_of (part partners.now a e)))) out.old }
 {

@@ -9,10 +9,6 @@ use Rattle.reader.specs.contracts.header.header as header
 use Rattle.reader.proofs.header.header.Reads as header_reads
 use Rattle.reader.specs.contracts.rows.section_at as section_at
 use Rattle.reader.proofs.rows.section_at.Reads as section_at_reads
-use Rattle.reader.specs.contracts.look.inside_if as inside_if
-use Rattle.reader.proofs.look.inside_if.Reads as inside_if_reads
-use Rattle.reader.specs.contracts.look.record_good as record_good
-use Rattle.reader.proofs.look.record_good.Reads as record_good_reads
 use Rattle.reader.specs.contracts.look.partners as partners
 use Rattle.reader.proofs.look.partners.Reads as partners_reads
 use Rattle.reader.specs.contracts.look.partners_with as partners_with
@@ -30,12 +26,6 @@ header_determined κs a pre r₁ r₂ w₁ w₂ p q = (p ∙ sym q, refl)
 
 pub section_at_determined : Determined section_at.ended section_at_reads.Pre section_at_reads.Post
 section_at_determined κs a pre r₁ r₂ w₁ w₂ p q = (p ∙ sym q, refl)
-
-pub inside_if_determined : Determined inside_if.ended inside_if_reads.Pre inside_if_reads.Post
-inside_if_determined κs a pre r₁ r₂ w₁ w₂ p q = (p ∙ sym q, refl)
-
-pub record_good_determined : Determined record_good.ended record_good_reads.Pre record_good_reads.Post
-record_good_determined κs a pre r₁ r₂ w₁ w₂ p q = (p ∙ sym q, refl)
 
 pub partners_determined : Determined partners.ended partners_reads.Pre partners_reads.Post
 partners_determined κs a pre r₁ r₂ w₁ w₂ p q =

@@ -28,7 +28,7 @@ fn inside(size: u64, r: Range) -> bool
 }
 
 // The same of a range that is looked at only where its section is there.
-pub fn inside_if(there: bool, size: u64, r: Range) -> bool
+fn inside_if(there: bool, size: u64, r: Range) -> bool
     ensures { result ≡ (not there || leb (r.start + r.len) size) }
 {
     if !there {
@@ -50,7 +50,7 @@ fn options_inside(size: u64, o: Opened) -> bool
 }
 
 // Rule 21, of a file of that size.
-pub fn record_good(size: u64, o: Opened) -> bool
+fn record_good(size: u64, o: Opened) -> bool
     ensures { result ≡ record_within size o }
 {
     if Bounds::BYTES < size {

@@ -75,15 +75,13 @@ number_of (Refusal.VarintLarge byte group) = 35
 number_of (Refusal.Reserved entry) = 36
 -- an entry of the start index breaks a rule: the first is not 0, one is not above the one before, or the last is not the edge count
 number_of (Refusal.Start index) = 37
--- fewer bytes are lent to a step of a fetch than it asks for
-number_of (Refusal.Wanted bytes) = 38
 
 -- numbers: to here
 
 -- the last of them
 abbrev pub last_number : ℕ
 -- last: from refusals.txt
-last_number = 38
+last_number = 37
 
 -- last: to here
 
@@ -131,7 +129,6 @@ place_of (Refusal.VarintLong byte group) = byte
 place_of (Refusal.VarintLarge byte group) = byte
 place_of (Refusal.Reserved entry) = entry
 place_of (Refusal.Start index) = index
-place_of (Refusal.Wanted bytes) = bytes
 
 -- places: to here
 
@@ -173,7 +170,6 @@ beside_of (Refusal.VarintLong byte group) = group
 beside_of (Refusal.VarintLarge byte group) = group
 beside_of (Refusal.Reserved entry) = 0
 beside_of (Refusal.Start index) = 0
-beside_of (Refusal.Wanted bytes) = 0
 
 -- places beside: to here
 
@@ -184,7 +180,7 @@ refusals_at p q =
     Refusal.Size ∷ Refusal.Magic ∷ Refusal.Major ∷ Refusal.HeaderSize ∷ Refusal.Flags ∷ Refusal.TailMagic ∷ Refusal.FooterLength ∷ Refusal.FooterSum ∷ Refusal.Table ∷ Refusal.Codec p
     ∷ Refusal.Range p ∷ Refusal.Counts ∷ Refusal.Key p ∷ Refusal.Offset p ∷ Refusal.Fences ∷ Refusal.Tag p q ∷ Refusal.Size ∷ Refusal.Size ∷ Refusal.Degrees p ∷ Refusal.Room p
     ∷ Refusal.Record ∷ Refusal.Sum p ∷ Refusal.Data ∷ Refusal.Batch p ∷ Refusal.Unordered p ∷ Refusal.Bounds ∷ Refusal.Chunk ∷ Refusal.DegreeZero p q ∷ Refusal.PartnerOrder p q ∷ Refusal.UpperHalf p q
-    ∷ Refusal.GroupCut p q ∷ Refusal.SpareBytes p q ∷ Refusal.VarintCut p q ∷ Refusal.VarintLong p q ∷ Refusal.VarintLarge p q ∷ Refusal.Reserved p ∷ Refusal.Start p ∷ Refusal.Wanted p ∷ []
+    ∷ Refusal.GroupCut p q ∷ Refusal.SpareBytes p q ∷ Refusal.VarintCut p q ∷ Refusal.VarintLong p q ∷ Refusal.VarintLarge p q ∷ Refusal.Reserved p ∷ Refusal.Start p ∷ []
 
 -- all: to here
 

@@ -49,8 +49,6 @@ pub enum Refusal {
     Reserved { entry: u64 },
     // where a group's log numbers begin
     Start { index: u64 },
-    // fetching only what is needed
-    Wanted { bytes: u64 },
     // cases: to here
 }
 
@@ -120,7 +118,6 @@ pub fn told_of(r: Refusal) -> Told
         Refusal::VarintLarge { byte, group } => tell(35, byte, group),
         Refusal::Reserved { entry } => tell(36, entry, 0),
         Refusal::Start { index } => tell(37, index, 0),
-        Refusal::Wanted { bytes } => tell(38, bytes, 0),
         // told: to here
     }
 }

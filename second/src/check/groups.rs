@@ -6,16 +6,16 @@ mod walk;
 
 use super::Tally;
 use crate::corpus::bad_groups;
-use crate::groups::{self, Edge, Form, Group};
+use crate::groups::Form;
 use crate::lookup::group;
 use crate::numbers::{id_of, read_le};
 use crate::open::{bytes_of, OpenedRecord};
 use crate::random::Random;
 use crate::refusal::Refusal;
 use crate::varint;
+use walk::step_by_step;
 
 pub use spots::Spots;
-pub use walk::step_by_step;
 
 /// The refusals that tell a byte of a group.
 pub const FAULTS: [u8; 9] = [16, 28, 29, 30, 31, 32, 33, 34, 35];
@@ -43,23 +43,6 @@ pub fn group_bytes<'a>(file: &'a [u8], record: &OpenedRecord, index: usize) -> &
     let offsets = bytes_of(file, record.offsets);
     let offset = |index: usize| read_le(&offsets[width * index..][..width]) as usize;
     &bytes_of(file, record.partners)[offset(index)..offset(index + 1)]
-}
-
-/// Do these partners, written as a group of either form, make these bytes?
-pub fn holds_partners(group: &[u8], partners: &[u8]) -> bool {
-    let edges: Vec<Edge> = partners
-        .chunks_exact(16)
-        .map(|id| Edge {
-            partner: id.try_into().expect("16 bytes"),
-            log: 0,
-            dead: false,
-        })
-        .collect();
-    [Form::Split, Form::Dense].into_iter().any(|form| {
-        let edges = edges.clone();
-        let key = id_of(0, 0);
-        groups::partners(&[Group { key, form, edges }]).bytes == group
-    })
 }
 
 /// The marked cases 5, 8 and 9 of the format's rules.

@@ -2,15 +2,16 @@
 
 mod starts;
 
-use super::groups::{self, check_fault, group_bytes, holds_partners, Spots, FAULTS};
-use super::{check_unique, Input, Tally, CALL_NAME};
+use super::groups::{self, check_fault, group_bytes, Spots, FAULTS};
+use super::Tally;
 use crate::corpus::lookup_calls::{
     self, Call, Intended, LentRecord, LookupFile, Outcome, Rooms, LONGEST_FILE,
 };
 use crate::corpus::open_files;
 use crate::format::bound;
+use crate::groups::{partners, Edge, Form, Group};
 use crate::lookup::{lookup_from_record, partners_from_record, Answer, Outputs};
-use crate::numbers::{id_number, id_of, Id};
+use crate::numbers::{id_number, id_of, read_le, Id};
 use crate::open::{bytes_of, open, OpenedRecord, Range};
 use crate::refusal::Refusal;
 use std::cmp::Ordering;
@@ -75,8 +76,17 @@ fn check_by_opening(
 }
 
 fn check_names(tally: &mut Tally, files: &[LookupFile]) {
-    let calls = files.iter().flat_map(|file| &file.calls);
-    check_unique(tally, calls.map(|call| &call.name), CALL_NAME);
+    let mut seen = BTreeSet::new();
+    for call in files.iter().flat_map(|file| &file.calls) {
+        let name = &call.name;
+        let letter = |c: char| c.is_ascii_lowercase() || c.is_ascii_digit();
+        let words = name
+            .split('-')
+            .all(|word| !word.is_empty() && word.chars().all(letter));
+        let good = words && name.len() <= 80;
+        tally.same(&format!("form of the name {name}"), good, true);
+        tally.same(&format!("only one call {name}"), seen.insert(name), true);
+    }
     // A name tells one file, in both corpora.
     let mut bytes: BTreeMap<String, Vec<u8>> = open_files::small()
         .into_iter()
@@ -125,50 +135,78 @@ fn check_sizes(tally: &mut Tally, files: &[LookupFile]) {
 /// The input falls apart into its items again.
 fn check_input(tally: &mut Tally, files: &[LookupFile]) {
     let input = lookup_calls::stdin(files);
-    let mut input = Input { rest: &input };
+    let mut reader = Reader { rest: &input };
     for file in files {
-        let kind = input.number(1);
-        let same = kind == 1 && input.counted(4) == file.bytes;
+        let kind = reader.number(1);
+        let length = reader.number(4);
+        let same = kind == 1 && reader.take(length) == file.bytes;
         tally.same(&format!("input of {}", file.name), same, true);
         for call in &file.calls {
             // The intention is not told.
-            let mut read = read_call(&mut input);
+            let mut read = reader.call();
             read.intended = call.intended;
             tally.same(&format!("input of {}", call.name), &read, call);
         }
     }
-    tally.same("lookup input read to its end", input.rest.len(), 0);
+    tally.same("lookup input read to its end", reader.rest.len(), 0);
 }
 
-fn read_call(input: &mut Input) -> Call {
-    let kind = input.number(1);
-    Call {
-        name: input.name(),
-        full: input.number(1) == 1,
-        key: input.id(),
-        rooms: Rooms {
-            partners: input.number(4) as u32,
-            logs: input.number(4) as u32,
-            marks: input.number(4) as u32,
-        },
-        record: (kind == 3).then(|| read_record(input)),
-        intended: None,
+struct Reader<'a> {
+    rest: &'a [u8],
+}
+
+impl<'a> Reader<'a> {
+    fn take(&mut self, count: u64) -> &'a [u8] {
+        let (taken, rest) = self.rest.split_at(self.rest.len().min(count as usize));
+        self.rest = rest;
+        taken
     }
-}
 
-fn read_record(input: &mut Input) -> LentRecord {
-    LentRecord {
-        keys: input.range(8),
-        offsets: input.range(8),
-        partners: input.range(8),
-        logs: input.range(8),
-        dead: input.range(8),
-        marked: input.number(1) == 1,
-        key_count: input.number(8),
-        edge_count: input.number(8),
-        offset_bits: input.number(1) as u8,
-        starts: input.range(8),
-        indexed: input.number(1) == 1,
+    fn number(&mut self, width: u64) -> u64 {
+        match self.take(width) {
+            [] => 0,
+            bytes => read_le(bytes),
+        }
+    }
+
+    fn call(&mut self) -> Call {
+        let kind = self.number(1);
+        let name_length = self.number(1);
+        Call {
+            name: String::from_utf8_lossy(self.take(name_length)).into_owned(),
+            full: self.number(1) == 1,
+            key: self.take(16).try_into().unwrap_or_default(),
+            rooms: Rooms {
+                partners: self.number(4) as u32,
+                logs: self.number(4) as u32,
+                marks: self.number(4) as u32,
+            },
+            record: (kind == 3).then(|| self.record()),
+            intended: None,
+        }
+    }
+
+    fn record(&mut self) -> LentRecord {
+        let mut range = || Range {
+            offset: self.number(8),
+            length: self.number(8),
+        };
+        LentRecord {
+            keys: range(),
+            offsets: range(),
+            partners: range(),
+            logs: range(),
+            dead: range(),
+            marked: self.number(1) == 1,
+            key_count: self.number(8),
+            edge_count: self.number(8),
+            offset_bits: self.number(1) as u8,
+            starts: Range {
+                offset: self.number(8),
+                length: self.number(8),
+            },
+            indexed: self.number(1) == 1,
+        }
     }
 }
 
@@ -224,7 +262,7 @@ fn check_edges(tally: &mut Tally, file: &LookupFile, call: &Call, outcome: &Outc
 }
 
 /// The search by another way: each half is a run of keys of its own.
-pub fn halves(keys: &[u128], key: u128) -> (Option<usize>, u32) {
+fn halves(keys: &[u128], key: u128) -> (Option<usize>, u32) {
     let Some(middle) = keys.get(keys.len() / 2) else {
         return (None, 0);
     };
@@ -284,7 +322,23 @@ fn check_group(
         return;
     };
     let group = group_bytes(&file.bytes, record, index as usize);
-    let same = holds_partners(group, &outcome.buffers.partners[..16 * degree as usize]);
+    let edges: Vec<Edge> = outcome.buffers.partners[..16 * degree as usize]
+        .chunks_exact(16)
+        .map(|id| Edge {
+            partner: id.try_into().expect("16 bytes"),
+            log: 0,
+            dead: false,
+        })
+        .collect();
+    let rewritten = |form: Form| {
+        let group = Group {
+            key: call.key,
+            form,
+            edges: edges.clone(),
+        };
+        partners(&[group]).bytes
+    };
+    let same = rewritten(Form::Split) == group || rewritten(Form::Dense) == group;
     tally.same(&format!("{} written again", call.name), same, true);
 }
 

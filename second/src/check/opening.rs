@@ -3,8 +3,6 @@
 mod reserved;
 mod starts;
 
-pub use reserved::entries;
-
 use super::{check_framed, check_names, Named, Tally};
 use crate::corpus::open_files::{self, OpenFile, Verdict};
 use crate::format::{bound, kind, HEADER, MAGIC, TRAILER};

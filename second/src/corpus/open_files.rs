@@ -122,17 +122,20 @@ impl OpenFile {
     }
 }
 
+fn range_text(range: Range) -> String {
+    format!("{} {}", range.offset, range.length)
+}
+
 fn record_text(record: &OpenedRecord) -> String {
-    let or_none =
-        |range: Option<Range>| range.map_or("none".to_string(), |range| range.to_string());
+    let or_none = |range: Option<Range>| range.map_or("none".to_string(), range_text);
     let dead = or_none(record.tombstones);
     let starts = or_none(record.starts);
     format!(
         "opens keys {} offsets {} partners {} logs {} dead {dead} starts {starts} n {} e {} bits {}",
-        record.keys,
-        record.offsets,
-        record.partners,
-        record.logs,
+        range_text(record.keys),
+        range_text(record.offsets),
+        range_text(record.partners),
+        range_text(record.logs),
         record.key_count,
         record.edge_count,
         record.offset_bits,
@@ -157,7 +160,12 @@ fn fields_text(fields: &HeaderFields) -> String {
 pub fn row_text(row: &SectionRow) -> String {
     format!(
         "  section {} {} {} {} {} {:016x}",
-        row.kind, row.codec, row.name_place, row.name_length, row.range, row.checksum,
+        row.kind,
+        row.codec,
+        row.name_place,
+        row.name_length,
+        range_text(row.range),
+        row.checksum,
     )
 }
 

@@ -4,19 +4,10 @@ use super::id_at;
 use crate::numbers::{id_number, Id};
 use std::cmp::Ordering;
 
-/// Where the search ends in a run of keys.
-#[derive(Clone, Copy, Debug, PartialEq, Eq)]
-pub enum Ending {
-    /// It meets the key, which has this index.
-    Met(usize),
-    /// It does not; if the keys increase, so many are below the key.
-    Below(usize),
-}
-
-/// Where the search ends, and the count of keys that it compared on the way.
-/// The rule is followed even where keys do not increase; a key that is there
-/// may then be missed.
-pub fn halving(keys: &[u8], key: &Id) -> (Ending, u32) {
+/// The index of the key, if the search meets it, and the count of keys that
+/// it compared on the way. The rule is followed even where keys do not
+/// increase; a key that is there may then be missed.
+pub fn halving(keys: &[u8], key: &Id) -> (Option<usize>, u32) {
     let key = id_number(key);
     let (mut low, mut high) = (0, keys.len() / 16);
     let mut compared = 0;
@@ -24,10 +15,10 @@ pub fn halving(keys: &[u8], key: &Id) -> (Ending, u32) {
         let middle = low + (high - low) / 2;
         compared += 1;
         match id_at(keys, middle).cmp(&key) {
-            Ordering::Equal => return (Ending::Met(middle), compared),
+            Ordering::Equal => return (Some(middle), compared),
             Ordering::Less => low = middle + 1,
             Ordering::Greater => high = middle,
         }
     }
-    (Ending::Below(low), compared)
+    (None, compared)
 }

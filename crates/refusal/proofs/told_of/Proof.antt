@@ -222,12 +222,6 @@ enum-known-r-20 c = search rules
 tell-requires-35 : tie.Need-tell-requires-35
 tell-requires-35 c κs = search rules
 
-enum-known-r-21 : tie.Need-enum-known-r-21
-enum-known-r-21 c = search rules
-
-tell-requires-36 : tie.Need-tell-requires-36
-tell-requires-36 c κs = search rules
-
 returns : tie.Need-returns
 returns c = is c.before.enum_told.given.1 c.tell.ensures
 
@@ -333,9 +327,6 @@ returns-34 c = is c.before.before.r19.given.1 c.tell34.ensures
 returns-35 : tie.Need-returns-35
 returns-35 c = is c.before.before.r20.given.1 c.tell35.ensures
 
-returns-36 : tie.Need-returns-36
-returns-36 c = is c.before.before.r21.given.1 c.tell36.ensures
-
 pub told_of_spec : {M : Type 1} → statement M
 told_of_spec =
     tie.close
@@ -410,8 +401,6 @@ told_of_spec =
     tell-requires-34
     enum-known-r-20
     tell-requires-35
-    enum-known-r-21
-    tell-requires-36
     returns
     returns-2
     returns-3
@@ -446,5 +435,4 @@ told_of_spec =
     returns-32
     returns-33
     returns-34
-    returns-35
-    returns-36)
+    returns-35)

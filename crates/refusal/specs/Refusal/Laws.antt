@@ -43,7 +43,6 @@ numbered (Refusal.VarintLong byte group) = refl
 numbered (Refusal.VarintLarge byte group) = refl
 numbered (Refusal.Reserved entry) = refl
 numbered (Refusal.Start index) = refl
-numbered (Refusal.Wanted bytes) = refl
 
 -- numbered: to here
 
@@ -92,7 +91,6 @@ not_gone (Refusal.VarintLong byte group) = refl
 not_gone (Refusal.VarintLarge byte group) = refl
 not_gone (Refusal.Reserved entry) = refl
 not_gone (Refusal.Start index) = refl
-not_gone (Refusal.Wanted bytes) = refl
 
 -- not-gone: to here
 
@@ -135,7 +133,6 @@ told_back (Refusal.VarintLong byte group) = refl
 told_back (Refusal.VarintLarge byte group) = refl
 told_back (Refusal.Reserved entry) = refl
 told_back (Refusal.Start index) = refl
-told_back (Refusal.Wanted bytes) = refl
 
 -- told_back: to here
 

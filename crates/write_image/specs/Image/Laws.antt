@@ -245,10 +245,10 @@ module _ (es : List Edge) (i j : ℕ) (e : GroupEnd es i j) where
     unfolding any_dense
     any_step = ap (any_dense n) e.groups
 
-    pub offsets_step_lem : (w at : ℕ) → offset_bytes w n at (groups_of (drop i es))
+    pub offsets_step : (w at : ℕ) → offset_bytes w n at (groups_of (drop i es))
         ≡ le_bytes w at ++ offset_bytes w n (at + length (group_bytes n (partners_in (part es i j)))) (groups_of (drop j es))
     unfolding numbers offsets_from
-    offsets_step_lem w at = ap (λ (t : List Group). offset_bytes w n at t) e.groups
+    offsets_step w at = ap (λ (t : List Group). offset_bytes w n at t) e.groups
 
 module _ (es : List Edge) (i : ℕ) (e : i ≡ length es) where
   pub keys_end : key_bytes (groups_of (drop i es)) ≡ []
@@ -360,9 +360,9 @@ length_fence k i =
     let b = length_le_bytes 8 (kind.key_size * (i * kind.fence_stride)) in
     length-append (id_bytes k) (le_bytes 8 (kind.key_size * (i * kind.fence_stride))) ∙ omega arith
 
-pub fences_step_lem : (ks : List Id) (m i : ℕ) → i < m → fence_keys_from (m - i) ks i ≡ fence_bytes (get_or ks (i * kind.fence_stride) none.key) i ++ fence_keys_from (m - (i + 1)) ks (i + 1)
+pub fences_step : (ks : List Id) (m i : ℕ) → i < m → fence_keys_from (m - i) ks i ≡ fence_bytes (get_or ks (i * kind.fence_stride) none.key) i ++ fence_keys_from (m - (i + 1)) ks (i + 1)
 unfolding fence_keys_from
-fences_step_lem ks m i h = let n : m - i ≡ suc (m - (i + 1)) = omega arith in ap (λ (t : ℕ). fence_keys_from t ks i) n
+fences_step ks m i h = let n : m - i ≡ suc (m - (i + 1)) = omega arith in ap (λ (t : ℕ). fence_keys_from t ks i) n
 
 pub fences_end : (ks : List Id) (m i : ℕ) → m ≤ i → fence_keys_from (m - i) ks i ≡ []
 unfolding fence_keys_from

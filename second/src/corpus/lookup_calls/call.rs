@@ -64,6 +64,12 @@ pub struct LentRecord {
     pub indexed: bool,
 }
 
+/// Where a section is not there.
+const NOWHERE: Range = Range {
+    offset: 0,
+    length: 0,
+};
+
 /// What the outputs hold.
 #[derive(Clone, Debug, PartialEq, Eq)]
 pub struct Buffers {
@@ -128,29 +134,37 @@ impl LentRecord {
             offsets: record.offsets,
             partners: record.partners,
             logs: record.logs,
-            dead: record.tombstones.unwrap_or(Range::NOWHERE),
+            dead: record.tombstones.unwrap_or(NOWHERE),
             marked: record.tombstones.is_some(),
             key_count: record.key_count,
             edge_count: record.edge_count,
             offset_bits: record.offset_bits,
-            starts: record.starts.unwrap_or(Range::NOWHERE),
+            starts: record.starts.unwrap_or(NOWHERE),
             indexed: record.starts.is_some(),
         }
     }
 
     /// The record of the file that is laid out so, even if it does not open.
     pub fn of_layout(layout: &Layout) -> Self {
-        let required = |kind| layout.range(kind).expect("a section of the kind");
+        let offsets = layout.offsets();
+        let range = |kind: u16| {
+            let index = layout.sections.iter().position(|s| s.kind == kind)?;
+            Some(Range {
+                offset: offsets[index],
+                length: layout.sections[index].bytes.len() as u64,
+            })
+        };
+        let required = |kind| range(kind).expect("a section of the kind");
         LentRecord::of(&OpenedRecord {
             keys: required(kind::KEYS),
             offsets: required(kind::OFFSETS),
             partners: required(kind::PARTNERS),
             logs: required(kind::LOGS),
-            tombstones: layout.range(kind::TOMBSTONES),
+            tombstones: range(kind::TOMBSTONES),
             key_count: layout.key_count,
             edge_count: layout.edge_count,
             offset_bits: layout.offset_bits,
-            starts: layout.range(kind::START_INDEX),
+            starts: range(kind::START_INDEX),
         })
     }
 
@@ -172,7 +186,7 @@ impl LentRecord {
 
     /// This record as if the file had no start index.
     pub fn without_starts(&self) -> Self {
-        self.with(|record| (record.starts, record.indexed) = (Range::NOWHERE, false))
+        self.with(|record| (record.starts, record.indexed) = (NOWHERE, false))
     }
 
     /// What the lookup takes.

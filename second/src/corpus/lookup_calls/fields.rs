@@ -2,7 +2,6 @@
 
 use super::{ask, expect, found, Files, LentRecord, LookupFile};
 use crate::corpus::open_files::samples::{full, full_indexed, one_edge, three_groups};
-use crate::corpus::others;
 use crate::groups;
 use crate::layout::Layout;
 use crate::numbers::{id_of, Id};
@@ -29,6 +28,22 @@ const RANGES: [(&str, RangeOf); 6] = [
     ("dead", |record| &mut record.dead),
     ("starts", |record| &mut record.starts),
 ];
+
+/// Numbers that a slip would take for this one.
+fn others(number: u64) -> Vec<u64> {
+    vec![
+        0,
+        1,
+        number.wrapping_sub(1),
+        number.wrapping_add(1),
+        1 << 32,
+        number | 1 << 32,
+        1 << 63,
+        number | 1 << 63,
+        u64::MAX,
+        u64::MAX - 1,
+    ]
+}
 
 fn one_field(files: &mut Files, name: &str, layout: Layout, keys: &[Id]) {
     let mut fields = Fields {

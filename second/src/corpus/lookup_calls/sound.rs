@@ -3,7 +3,7 @@
 use super::{ask, found, Files, Intended, LentRecord, LookupFile, Rooms};
 use crate::corpus::open_files;
 use crate::corpus::open_files::samples::{
-    dead, dense, full, live, one_edge, single_groups, split, three_groups, with_unknown_sections,
+    dead, dense, full, live, one_edge, single_groups, split, three_groups, SKIPPED,
 };
 use crate::format::{flag, kind, OFFSET_BITS};
 use crate::groups::{self, Edge, Group};
@@ -218,10 +218,19 @@ fn tombstones(files: &mut Files) {
     every_key(files, "tombstones-without-flag", changed, groups);
 }
 
-/// Minor 200 and sections of unknown kinds.
+/// Minor 200 and sections of unknown kinds before, between and after all others.
 fn skipped_sections(files: &mut Files) {
+    let unknown = |l: &mut Layout| {
+        l.header.minor = 200;
+        let kinds = [300, SKIPPED, 0, 0xFFFF, 0x01FF, SKIPPED];
+        for (i, kind) in kinds.into_iter().enumerate() {
+            let bytes: Vec<u8> = (0..=2 * i as u8).collect();
+            let section = Section::new(kind, bytes).codec(i as u8).named(*b"what");
+            l.sections.insert(2 * i, section);
+        }
+    };
     let groups = three_groups();
-    let layout = with_unknown_sections(groups::layout(&groups, 24));
+    let layout = groups::layout(&groups, 24).with(unknown);
     every_key(files, "minor-200-three-groups", layout, groups);
     let layout = one_edge().with(|l| {
         l.header.minor = 200;

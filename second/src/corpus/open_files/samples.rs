@@ -103,20 +103,6 @@ pub fn indexed_1025_keys() -> Layout {
     indexed(&single_groups(1_025)).with(|l| l.header.minor = 1)
 }
 
-/// Minor 200 and sections of unknown kinds before, between and after all others.
-pub fn with_unknown_sections(layout: Layout) -> Layout {
-    layout.with(|l| {
-        l.header.minor = 200;
-        let kinds = [300, SKIPPED, 0, 0xFFFF, 0x01FF, SKIPPED];
-        for (i, kind) in kinds.into_iter().enumerate() {
-            let bytes: Vec<u8> = (0..=2 * i as u8).collect();
-            let section = Section::new(kind, bytes).codec(i as u8).named(*b"what");
-            let place = l.sections.len().min(2 * i);
-            l.sections.insert(place, section);
-        }
-    })
-}
-
 /// The starts of `five_groups`.
 pub const FIVE_STARTS: [u64; 6] = [0, 2, 3, 6, 7, 9];
 

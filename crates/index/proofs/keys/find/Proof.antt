@@ -6,7 +6,7 @@ use Rattle.codes.specs.declared.ids.Order.{Order}
 use Rattle.codes.specs.Ids.{id_number, order}
 use Rattle.frame.specs.Open.{key_at}
 use Rattle.index.specs.Compare.{order_read}
-use Rattle.index.specs.Find.{middle, find_in}
+use Rattle.index.specs.Find.{middle}
 use Rattle.index.specs.Find.Laws.{Between, search_start, search_end, search_above, search_here, search_below}
 use borrow.Author.Rules.{rules}
 use Rattle.index.proofs.keys.find.Statement.{statement}
@@ -14,7 +14,7 @@ use Rattle.index.proofs.keys.find.Tie as tie
 
 abbrev invariant_loop : tie.invariant-loop
 invariant_loop keys n key low₀ high₀ compared₀ low high compared =
-    (high ≤ n) × (compared + (high - low) ≤ n) × Between (key_at keys) n (id_number key) low high compared
+    (high ≤ n) × (compared + (high - low) ≤ n) × Between keys n (id_number key) low high compared
 
 abbrev decreases_loop : tie.decreases-loop
 decreases_loop keys n key low₀ high₀ compared₀ low high compared = high - low
@@ -30,7 +30,7 @@ said c p q =
     order_read a.keys.now (middle l.low l.high * 16) c.before.key_at.ensures (id_number a.key) p c.compare.ensures q
 
 loop-holds : tie.Need-loop-init invariant_loop decreases_loop
-loop-holds c = let a = c.before.args in (omega arith, omega arith, search_start (key_at a.keys.now) a.n (id_number a.key))
+loop-holds c = let a = c.before.args in (omega arith, omega arith, search_start a.keys.now a.n (id_number a.key))
 
 sub-middle : tie.Need-overflow-sub-middle invariant_loop decreases_loop
 sub-middle c = omega arith
@@ -61,7 +61,7 @@ loop-again c =
     let a = c.before.before.before.before.before.before.before.args in
     let l = c.before.before.before.before.before.loop in
     let answer = said c.before.before Order.Less c.enum_told.given.1 in
-    (omega arith, omega arith, search_above (key_at a.keys.now) a.n (id_number a.key) l.low l.high l.compared l.invariant.2 (omega arith) answer)
+    (omega arith, omega arith, search_above a.keys.now a.n (id_number a.key) l.low l.high l.compared l.invariant.2 (omega arith) answer)
 
 enum-told-2 : tie.Need-enum-told-2 invariant_loop decreases_loop
 enum-told-2 c = search rules
@@ -74,25 +74,23 @@ loop-again-2 c =
     let a = c.before.before.before.before.before.before.before.args in
     let l = c.before.before.before.before.before.loop in
     let answer = said c.before.before Order.Greater c.enum-told2.given.1 in
-    (omega arith, omega arith, search_below (key_at a.keys.now) a.n (id_number a.key) l.low l.high l.compared l.invariant.2 (omega arith) answer)
+    (omega arith, omega arith, search_below a.keys.now a.n (id_number a.key) l.low l.high l.compared l.invariant.2 (omega arith) answer)
 
 enum-told-3 : tie.Need-enum-told-3 invariant_loop decreases_loop
 enum-told-3 c = search rules
 
 returns : tie.Need-returns invariant_loop decreases_loop
-unfolding find_in
 returns c =
     let a = c.before.before.before.before.before.before.before.args in
     let l = c.before.before.before.before.before.loop in
     let answer = said c.before.before Order.Equal c.enum-told3.given.1 in
-    search_here (key_at a.keys.now) a.n (id_number a.key) l.low l.high l.compared l.invariant.2 (omega arith) answer
+    search_here a.keys.now a.n (id_number a.key) l.low l.high l.compared l.invariant.2 (omega arith) answer
 
 returns-2 : tie.Need-returns-2 invariant_loop decreases_loop
-unfolding find_in
 returns-2 c =
     let a = c.before.before.before.args in
     let l = c.before.loop in
-    search_end (key_at a.keys.now) a.n (id_number a.key) l.low l.high l.compared l.invariant.2 (omega arith)
+    search_end a.keys.now a.n (id_number a.key) l.low l.high l.compared l.invariant.2 (omega arith)
 
 pub find_spec : {M : Type 1} → statement M
 find_spec =

@@ -15,7 +15,7 @@ use Rattle.batch.specs.declared.Edge.{Edge}
 use Rattle.batch_groups.specs.Groups.{none, Group, groups_of, GroupEnd, Grouped}
 use Rattle.batch_groups.specs.Groups.Laws.{grouped_step}
 use Rattle.write_image.specs.Image.{group_bytes, key_bytes, offset_bytes, partner_bytes}
-use Rattle.write_image.specs.Image.Laws.{rises, keys_step, keys_end, partners_step, partners_end, offsets_step_lem, offsets_end, length_keys, length_offsets}
+use Rattle.write_image.specs.Image.Laws.{rises, keys_step, keys_end, partners_step, partners_end, offsets_step, offsets_end, length_keys, length_offsets}
 use Rattle.write_source.specs.Source.{source_edges}
 use Rattle.write_sections.specs.Three as T
 use Rattle.write_sections.specs.Three.{Three}
@@ -47,7 +47,7 @@ module _ (es : List Edge) (n keys w : ℕ) (start : List ℕ) (at base : ℕ) wh
       here = group_bytes keys (partners_in (part es i j))
 
       todo : Three out k (key ++ key_bytes (left j)) o (number ++ offset_bytes w keys (p - base + length here) (left j)) p (here ++ partner_bytes keys (left j)) start at all
-      todo = T.are (keys_step es i j e) (offsets_step_lem es i j e keys w (p - base)) (partners_step es i j e keys) h.three
+      todo = T.are (keys_step es i j e) (offsets_step es i j e keys w (p - base)) (partners_step es i j e keys) h.three
 
       room : at + length all ≤ length start → (k + 16 ≤ length out) × (o + w ≤ length out) × (p + length here ≤ length out)
       room g =

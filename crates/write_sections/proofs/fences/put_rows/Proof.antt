@@ -11,7 +11,7 @@ use Rattle.codes.specs.Ids.{halves_at}
 use Rattle.frame.specs.Kind as kind
 use Rattle.batch_groups.specs.Groups.{none}
 use Rattle.write_image.specs.Image.{fence_bytes, fence_keys_from}
-use Rattle.write_image.specs.Image.Laws.{length_fence, fences_step_lem, fences_end}
+use Rattle.write_image.specs.Image.Laws.{length_fence, fences_step, fences_end}
 use Rattle.write_sections.specs.Ids.{ids_at, ids_at, id_below}
 use Rattle.write_sections.proofs.fences.put_rows.Statement.{statement}
 use Rattle.write_sections.proofs.fences.put_rows.Tie as tie
@@ -37,7 +37,7 @@ module _ (o : List ℕ) (first keys at m : ℕ) where
           ∙ sym (ids_at keys o first (i * 256) none.key inside)
 
       todo : Left out to (fence_bytes key i ++ fence_keys_from (m - (i + 1)) ids (i + 1)) o at (fence_keys_from m ids 0)
-      todo = P.is (fences_step_lem ids m i lt ∙ ap (λ (t : Id). fence_bytes t i ++ fence_keys_from (m - (i + 1)) ids (i + 1)) (sym is)) h.left
+      todo = P.is (fences_step ids m i lt ∙ ap (λ (t : Id). fence_bytes t i ++ fence_keys_from (m - (i + 1)) ids (i + 1)) (sym is)) h.left
 
       room : at + length (fence_keys_from m ids 0) ≤ length o → to + 24 ≤ length out
       room g = omega (arith, P.room (fence_bytes key i) (fence_keys_from (m - (i + 1)) ids (i + 1)) todo g, length_fence key i)
