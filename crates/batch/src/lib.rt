@@ -1,4 +1,6 @@
 // A batch: a heading and edges, one record each. The read-out makes one of a file, and the writer makes a file of one.
+#![tactic(auto)]
+
 ghost use Rattle.std.specs.Prelude.{◌≡◌, ◌+◌, ◌≤◌, length};
 ghost use Rattle.std.proofs.lemmas.List.Edits.{sets};
 ghost use Rattle.base.specs.Pick.{pick};

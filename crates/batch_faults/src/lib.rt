@@ -1,5 +1,7 @@
 // The check of a batch: its first faulty record, 24 or 25, at the record's first byte; or what is counted of its edges on
 // the way.
+#![tactic(auto)]
+
 ghost use Rattle.std.specs.Prelude.{◌≡◌, ◌+◌, ◌*◌, ◌≤◌, length, ◌||◌, eqb};
 ghost use Rattle.refusal.specs.declared.Refusal.{Refusal};
 ghost use Rattle.batch.specs.Batch.{record_size, place, edge_at, edges_at, is_edge, fault_from};

@@ -13,7 +13,7 @@ pub enum Order {
 }
 
 // An id as its upper and its lower half.
-#[derive(Drop)]
+#[derive(Clone, Copy)]
 pub struct Id {
     pub hi: u64,
     pub lo: u64,

@@ -2,6 +2,8 @@
 // as one big-endian number, and varints.
 // A read or a write asks that its bytes lie within the slice, and each caller proves it; `varint_at` asks nothing, since
 // where a varint ends is known only by reading it.
+#![tactic(auto)]
+
 pub mod ids;
 pub mod little;
 pub mod varint;

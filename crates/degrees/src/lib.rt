@@ -1,5 +1,7 @@
 // Degrees of groups, and how many edges stand before a group: as the start index says, without reading any degree; or the sum of
 // the earlier degrees, of which only the first varint of each group is read.
+#![tactic(auto)]
+
 ghost use Rattle.std.specs.Prelude.{◌≡◌, ◌+◌, ◌*◌, ◌≤◌, ◌<◌, length};
 ghost use Rattle.frame.specs.Kind as kind;
 ghost use Rattle.degrees.specs.Degrees.{degree_in, edges_before, start_of, capped};

@@ -1,4 +1,6 @@
 // Prints a file of at most 65,536 bytes from standard input; for more it prints `too long`.
+#![tactic(auto)]
+
 use printing::{BATCH, print_file};
 use streams::{LONGEST, read_input, say, wrote};
 
@@ -12,9 +14,9 @@ fn printed(file: &[u8]) -> bool {
     print_file(file, &mut room, &mut out)
 }
 
-fn main() {
+fn main(rt: HostRuntime) {
     let mut space = [0u8; 65537];
-    let input = read_input(&mut space);
+    let input = read_input(&mut rt.stdin(), &mut space);
     if input.failed {
         say(b"cannot read\n");
         return;

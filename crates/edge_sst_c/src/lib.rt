@@ -1,4 +1,6 @@
 // The calls for C. Each is thin over the library and gives numbers: 0 is no refusal. See include/edge_sst.h.
+#![tactic(auto)]
+
 ghost use Rattle.std.specs.Prelude.{◌≡◌};
 ghost use Rattle.frame.specs.Open.{open_of};
 ghost use Rattle.refusal.specs.Refusal.{number_of, place_of, beside_of};

@@ -1,5 +1,7 @@
 // The frame of a file: header, section table, footer. Definitions of opening (specs/), and the types that they speak of.
 // The code of the rules stands in the crates above.
+#![tactic(auto)]
+
 ghost use Rattle.std.specs.Prelude.{◌≡◌, ◌+◌, ◌≤◌, length};
 ghost use Rattle.frame.specs.Frame.{raw_row};
 ghost use Rattle.frame.specs.Open.{bytes_at};
@@ -11,7 +13,7 @@ pub mod ends;
 pub mod kind;
 
 // Where a section lies.
-#[derive(Drop)]
+#[derive(Clone, Copy)]
 pub struct Range {
     pub start: u64,
     pub len: u64,
@@ -19,7 +21,7 @@ pub struct Range {
 
 // An entry of the section table. The name's place counts from the footer body's first byte; in what `section_at` and the section
 // list give, from the file's first byte.
-#[derive(Drop)]
+#[derive(Clone, Copy)]
 pub struct Row {
     pub kind: u16,
     pub codec: u8,
@@ -66,7 +68,7 @@ impl Row {
 // What a lookup reads of a file: where the sections lie, the counts, the offset bits. Anyone may fill one. The small fields stand
 // together: of more than 128 bytes the compiler makes a call of each copy.
 // A section that is not there is an empty range; `marked` says whether there are tombstones, `indexed` whether there is a start index.
-#[derive(Drop)]
+#[derive(Clone, Copy)]
 pub struct Opened {
     pub keys: Range,
     pub offsets: Range,
@@ -82,7 +84,7 @@ pub struct Opened {
 }
 
 // What the frame alone gives: the record, the fences and whether there are property streams, which only opening looks at.
-#[derive(Drop)]
+#[derive(Clone, Copy)]
 pub struct Framed {
     pub opened: Opened,
     pub fenced: bool,

@@ -1,4 +1,6 @@
 // The full check: the release desk's call. Nothing from a file with one wrong section byte.
+#![tactic(auto)]
+
 ghost use Rattle.std.specs.Prelude.{◌≡◌, true};
 ghost use Rattle.refusal.specs.declared.Check.{Check};
 ghost use Rattle.refusal.specs.Check.{◌⊳◌};

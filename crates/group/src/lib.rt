@@ -1,5 +1,7 @@
 // One group: the partners of a key. A call is lent the bytes of the group and of nothing else, since a group ends where
 // its offset range ends. The check reads them once and writes nothing; only a group that it found good is then written out.
+#![tactic(auto)]
+
 ghost use Rattle.std.specs.Prelude.{◌≡◌, true, ◌*◌, ◌≤◌, length, ltb};
 ghost use Rattle.base.specs.Over.{over};
 ghost use Rattle.codes.specs.Ids.{id_number};

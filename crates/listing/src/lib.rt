@@ -1,4 +1,6 @@
 // The section list: a caller's table of section rows is filled, in table order.
+#![tactic(auto)]
+
 ghost use Rattle.std.specs.Prelude.{◌≡◌, length};
 ghost use Rattle.frame.specs.Frame.{entry_count, body_of};
 ghost use Rattle.frame.specs.Open.Laws.{Frames};

@@ -1,4 +1,6 @@
 // Looking up a key in what is known of a file: one part's partners now, even if another group of the file is bad.
+#![tactic(auto)]
+
 pub mod groups;
 pub mod known;
 pub mod partners;
@@ -7,7 +9,7 @@ pub mod whole;
 use refusal::Refusal;
 
 // The answer of a lookup: the degree, the group's index among the keys and the keys compared; absence; or a refusal.
-#[derive(Drop)]
+#[derive(Clone, Copy)]
 pub enum Looked {
     Found {
         degree: u64,

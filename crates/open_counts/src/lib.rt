@@ -1,4 +1,6 @@
 // Rule 12: counts, lengths and presence.
+#![tactic(auto)]
+
 ghost use Rattle.std.specs.Prelude.{◌≡◌, not, ◌&&◌, ◌||◌, ◌/◌, ◌%◌, ◌≤◌, ◌<◌, eqb, leb};
 ghost use Rattle.std.specs.Bool.{beq};
 ghost use Rattle.frame.specs.Kind as kind;

@@ -1,5 +1,7 @@
 // Rules 9 to 11, with 36: one pass over the section table notes where each kind that is read lies, and the first entries that are
 // not as they should be.
+#![tactic(auto)]
+
 ghost use Rattle.std.specs.Prelude.{◌≡◌, not, ◌&&◌, ◌||◌, ◌+◌, ◌≤◌, eqb, length};
 ghost use Rattle.refusal.specs.declared.Refusal.{Refusal};
 ghost use Rattle.frame.specs.declared.Framing.{Framing};

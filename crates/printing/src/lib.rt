@@ -1,5 +1,7 @@
 // Prints a file: a line for it, a line for each edge, `ok`; or its refusal. Lines are collected in a lent output, which is
 // written when the next line might not fit; the first write that fails ends the print.
+#![tactic(auto)]
+
 ghost use Rattle.std.specs.Prelude.{◌≡◌, ◌+◌, ◌≤◌, ◌<◌, length, take, ◌++◌};
 ghost use Rattle.base.specs.Pick.{pick};
 ghost use Rattle.base.specs.Put.{Put};

@@ -1,4 +1,6 @@
 // The read-out: the release desk's other call. A file that the full check passes, as a batch.
+#![tactic(auto)]
+
 ghost use Rattle.std.specs.Prelude.{◌≡◌, length};
 ghost use Rattle.readout.specs.declared.ReadOut.{ReadOut};
 ghost use Rattle.readout.specs.ReadOut.{read_out_of, read_out_leaves};

@@ -1,9 +1,11 @@
 // Why a call refuses: one case for each number. The cases, their numbers and their places are made from refusals.txt by
 // tools/refusals, here and in specs/Refusal.antt.
+#![tactic(auto)]
+
 ghost use Rattle.std.specs.Prelude.{◌≡◌};
 ghost use Rattle.refusal.specs.Refusal.{number_of, place_of, beside_of};
 
-#[derive(Drop)]
+#[derive(Clone, Copy)]
 pub enum Refusal {
     // cases: from refusals.txt
     // opening

@@ -1,5 +1,9 @@
 // A program's standard input, output and error. The kit gives a program no exit status: what failed it says on standard error.
+#![tactic(auto)]
+
 ghost use Rattle.std.specs.Prelude.{◌+◌, ◌≤◌, length};
+
+use std::io::Read;
 
 // The most bytes that a program here takes from standard input; with room for one more it sees that there are more.
 pub const LONGEST: usize = 65536;
@@ -11,26 +15,34 @@ pub struct Input {
     pub failed: bool,
 }
 
+// Standard output and standard error, as the system numbers them.
+pub const OUTPUT: i32 = 1;
+const ERRORS: i32 = 2;
+
 // One read, to the space from `at` on.
-fn read_more(space: &mut [u8], at: usize) -> Input
+fn read_more<R: Read>(input: &mut R, space: &mut [u8], at: usize) -> Input
     requires { at ≤ length space.old }
     ensures { at + result.bytes ≤ length space.new }
 {
-    let got = libc::read(libc::STDIN_FILENO, &mut space[at..]);
-    let bytes = io::count(got, &space[at..]);
-    Input {
-        bytes,
-        failed: got < 0,
+    match input.read(&mut space[at..]) {
+        Ok(bytes) => Input {
+            bytes,
+            failed: false,
+        },
+        Err(_) => Input {
+            bytes: 0,
+            failed: true,
+        },
     }
 }
 
-// Reads standard input until it ends, the space is full, or a read fails.
-pub fn read_input(space: &mut [u8]) -> Input
+// Reads an input until it ends, the space is full, or a read fails.
+pub fn read_input<R: Read>(input: &mut R, space: &mut [u8]) -> Input
     ensures { result.bytes ≤ length space.new }
 {
     let mut at: usize = 0;
     while at < space.len() {
-        let more = read_more(space, at);
+        let more = read_more(input, space, at);
         if more.bytes == 0 {
             return Input {
                 bytes: at,
@@ -47,10 +59,10 @@ pub fn read_input(space: &mut [u8]) -> Input
 
 // Writes all of it to standard output; false where a write fails.
 pub fn wrote(bytes: &[u8]) -> bool {
-    io::write_all(libc::STDOUT_FILENO, bytes)
+    io::write_all(OUTPUT, bytes)
 }
 
 // Says a line on standard error.
 pub fn say(line: &[u8]) {
-    io::write_all(libc::STDERR_FILENO, line);
+    io::write_all(ERRORS, line);
 }

@@ -1,4 +1,6 @@
 // The degree summary: what the query planner asks of a file that the full check passes.
+#![tactic(auto)]
+
 ghost use Rattle.std.specs.Prelude.{◌≡◌};
 ghost use Rattle.frame.specs.declared.Opening.{Opening};
 ghost use Rattle.frame.specs.Open.{known_of};

@@ -9,7 +9,7 @@ use codes::little::le64;
 use frame::kind::Logs;
 use std::num::wrapping_sub_u64;
 
-#[derive(Drop)]
+#[derive(Clone, Copy)]
 pub struct Span {
     pub smallest: u64,
     pub largest: u64,

@@ -1,5 +1,7 @@
 // Checks every file of a corpus in full, sums it up and reads it out, and prints the answers with the sum of the output after
 // each read-out. Corpus and expected lines are made by second/.
+#![tactic(auto)]
+
 use full_check::check;
 use readout::{ReadOut, read_out};
 use test_corpus::{MOST, check_line, decimal, line, next_entry, pattern, refused, sum, word};

@@ -1,5 +1,7 @@
 // Reads records of number codes from standard input and prints what each gives. Records and expected lines are made by
 // second/; a record is a kind byte and a body.
+#![tactic(auto)]
+
 ghost use Rattle.std.specs.Prelude.{◌+◌, ◌≤◌, ◌<◌, length};
 
 use codes::ids::{Order, be64, compare, id_at, put_be, put_id};

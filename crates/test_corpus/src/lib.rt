@@ -1,4 +1,6 @@
 // What the programs over corpora share: reading a corpus from standard input, and words, numbers and sums on standard output.
+#![tactic(auto)]
+
 ghost use Rattle.std.specs.Prelude.{◌≤◌, length};
 
 use codes::little::{byte, le32};
@@ -15,7 +17,7 @@ pub fn word(s: &[u8]) {
 
 // Prints a number.
 pub fn decimal(x: u64) {
-    io::print_decimal(libc::STDOUT_FILENO, x);
+    io::print_decimal(streams::OUTPUT, x);
 }
 
 // A number after a space.
@@ -26,14 +28,14 @@ pub fn number(x: u64) {
 
 // A number as 16 hexadecimal digits.
 pub fn hex(x: u64) {
-    io::print_hex(libc::STDOUT_FILENO, x, 16);
+    io::print_hex(streams::OUTPUT, x, 16);
 }
 
 // Bytes, two digits each.
 pub fn hex_bytes(s: &[u8]) {
     let mut i: usize = 0;
     while i < s.len() {
-        io::print_hex(libc::STDOUT_FILENO, byte(s, i), 2);
+        io::print_hex(streams::OUTPUT, byte(s, i), 2);
         i += 1;
     }
 }

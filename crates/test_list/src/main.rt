@@ -1,5 +1,7 @@
 // Lists the sections of every file of a corpus and prints the rows, with the count of those that stayed as they were, and
 // the answer for a table with one row too little. Corpus and expected lines are made by second/.
+#![tactic(auto)]
+
 ghost use Rattle.std.specs.Prelude.{◌+◌, ◌≤◌};
 
 use frame::Row;

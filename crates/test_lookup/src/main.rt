@@ -1,5 +1,7 @@
 // Looks up the keys of a corpus of calls and prints each answer with the sums of the outputs after the call. Corpus and
 // expected answers are made by second/: a file (kind 1), a lookup in it (kind 2), a lookup by a record (kind 3).
+#![tactic(auto)]
+
 use codes::ids::be64;
 use codes::little::{byte, le64, put_le};
 use frame::{Opened, Range};

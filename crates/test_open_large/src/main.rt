@@ -1,4 +1,6 @@
 // Opens the few files of a corpus that have more than 65,536 keys or nearly so, and prints the verdict on each.
+#![tactic(auto)]
+
 ghost use Rattle.std.specs.Prelude.{◌≡◌, length};
 
 // Room for one of them.

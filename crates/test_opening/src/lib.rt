@@ -1,4 +1,6 @@
 // Prints what opening says of each file of a corpus, for the programs over small files and large ones.
+#![tactic(auto)]
+
 use codes::ids::Id;
 use frame::ends::Header;
 use frame::{Opened, Opening, Range, Row};

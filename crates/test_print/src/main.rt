@@ -1,4 +1,6 @@
 // Prints every file of a corpus as the program `edge_sst` does. Corpus and expected lines are made by second/.
+#![tactic(auto)]
+
 ghost use Rattle.std.specs.Prelude.{◌≤◌, length};
 ghost use Rattle.printing.specs.Printed.{line_room, longest, batch_room};
 

@@ -1,5 +1,7 @@
 // Feeds running sums in many cuts: two chunks, single bytes, and chunks of sizes around those of stripes, buffers and blocks, with
 // empty chunks between them and sums asked for midway. The expected output is made by second/.
+#![tactic(auto)]
+
 ghost use Rattle.std.specs.Prelude.{◌^◌, ◌<◌, ◌≤◌};
 
 use test_corpus::{family, hex, number, word};

@@ -1,4 +1,6 @@
 // Prints the summary of a file, for the programs over corpora.
+#![tactic(auto)]
+
 use codes::ids::Id;
 use refusal::Check;
 use summary::figures::{Extremes, Summary};

@@ -1,4 +1,6 @@
 // Writes the few batches of a corpus that have more than 65,536 keys or edges or nearly so, and prints the answers.
+#![tactic(auto)]
+
 ghost use Rattle.std.specs.Prelude.{◌≡◌, length};
 
 // Room for one of them, and for its file.

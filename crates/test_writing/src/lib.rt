@@ -1,5 +1,7 @@
 // Prints what the writer makes of a batch, for the programs over corpora: its size, the file's sum with that of all the output
 // after the call, that the file passes the full check, its summary, and that it reads back.
+#![tactic(auto)]
+
 use full_check::check;
 use readout::{ReadOut, read_out};
 use test_corpus::{

@@ -1,5 +1,7 @@
 // Prints the XXH3-64 of the byte family's first n bytes, for n from 0 to 1,100 and around each multiple of 64 up to 65,536, so that
 // each stripe of a block is once the last, in every block. The expected output is made by second/.
+#![tactic(auto)]
+
 use test_corpus::{decimal, family, sum, word};
 
 fn line(s: &[u8]) {

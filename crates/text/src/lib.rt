@@ -1,5 +1,7 @@
 // Text put into a lent output: words, numbers and refusals, each at a place. Each answers the place after what it put, and asks
 // that there is room for it.
+#![tactic(auto)]
+
 ghost use Rattle.std.specs.Prelude.{◌≡◌, ◌+◌, ◌≤◌, ◌++◌, length};
 ghost use Rattle.base.specs.Put.{Put};
 ghost use Rattle.text.specs.Text.{decimal, hex, refused_text};
@@ -11,7 +13,9 @@ pub fn put_word(out: &mut [u8], at: usize, word: &[u8]) -> usize
     requires { at + length word.now ≤ length out.old }
     ensures { Put out.old out.new at result word.now }
 {
-    at + bytes::copy(word, &mut out[at..])
+    let end = at + word.len();
+    out[at..end].copy_from_slice(word);
+    end
 }
 
 // A number in decimal, without leading zeros.

@@ -1,4 +1,6 @@
 // The writer: a batch in, a file out. It asks no memory: the batch is read and the output is lent.
+#![tactic(auto)]
+
 ghost use Rattle.std.specs.Prelude.{◌≡◌, ◌≤◌, length};
 ghost use Rattle.refusal.specs.declared.Check.{Check};
 ghost use Rattle.batch.specs.Batch.{edges_of, batch_check};

@@ -1,4 +1,6 @@
 // One group of a file, from the edges i up to j of a source: its end and split cost, whether it is dense, its size, its bytes.
+#![tactic(auto)]
+
 ghost use Rattle.std.specs.Prelude.{◌≡◌, ◌+◌, ◌*◌, ◌≤◌, ◌<◌, [], ◌∷◌, ◌++◌, length, drop};
 ghost use Rattle.batch.specs.Batch.{partners_in};
 ghost use Rattle.base.specs.Over.{part};
@@ -22,7 +24,7 @@ use group::head::Tag;
 use write_source::edge_of;
 
 // A group: the edge after its last, and its split cost.
-#[derive(Drop)]
+#[derive(Clone, Copy)]
 pub struct Span {
     pub end: usize,
     pub cost: usize,

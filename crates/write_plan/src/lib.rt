@@ -1,5 +1,7 @@
 // What is counted of the edges before anything is written: keys, offset width, the size of the file; and whether it is
 // within the bounds.
+#![tactic(auto)]
+
 ghost use Rattle.std.specs.Prelude.{◌≡◌, ◌≤◌};
 ghost use Rattle.base.specs.Pick.{pick};
 ghost use Rattle.frame.specs.Kind.{starts_len, most_edges};

@@ -1,4 +1,6 @@
 // Edges by their number, from one of several sources.
+#![tactic(auto)]
+
 ghost use Rattle.std.specs.Prelude.{◌≡◌, ◌<◌, length, get_or};
 ghost use Rattle.batch_groups.specs.Groups.{none};
 ghost use Rattle.write_source.specs.Source.{source_edges};

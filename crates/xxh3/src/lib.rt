@@ -1,4 +1,6 @@
 // XXH3-64 for tools that take the checksum alone, without the file reader: the calls for C. See include/saffron_xxh3.h.
+#![tactic(auto)]
+
 ghost use Rattle.std.specs.Prelude.{◌≡◌};
 ghost use Rattle.xxh3_spec.specs.Xxh3.{xxh3};
 ghost use Rattle.xxh3_running.specs.Running.{state_of, new_state, feed_of, Leaves, sum_of};

@@ -1,3 +1,5 @@
 // Sums, products, turns and mixes of 64 bits: what every length of XXH3 uses.
+#![tactic(auto)]
+
 pub mod mix;
 pub mod product;

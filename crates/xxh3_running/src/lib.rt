@@ -1,5 +1,7 @@
 // XXH3-64 with seed 0 and the default secret, of bytes that come in chunks: the same number at the end as for the whole,
 // wherever the cuts fall. It stands without the file reader.
+#![tactic(auto)]
+
 ghost use Rattle.std.specs.Prelude.{◌≡◌};
 ghost use Rattle.xxh3_running.specs.Running.{new_state, feed_of, sum_of};
 
@@ -11,7 +13,7 @@ use xxh3_above240::large::START_LANES;
 
 // The state of a running sum. Every value of its fields is lawful.
 #[repr(C)]
-#[derive(Drop)]
+#[derive(Clone, Copy)]
 pub struct State {
     // all bytes that were fed
     pub total: u64,

@@ -1,4 +1,6 @@
 // XXH3-64 with seed 0 and the default secret, of bytes that are all at hand: the checksum of every section and of the footer.
+#![tactic(auto)]
+
 ghost use Rattle.std.specs.Prelude.{◌≡◌};
 ghost use Rattle.xxh3_spec.specs.Xxh3.{xxh3};
 
