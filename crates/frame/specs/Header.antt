@@ -7,7 +7,7 @@ use Rattle.std.proofs.Math.Nat.{div-div-eq-div-mul, div-eq_of_lt, pow-le-pow_rig
 use Rattle.std.proofs.Math.Decide.{ℕ_discrete, dec_lt}
 use mathlib.Core.List.{List, [], ◌∷◌, ◌++◌}
 use Rattle.std.proofs.Math.Bool.{not}
-use borrow.Author.Tests.{ltb-true, ltb-false, lt-ltb, eqb-true, eqb-false, eq-eqb, ne_eqb, not_true, not-false}
+use borrow.Author.Tests.{ltb-true, ltb-false, lt-ltb, eqb-true, eqb-false, eq-eqb, ne_eqb, not-true, not-false}
 use Rattle.base.specs.Bytes.{Bytes}
 use Rattle.codes.specs.Little.{le_at}
 use Rattle.codes.specs.Little.Laws.{le_at_lt}
@@ -133,7 +133,7 @@ module _ (f : List ℕ) where
         λ e.
             let x = first.0 e in
             let y = a.0 x.1 in
-            record { begins = begins x.0 y.0; major = eqb-false _ _ (not_true _ ((refuse_bad Refusal.Major (other_major f)).0 (b.0 y.1))) },
+            record { begins = begins x.0 y.0; major = eqb-false _ _ (not-true _ ((refuse_bad Refusal.Major (other_major f)).0 (b.0 y.1))) },
         λ m.
             let x = begun m.begins in
             first.1 (x.0, a.1 (x.1, b.1 ((refuse_bad Refusal.Major (other_major f)).1 (ap not (ne_eqb (get_or f 8 0) 1 m.major))))),

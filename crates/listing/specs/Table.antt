@@ -101,9 +101,9 @@ module _ (f : List ℕ) (s : Frames f) where
       omega arith
 
   -- row i is entry i of the table, with its name's place counted from the file's first byte
-  pub row_is : (i : ℕ) → i < rows_needed f → row_is f i ≡ moved (body_at f) (row_at b (end_from i b 2))
+  pub row_is_lem : (i : ℕ) → i < rows_needed f → row_is f i ≡ moved (body_at f) (row_at b (end_from i b 2))
   unfolding row_is row_of_section body_of
-  row_is i h =
+  row_is_lem i h =
       let z = size_parts (length f) s.size in
       let t = tail_parts (length f) f s.tail in
       ap row_of_section (row_footed f i z.0 z.1 (foot_len f) refl t.0 t.1 refl refl
@@ -114,7 +114,7 @@ module _ (f : List ℕ) (s : Frames f) where
   rows_to_is zero h = refl
   rows_to_is (suc n) h =
       ap (λ (t : List Row). t ++ (row_is f n ∷ [])) (rows_to_is n (omega arith))
-      ∙ ap (λ (r : Row). map (moved (body_at f)) (rows_from n b 2) ++ (r ∷ [])) (row_is n (omega arith))
+      ∙ ap (λ (r : Row). map (moved (body_at f)) (rows_from n b 2) ++ (r ∷ [])) (row_is_lem n (omega arith))
       ∙ sym (map-append (moved (body_at f)) (rows_from n b 2) (row_at b (end_from n b 2) ∷ []))
       ∙ ap (map (moved (body_at f))) (sym (rows_last n b 2))
 

@@ -6,7 +6,7 @@ use Prim.Native.Nat.{ℕ, ◌+◌, ◌/◌, ◌≤◌, ◌<◌}
 use Rattle.std.proofs.Math.Decide.{dec_lt}
 use Rattle.std.proofs.Math.Bool.{true, false}
 use Rattle.std.proofs.Math.ListN.{length}
-use Rattle.std.proofs.lemmas.Bool.{not_true}
+use Rattle.std.proofs.lemmas.Bool.{not-true}
 use Rattle.base.specs.Over.{part}
 use Rattle.refusal.specs.declared.Refusal.{Refusal}
 use Rattle.refusal.specs.declared.Check.{Check}
@@ -251,7 +251,7 @@ module _ (full : Bool) (rooms : Rooms) (k : Known) where
         found (j, c, q, t) =
             let o = placed j t.0 in
             let u = and_parts full (not (within k.edgecount (length (partners_at full rooms k j)) (before k j (length (partners_at full rooms k j))))) t.2 in
-            let here : UnplacedIn k key j = record { compared = c; found = q; rises = o.0; inside = o.1; group = (t.1, not_true _ u.1) } in
+            let here : UnplacedIn k key j = record { compared = c; found = q; rises = o.0; inside = o.1; group = (t.1, not-true _ u.1) } in
             (u.0, rw t.3 at here)
 
         back : (full ≡ true) × UnplacedIn k key i → look_in full rooms k key ≡ refused (Refusal.Degrees i)

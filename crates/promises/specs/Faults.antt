@@ -2,7 +2,7 @@
 -- first in the order of checks, at the byte inside the group, with the group beside it.
 use Rattle.std.specs.Prelude.{◌≡◌, refl, ◌↔◌, ℕ, ◌+◌, ◌/◌, ◌<◌, List, [], ◌∷◌, Bool, true}
 use Rattle.std.proofs.Common.{sym, ◌∙◌, arith}
-use Rattle.std.proofs.Math.Logic.{Iff·trans}
+use Rattle.std.proofs.Math.Logic.Iff.{trans as iff_trans}
 use Rattle.refusal.specs.declared.Refusal.{Refusal}
 use Rattle.refusal.specs.declared.Check.{Check}
 use Rattle.refusal.specs.Refusal.{number_of, is_gone}
@@ -126,7 +126,7 @@ module _ (f : List ℕ) (i : ℕ) (w : Flaw) (b : ℕ) where
   -- the number and both places tell the fault
   gives_fault : {A : Type 0} (refusing : Refusal → A) (a : A) → Gives refusing a (number_for w) b i ↔ (a ≡ refusing told)
   gives_fault refusing a =
-      Iff·trans (
+      iff_trans (
         λ g. record {
           refusal = g.refusal;
           is = g.is;
@@ -149,13 +149,13 @@ module _ (f : List ℕ) (i : ℕ) (w : Flaw) (b : ℕ) where
 
   pub faulty : Faulty f i w b (number_for w)
   faulty =
-      let full = Iff·trans (full_fault f i fault) first in record {
-        lookup = λ full rooms key. Iff·trans (gives_fault refused (look_of full rooms key f)) (Iff·trans (look_of_fault full rooms key f i fault) (asked key));
-        lookup_with = λ full rooms key o. Iff·trans (gives_fault refused (look_with full rooms key f o)) (Iff·trans (look_with_fault full rooms key f o i fault) (by_record o key));
-        check = Iff·trans (gives_fault Check.Bad (full_check f)) full;
-        checked = Iff·trans (gives_fault Opening.Refused (checked_of f)) (Iff·trans (checked_is f told) full);
-        read_out = λ room. Iff·trans (gives_fault ReadOut.Refused (read_out_of f room)) (Iff·trans (read_full f room told not_room) full);
-        summary = Iff·trans (gives_fault not_summed (summarised_of f)) (Iff·trans (summary_refuses f told) full);
+      let full = iff_trans (full_fault f i fault) first in record {
+        lookup = λ full rooms key. iff_trans (gives_fault refused (look_of full rooms key f)) (iff_trans (look_of_fault full rooms key f i fault) (asked key));
+        lookup_with = λ full rooms key o. iff_trans (gives_fault refused (look_with full rooms key f o)) (iff_trans (look_with_fault full rooms key f o i fault) (by_record o key));
+        check = iff_trans (gives_fault Check.Bad (full_check f)) full;
+        checked = iff_trans (gives_fault Opening.Refused (checked_of f)) (iff_trans (checked_is f told) full);
+        read_out = λ room. iff_trans (gives_fault ReadOut.Refused (read_out_of f room)) (iff_trans (read_full f room told not_room) full);
+        summary = iff_trans (gives_fault not_summed (summarised_of f)) (iff_trans (summary_refuses f told) full);
         opening = λ g. unopened ((opens_refused f told).0 ((gives_fault Opening.Refused (open_of f)).0 g));
         header = λ g. unopened ((header_opening f told).0 ((gives_fault HeaderRead.Refused (header_of f)).0 g));
         sections = λ room g. unopened ((list_opening f room told not_room).0 ((gives_fault Listed.Refused (listed_of f room)).0 g));
@@ -182,9 +182,9 @@ pub record Kept (f : List ℕ) (i : ℕ) : Type 0 where
 
 pub kept : (f : List ℕ) (i : ℕ) → Kept f i
 kept f i = record {
-  offsets = λ full rooms key o. Iff·trans (gives_is refused (look_with full rooms key f o) (Refusal.Offset i)) (look_with_misplaced full rooms key f o i);
-  degrees = λ full rooms key. Iff·trans (gives_is refused (look_of full rooms key f) (Refusal.Degrees i)) (look_of_unplaced full rooms key f i);
-  degrees_with = λ full rooms key o. Iff·trans (gives_is refused (look_with full rooms key f o) (Refusal.Degrees i)) (look_with_unplaced full rooms key f o i);
+  offsets = λ full rooms key o. iff_trans (gives_is refused (look_with full rooms key f o) (Refusal.Offset i)) (look_with_misplaced full rooms key f o i);
+  degrees = λ full rooms key. iff_trans (gives_is refused (look_of full rooms key f) (Refusal.Degrees i)) (look_of_unplaced full rooms key f i);
+  degrees_with = λ full rooms key o. iff_trans (gives_is refused (look_with full rooms key f o) (Refusal.Degrees i)) (look_with_unplaced full rooms key f o i);
 }
 
 -- a number that is given no longer is given by no call

@@ -1,7 +1,7 @@
 -- Refusals by document 01's numbers and places, and that a refusal of opening is every call's on the file.
 use Rattle.std.specs.Prelude.{◌≡◌, refl, ◌↔◌, ℕ, List, Bool, true, false}
 use Rattle.std.proofs.Common.{sym, ap, ◌∙◌, arith}
-use Rattle.std.proofs.Math.Logic.{Iff·trans}
+use Rattle.std.proofs.Math.Logic.Iff.{trans as iff_trans}
 use Rattle.refusal.specs.declared.Refusal.{Refusal}
 use Rattle.refusal.specs.declared.Check.{Check}
 use Rattle.refusal.specs.Refusal.{number_of, place_of, beside_of}
@@ -75,13 +75,13 @@ not_room r o e = let z : ◌≡◌ {A = ℕ} 0 1 = cc in omega arith
 -- a refusal of opening whose number no lookup gives after it, so every one but 14, is every call's
 pub every : (f : List ℕ) (r : Refusal) → listed (number_of r) opening_numbers ≡ true → listed (number_of r) look_numbers ≡ false → {A : Type 0} → (file_check f ≡ Check.Bad r) ↔ A → Every f (number_of r) (place_of r) (beside_of r) A
 every f r o l is =
-    let full = Iff·trans (full_opening f r o) is in record {
-      opening = Iff·trans (gives_is Opening.Refused (open_of f) r) (Iff·trans (opens_refused f r) is);
-      header = Iff·trans (gives_is HeaderRead.Refused (header_of f) r) (Iff·trans (header_opening f r) is);
-      lookup = λ full rooms key. Iff·trans (gives_is refused (look_of full rooms key f) r) (Iff·trans (look_opening full rooms key f r l) is);
-      check = Iff·trans (gives_is Check.Bad (full_check f) r) full;
-      checked = Iff·trans (gives_is Opening.Refused (checked_of f) r) (Iff·trans (checked_is f r) full);
-      read_out = λ room. Iff·trans (gives_is ReadOut.Refused (read_out_of f room) r) (Iff·trans (read_full f room r (not_room r o)) full);
-      summary = Iff·trans (gives_is not_summed (summarised_of f) r) (Iff·trans (summary_refuses f r) full);
-      sections = λ room. Iff·trans (gives_is Listed.Refused (listed_of f room) r) (Iff·trans (list_opening f room r (not_room r o)) is);
+    let full = iff_trans (full_opening f r o) is in record {
+      opening = iff_trans (gives_is Opening.Refused (open_of f) r) (iff_trans (opens_refused f r) is);
+      header = iff_trans (gives_is HeaderRead.Refused (header_of f) r) (iff_trans (header_opening f r) is);
+      lookup = λ full rooms key. iff_trans (gives_is refused (look_of full rooms key f) r) (iff_trans (look_opening full rooms key f r l) is);
+      check = iff_trans (gives_is Check.Bad (full_check f) r) full;
+      checked = iff_trans (gives_is Opening.Refused (checked_of f) r) (iff_trans (checked_is f r) full);
+      read_out = λ room. iff_trans (gives_is ReadOut.Refused (read_out_of f room) r) (iff_trans (read_full f room r (not_room r o)) full);
+      summary = iff_trans (gives_is not_summed (summarised_of f) r) (iff_trans (summary_refuses f r) full);
+      sections = λ room. iff_trans (gives_is Listed.Refused (listed_of f room) r) (iff_trans (list_opening f room r (not_room r o)) is);
     }

@@ -2,7 +2,7 @@
 -- check.
 use Rattle.std.specs.Prelude.{◌≡◌, refl, ◌↔◌, ◌⊎◌, ℕ, ◌+◌, ◌/◌, ◌≤◌, ◌<◌, List, Bool, true, false, length}
 use Rattle.std.proofs.Common.{sym, ◌∙◌, arith}
-use Rattle.std.proofs.Math.Logic.{Iff·trans}
+use Rattle.std.proofs.Math.Logic.Iff.{trans as iff_trans}
 use Rattle.codes.specs.declared.ids.Id.{Id}
 use Rattle.refusal.specs.declared.Refusal.{Refusal}
 use Rattle.refusal.specs.declared.Check.{Check}
@@ -89,7 +89,7 @@ unlike_here k there full rooms key i =
     )
 
 record_here : (full : Bool) (rooms : Rooms) (key : ℕ) (f : List ℕ) (o : Opened) → Gives refused (look_with full rooms key f o) 21 0 0 ↔ (Recorded (length f) o → ⊥)
-record_here full rooms key f o = Iff·trans (gives_is refused (look_with full rooms key f o) Refusal.Record) (there (record_good f o) refl, back (record_good f o) refl)
+record_here full rooms key f o = iff_trans (gives_is refused (look_with full rooms key f o) Refusal.Record) (there (record_good f o) refl, back (record_good f o) refl)
   where
     clash : {A : Type 0} {t : Bool} → t ≡ true → t ≡ false → A
     clash a b = let z : ◌≡◌ {A = ℕ} 0 1 = cc in absurd (omega arith)

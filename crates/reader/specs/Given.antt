@@ -1,7 +1,7 @@
 -- Which refusals of a lookup are opening's, and when a lookup tells a fault of a group, 14 at it or 19, exactly.
 use Rattle.std.specs.Prelude.{◌≡◌, refl, ◌↔◌, ℕ, List, [], ◌∷◌, Bool, true, false}
 use Rattle.std.proofs.Common.{sym, ap, ◌∙◌, arith}
-use Rattle.std.proofs.Math.Logic.{Iff·trans}
+use Rattle.std.proofs.Math.Logic.Iff.{trans as iff_trans}
 use Rattle.refusal.specs.declared.Refusal.{Refusal}
 use Rattle.refusal.specs.declared.Check.{Check}
 use Rattle.refusal.specs.Refusal.{number_of}
@@ -66,24 +66,24 @@ module _ (full : Bool) (rooms : Rooms) (key : ℕ) (f : List ℕ) where
   -- a fault of group i, which is that of the key
   pub look_of_fault : (i : ℕ) (fault : Fault) → (look_of full rooms key f ≡ refused (refusal_of i fault)) ↔ ((file_check f ≡ Check.Fine) × FaultIn (known_of f (record_of f)) key i fault)
   look_of_fault i fault =
-      Iff·trans (look_of_told (refusal_of i fault) (fault_apart i fault opening_numbers (opening_numbers_lem f) refl))
+      iff_trans (look_of_told (refusal_of i fault) (fault_apart i fault opening_numbers (opening_numbers_lem f) refl))
       (both (look_fault full rooms (known_of f (record_of f)) key i fault))
 
   pub look_with_fault : (o : Opened) (i : ℕ) (fault : Fault) → (look_with full rooms key f o ≡ refused (refusal_of i fault)) ↔ ((record_good f o ≡ true) × FaultIn (known_of f o) key i fault)
   look_with_fault o i fault =
-      Iff·trans
+      iff_trans
       (look_with_told o (refusal_of i fault) (λ e. fault_apart i fault (21 ∷ []) (numbers_bad (21 ∷ []) Refusal.Record refl) refl (ap Check.Bad e)))
       (both (look_fault full rooms (known_of f o) key i fault))
 
   -- 19 of a file, and by a record; 14 by a record
   pub look_of_unplaced : (i : ℕ) → (look_of full rooms key f ≡ refused (Refusal.Degrees i)) ↔ ((file_check f ≡ Check.Fine) × ((full ≡ true) × UnplacedIn (known_of f (record_of f)) key i))
   look_of_unplaced i =
-      Iff·trans (look_of_told (Refusal.Degrees i) (not_given opening_numbers (opening_numbers_lem f) (Refusal.Degrees i) refl)) (both (look_unplaced full rooms (known_of f (record_of f)) key i))
+      iff_trans (look_of_told (Refusal.Degrees i) (not_given opening_numbers (opening_numbers_lem f) (Refusal.Degrees i) refl)) (both (look_unplaced full rooms (known_of f (record_of f)) key i))
 
   pub look_with_unplaced : (o : Opened) (i : ℕ) → (look_with full rooms key f o ≡ refused (Refusal.Degrees i)) ↔ ((record_good f o ≡ true) × ((full ≡ true) × UnplacedIn (known_of f o) key i))
   look_with_unplaced o i =
-      Iff·trans (look_with_told o (Refusal.Degrees i) (λ e. let z : ◌≡◌ {A = ℕ} 0 1 = cc in omega arith)) (both (look_unplaced full rooms (known_of f o) key i))
+      iff_trans (look_with_told o (Refusal.Degrees i) (λ e. let z : ◌≡◌ {A = ℕ} 0 1 = cc in omega arith)) (both (look_unplaced full rooms (known_of f o) key i))
 
   pub look_with_misplaced : (o : Opened) (i : ℕ) → (look_with full rooms key f o ≡ refused (Refusal.Offset i)) ↔ ((record_good f o ≡ true) × MisplacedIn (known_of f o) key i)
   look_with_misplaced o i =
-      Iff·trans (look_with_told o (Refusal.Offset i) (λ e. let z : ◌≡◌ {A = ℕ} 0 1 = cc in omega arith)) (both (look_misplaced full rooms (known_of f o) key i))
+      iff_trans (look_with_told o (Refusal.Offset i) (λ e. let z : ◌≡◌ {A = ℕ} 0 1 = cc in omega arith)) (both (look_misplaced full rooms (known_of f o) key i))

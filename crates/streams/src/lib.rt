@@ -17,6 +17,7 @@ pub struct Input {
 
 // Standard output and standard error, as the system numbers them.
 pub const OUTPUT: i32 = 1;
+
 const ERRORS: i32 = 2;
 
 // One read, to the space from `at` on.

@@ -120,7 +120,7 @@ unfolding Among
 one_smallest low x xs p h =
     let few = smallest_is low (x ∷ []) in
     smallest_one (low ∷ xs) (smallest_is low xs) (record {
-      among = ⊎_elim (λ e. inl e) (λ u. inr (⊎_elim (λ e. rw e p) (λ z. absurd z) u)) few.among;
+      among = ⊎_elim (λ e. inl e) (λ u. inr (⊎_elim (λ e. subst (λ (y : ℕ). Among y xs) (sym e) p) (λ z. absurd z) u)) few.among;
       least = λ z t. ⊎_elim (λ e. few.least z (inl e)) (λ u. h z u) t;
     })
 
@@ -129,7 +129,7 @@ unfolding Among
 one_largest high x xs p h =
     let few = largest_is high (x ∷ []) in
     largest_one (high ∷ xs) (largest_is high xs) (record {
-      among = ⊎_elim (λ e. inl e) (λ u. inr (⊎_elim (λ e. rw e p) (λ z. absurd z) u)) few.among;
+      among = ⊎_elim (λ e. inl e) (λ u. inr (⊎_elim (λ e. subst (λ (y : ℕ). Among y xs) (sym e) p) (λ z. absurd z) u)) few.among;
       most = λ z t. ⊎_elim (λ e. few.most z (inl e)) (λ u. h z u) t;
     })
 

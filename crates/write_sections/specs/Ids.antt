@@ -19,12 +19,12 @@ unfolding ids_at
 length_ids zero s i = refl
 length_ids (suc n) s i = ap suc (length_ids n s (i + 16))
 
-pub ids_at : (n : ℕ) (s : List ℕ) (i j : ℕ) (d : Id) → j < n → get_or (ids_at n s i) j d ≡ halves_at s (i + 16 * j)
+pub ids_at_lem : (n : ℕ) (s : List ℕ) (i j : ℕ) (d : Id) → j < n → get_or (ids_at n s i) j d ≡ halves_at s (i + 16 * j)
 unfolding ids_at
-ids_at zero s i j d h = absurd (omega arith)
-ids_at (suc n) s i zero d h = ap (halves_at s) (sym (add-zero i))
-ids_at (suc n) s i (suc j) d h =
-    let e : i + 16 + 16 * j ≡ i + 16 * suc j = omega arith in ids_at n s (i + 16) j d (omega arith) ∙ ap (halves_at s) e
+ids_at_lem zero s i j d h = absurd (omega arith)
+ids_at_lem (suc n) s i zero d h = ap (halves_at s) (sym (add-zero i))
+ids_at_lem (suc n) s i (suc j) d h =
+    let e : i + 16 + 16 * j ≡ i + 16 * suc j = omega arith in ids_at_lem n s (i + 16) j d (omega arith) ∙ ap (halves_at s) e
 
 -- ids that were written read back
 pub ids_back : (ks : List Id) (q r : List ℕ) → Halves ks → ids_at (length ks) (q ++ (bytes_of ks ++ r)) (length q) ≡ ks

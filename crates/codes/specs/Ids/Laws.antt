@@ -163,7 +163,8 @@ be_at_back (suc n) q r x b =
     let ih = be_at_back n q t (x / 256) hi in
     let last : get_or (q ++ (bs ++ t)) (length q + n) 0 ≡ x % 256 =
     get_or-append-add q (bs ++ t) n 0 ∙ get_or_at bs (x % 256) r 0 n (length_be_bytes n (x / 256)) in
-    rw (append_snoc bs (x % 256) r) (ap₂ (λ (a c : ℕ). a * 256 + c) ih last ∙ div-add-mod' x 256)
+    let whole : q ++ ((bs ++ (x % 256 ∷ [])) ++ r) ≡ q ++ (bs ++ t) = ap (λ (l : List ℕ). q ++ l) (append_snoc bs (x % 256) r) in
+    ap₂ (λ (l m : List ℕ). be_at l (length q) n * 256 + get_or m (length q + n) 0) whole whole ∙ ap₂ (λ (a c : ℕ). a * 256 + c) ih last ∙ div-add-mod' x 256
 
 pub halves_back : (q r : List ℕ) (d : Id) → d.hi < 2 ^ 64 → d.lo < 2 ^ 64 → halves_at (q ++ (id_bytes d ++ r)) (length q) ≡ d
 unfolding halves_at id_bytes

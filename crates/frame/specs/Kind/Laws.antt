@@ -1,7 +1,7 @@
 -- Slots: each kind that is read has one of its own.
 use Rattle.std.specs.Prelude.{◌≡◌, refl, ℕ, zero, suc, ◌≤◌, ◌<◌, Bool, true, false, not, ◌&&◌, List, [], ◌∷◌, length, ltb, eqb}
 use Rattle.std.proofs.Common.{sym, ap, ◌∙◌, arith, eqb-true, eq-eqb, ne_eqb, ltb-false}
-use Rattle.std.proofs.lemmas.Bool.{not_true}
+use Rattle.std.proofs.lemmas.Bool.{not-true}
 use Rattle.base.specs.Pick.{pick}
 use Rattle.refusal.specs.Check.Laws.{and_parts}
 use Rattle.frame.specs.Kind.{Kind, kinds, slot_in, slot_of}
@@ -45,7 +45,7 @@ slot_alone (q ∷ qs) d zero h = rw (eq-eqb q.number q.number refl)
 slot_alone (q ∷ qs) d (suc i) h =
     let p = and_parts (not (ltb (slot_in q.number qs) (length qs))) (distinct qs) d in
     let ih = slot_alone qs p.1 i (omega arith) in
-    let past = ltb-false (slot_in q.number qs) (length qs) (not_true _ p.0) in
+    let past = ltb-false (slot_in q.number qs) (length qs) (not-true _ p.0) in
     rw (ne_eqb (number_in qs i) q.number (λ e. let z = ap (λ (k : ℕ). slot_in k qs) e in omega arith)) (ap suc ih)
 
 pub slot_of_lem : (i : ℕ) → i < length kinds → slot_of (number_at i) ≡ i

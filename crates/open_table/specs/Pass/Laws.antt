@@ -10,7 +10,7 @@ use mathlib.Core.List.{List, [], ◌∷◌}
 use Rattle.std.proofs.Math.Bool.{true, false, not}
 use Rattle.std.proofs.Math.ListN.{length, get_or-replicate}
 use Rattle.std.proofs.Math.Dec.{eqb}
-use borrow.Author.Tests.{leb-true, le-leb, lt-leb, lt-ltb, le-ltb, eqb-true, eq-eqb, ne_eqb, not_true}
+use borrow.Author.Tests.{leb-true, le-leb, lt-leb, lt-ltb, le-ltb, eqb-true, eq-eqb, ne_eqb, not-true}
 use Rattle.base.specs.Pick.{pick}
 use Rattle.codes.specs.Little.{le_at}
 use Rattle.refusal.specs.declared.Refusal.{Refusal}
@@ -470,7 +470,7 @@ module _ (b : List ℕ) (limit count : ℕ) where
               let p = n.met_of in
               let q = n.places_of in
               let g = and_parts (eqb r.namelen 0) (not (met_at met slot)) f in
-              passing_on (length-set met slot true) (length-set places slot (range_of r)) (noted_read limit (rows_from count b 2) r rest k (omega arith) s slot (sym at) read met places (named ∙ g.0) (not_true _ g.1) (omega arith) (omega arith) here)
+              passing_on (length-set met slot true) (length-set places slot (range_of r)) (noted_read limit (rows_from count b 2) r rest k (omega arith) s slot (sym at) read met places (named ∙ g.0) (not-true _ g.1) (omega arith) (omega arith) here)
 
           -- it has a name, or was met
           pub passing_stale : (eqb r.namelen 0 && not (met_at met slot)) ≡ false → count ≡ entry_count b → answer b limit ≡ Framing.Refused Refusal.Table

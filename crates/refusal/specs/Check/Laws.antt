@@ -1,7 +1,7 @@
 -- The laws of rules in their order, and of the tests that they are made of.
 use Rattle.std.specs.Prelude.{◌≡◌, refl, ◌↔◌, ◌⊎◌, ℕ, Bool, true, false, not, ◌&&◌, ◌||◌, List, [], ◌∷◌, eqb}
 use Rattle.std.proofs.Common.{sym, ap, ◌∙◌, inl, inr, ⊎_elim, arith, eqb-true}
-use Rattle.std.proofs.lemmas.Bool.{not_true}
+use Rattle.std.proofs.lemmas.Bool.{not-true}
 use Rattle.base.specs.Pick.{pick}
 use Rattle.refusal.specs.declared.Refusal.{Refusal}
 use Rattle.refusal.specs.declared.Check.{Check}
@@ -127,7 +127,7 @@ pub none_listed : (ns ms : List ℕ) (n : ℕ) → none_in ns ms ≡ true → li
 none_listed [] ms n e h = let z : ◌≡◌ {A = ℕ} 0 1 = cc in absurd (omega arith)
 none_listed (m ∷ ns) ms n e h =
     let p = and_parts (not (listed m ms)) (none_in ns ms) e in
-    listed_first (λ k. listed k ms ≡ false) n m ns (λ q. ap (λ (k : ℕ). listed k ms) q ∙ not_true _ p.0) (none_listed ns ms n p.1) h
+    listed_first (λ k. listed k ms ≡ false) n m ns (λ q. ap (λ (k : ℕ). listed k ms) q ∙ not-true _ p.0) (none_listed ns ms n p.1) h
 
 pub all_listed : (ns ms : List ℕ) (n : ℕ) → all_in ns ms ≡ true → listed n ns ≡ true → listed n ms ≡ true
 all_listed [] ms n e h = let z : ◌≡◌ {A = ℕ} 0 1 = cc in absurd (omega arith)

@@ -1,0 +1,20 @@
+-- `codes::varint::more_at` meets its contract. Invariant: the rest, read from byte k on over x with the weight m, is the whole.
+use mathlib.Core.Path.{◌≡◌, ◌∙◌, ap, sym, refl}
+use Prim.Native.Nat.{ℕ, suc, ◌+◌, ◌-◌, ◌*◌, ◌%◌, ◌^◌, ◌≤◌, ◌<◌}
+use native.Mathlib.Nat.{pow-suc}
+use native.Mathlib.Numerals.{add-one}
+use native.Mathlib.Omega.{arith}
+use mathlib.Core.List.{List}
+use lib.ListN.{length, get_or}
+use Rattle.codes.specs.Varint.{var_from}
+use Rattle.codes.specs.Varint.Laws.{from_none, from_cut, from_more, from_last, digit_lt, weight_le}
+use Rattle.codes.proofs.varint.more_at.Given as goal
+
+abbrev pub Head : (s : List ℕ) (at low x m k : ℕ) → Type 0
+Head s at low x m k = (1 ≤ k) × (k ≤ 10) × (x < m) × (m ≡ 128 ^ k) × (var_from (10 - k) s (at + k) x m ≡ var_from 9 s (at + 1) low 128)
+
+abbrev pub invariant-loop-k : goal.invariant-loop-k
+invariant-loop-k l = Head l.s l.at l.low l.x l.m l.k
+
+abbrev pub decreases-loop-k : goal.decreases-loop-k
+decreases-loop-k l = 10 - l.k

@@ -1,0 +1,33 @@
+-- `codes::varint::short_at` meets its contract: one byte or two are the whole number, or the others go on from the first.
+use mathlib.Core.Path.{sym, ◌∙◌}
+use Prim.Native.Nat.{◌+◌}
+use native.Mathlib.Omega.{arith}
+use Rattle.codes.specs.Varint.Laws.{varint_cut, varint_one, varint_two, varint_more}
+use borrow.Author.Rules.{rules}
+use Rattle.codes.proofs.varint.short_at.Goals as goal
+
+pub returns-then-s-at : goal.returns-then-s-at
+returns-then-s-at c =
+    let a = c.args in
+    sym (varint_cut a.s.now a.at c.if-s-at.true)
+
+pub overflow_cast-b : goal.overflow_cast-b
+overflow_cast-b c = omega (arith, c.type_inv.s c.args.at)
+
+pub returns-then-b-lt128 : goal.returns-then-b-lt128
+returns-then-b-lt128 c =
+    let a = c.args in
+    sym (varint_one a.s.now a.at (omega arith) (omega arith))
+
+pub overflow_cast-c : goal.overflow_cast-c
+overflow_cast-c c = omega (arith, c.type_inv.s (c.args.at + 1))
+
+pub returns-then-c-lt128 : goal.returns-then-c-lt128
+returns-then-c-lt128 c =
+    let a = c.args in
+    sym (varint_two a.s.now a.at (omega arith) (omega arith) (omega arith) (omega arith))
+
+pub returns : goal.returns
+returns c =
+    let a = c.args in
+    c.more_at.ensures ∙ sym (varint_more a.s.now a.at (omega arith) (omega arith))

@@ -1,0 +1,17 @@
+-- `degrees::edges_before` meets its contract. Invariant: `sum` is the edges before group j, and `a` is its offset.
+use mathlib.Core.Path.{◌≡◌, refl, sym, ap, ◌∙◌}
+use Prim.Native.Nat.{◌+◌, ◌-◌, ◌*◌, ◌≤◌}
+use native.Mathlib.Nat.{mul-le-mul_right}
+use Rattle.frame.specs.Open.{offset_at}
+use Rattle.degrees.specs.declared.Sum.{Sum}
+use Rattle.degrees.specs.Degrees.{edges_before}
+use Rattle.degrees.specs.Degrees.Laws.{before_none, before_bad, before_over, before_on, before_all, degree_is}
+use borrow.Author.Rules.{rules}
+use native.Mathlib.Omega.{arith}
+use Rattle.degrees.proofs.edges_before.Given as goal
+
+abbrev pub invariant-loop-j : goal.invariant-loop-j
+invariant-loop-j l = (l.j ≤ l.n) × (l.sum ≤ l.most) × (l.a ≡ offset_at l.offs l.w l.j) × (edges_before l.partners l.offs l.w l.j ≡ Sum.Total l.sum)
+
+abbrev pub decreases-loop-j : goal.decreases-loop-j
+decreases-loop-j l = l.n - l.j

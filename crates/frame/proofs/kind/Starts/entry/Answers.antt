@@ -1,0 +1,9 @@
+use mathlib.Core.Path.{ap, ◌∙◌}
+use Prim.Native.Nat.{ℕ}
+use borrow.Author.Rules.{rules}
+use Rattle.frame.specs.Kind as kind
+use Rattle.frame.specs.Frame.{raw_row}
+use Rattle.frame.proofs.kind.Starts.entry.Goals as goal
+
+pub returns : goal.returns
+returns c = let a = c.args in c.raw.ensures ∙ ap (λ (l : ℕ). raw_row kind.starts a.start l 0) c.bytes.ensures

@@ -1,0 +1,10 @@
+-- `reader::look::inside_if` meets its contract.
+use borrow.Author.Tests.{not-true, not-false}
+use borrow.Author.Rules.{rules}
+use Rattle.reader.proofs.look.inside_if.Goals as goal
+
+pub returns-then-not-there : goal.returns-then-not-there
+returns-then-not-there c = rw (not-true c.args.there c.if-not-there.true)
+
+pub returns : goal.returns
+returns c = rw (not-false c.args.there c.if-not-there.false) c.inside.ensures

@@ -1,0 +1,32 @@
+-- `reader::look::lookup` meets its contract.
+use mathlib.Core.Path.{◌≡◌, sym, ap, ◌∙◌}
+use Prim.Native.Nat.{ℕ}
+use lib.ListN.{length}
+use mathlib.Core.Bool.{true, false}
+use borrow.Author.Tests.{not-true, not-false}
+use Rattle.codes.specs.Ids.{id_at}
+use Rattle.frame.specs.Open.{known_of}
+use Rattle.lookup.specs.Lookup.{look_in}
+use Rattle.lookup.specs.Record.{holds}
+use Rattle.lookup.specs.Calls.{lent, whole_as, whole_refused}
+use Rattle.reader.specs.Look.{of_refused, of_good, opened_holds, key_number}
+use borrow.Author.Rules.{rules}
+use Rattle.reader.proofs.look.lookup.Goals as goal
+
+pub edges_of_key-requires : goal.edges_of_key-requires
+edges_of_key-requires c = let a = c.args in opened_holds a.file.now _ (sym c.«open».ensures ∙ c.in-Good.is)
+
+pub returns-in-Refused : goal.returns-in-Refused
+returns-in-Refused c = let a = c.args in
+    let f = a.file.now in
+    let key = id_at a.key.now 0 in
+    let rooms = lent (length a.out.now) (length a.logs.now) (length a.marks.now) in
+    rw c.refused.ensures (whole_refused _ _ a.out.now a.logs.now a.marks.now (of_refused true rooms key f _ (sym c.«open».ensures ∙ c.in-Refused.is)))
+
+pub returns-in-Good : goal.returns-in-Good
+returns-in-Good c = let a = c.args in
+    let f = a.file.now in
+    let key = id_at a.key.now 0 in
+    let rooms = lent (length a.out.now) (length a.logs.now) (length a.marks.now) in
+    let o = c.in-Good.opened in
+    whole_as (of_good true rooms key f o (sym c.«open».ensures ∙ c.in-Good.is) ∙ ap (look_in true rooms (known_of f o)) (sym (key_number a.key.now _ c.id_at.ensures))) c.edges_of_key.ensures

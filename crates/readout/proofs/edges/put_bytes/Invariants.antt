@@ -1,0 +1,18 @@
+-- `readout::edges::put_bytes` meets its contract. Invariant: the bytes that are left, written from here, make the whole.
+use mathlib.Core.Path.{◌≡◌, refl, ap, ◌∙◌}
+use Prim.Native.Nat.{ℕ, ◌+◌, ◌-◌, ◌≤◌}
+use native.Mathlib.Nat.{add-zero}
+use lib.ListN.{length, drop, length-set}
+use lib.Seq.{sets}
+use Rattle.readout.specs.ReadOut.Laws.{bytes_on, bytes_end}
+use borrow.Author.Rules.{rules}
+use native.Mathlib.Omega.{arith}
+use Rattle.readout.proofs.edges.put_bytes.Reads as reads
+use Rattle.readout.proofs.edges.put_bytes.Lts as lts
+use Rattle.readout.proofs.edges.put_bytes.Given as goal
+
+abbrev pub invariant-loop-k : goal.invariant-loop-k
+invariant-loop-k l = (l.k ≤ length l.s) × (length l.out ≡ length l.initial.out) × (sets l.out (l.at + l.k) (drop l.k l.s) ≡ sets l.initial.out l.at l.s)
+
+abbrev pub decreases-loop-k : goal.decreases-loop-k
+decreases-loop-k l = length l.s - l.k

@@ -1,0 +1,65 @@
+-- `readout::group_edges::put_group_edges` meets its contract: the head of a good group says how its payload is read.
+use mathlib.Core.Path.{◌≡◌, sym, ap, ◌∙◌}
+use Prim.Native.Nat.{ℕ, ◌+◌}
+use mathlib.Core.List.{List}
+use mathlib.Core.Bool.{true, false}
+use lib.Seq.{sets}
+use Rattle.batch.specs.Batch.{place, records_of}
+use Rattle.group.specs.Group.{Decoded, partners_of}
+use Rattle.group.specs.Group.Laws.{group_bad, not_bad}
+use Rattle.group.specs.Good.{Fill, fill}
+use Rattle.readout.specs.Edges.{edges_from}
+use native.Mathlib.Omega.{arith}
+use borrow.Author.Rules.{rules}
+use Rattle.readout.proofs.group_edges.put_group_edges.Reads as reads
+use Rattle.readout.proofs.group_edges.put_group_edges.Lts as lts
+use Rattle.group.proofs.head.head_of.Reads as head_of_reads
+use Rattle.readout.proofs.group_edges.put_edges.Reads as put_edges_reads
+use Rattle.readout.proofs.group_edges.put_group_edges.Goals as goal
+
+split : (p : tie.After-known-told) → Fill p.before.before.before.before.before.before.before.before.args.g.now false p.before.degree.given.0.0 p.before.degree.given.0.1.0
+split p = fill p.before.before.before.before.before.before.before.before.args.g.now false _ _ (sym p.before.before.before.head_of.ensures ∙ p.before.degree.given.1) p.before.before.before.before.before.before.before.before.requires.good
+
+dense : (p : tie.After-known-told2) → Fill p.before.before.before.before.before.before.before.before.args.g.now true p.before.degree2.given.0.0 p.before.degree2.given.0.1.0
+dense p = fill p.before.before.before.before.before.before.before.before.args.g.now true _ _ (sym p.before.before.before.head_of.ensures ∙ p.before.degree2.given.1) p.before.before.before.before.before.before.before.before.requires.good
+
+pub put_edges-requires : goal.put_edges-requires
+put_edges-requires c = let f = split c in
+    let count = f.count in
+    let q = c.requires in
+    let bound = q.bound in
+    let numbers = q.numbers in
+    record { good = f.rest; bound = omega arith; numbers = omega arith; room = rw (← f.walk) q.room }
+
+pub overflow_add-result : goal.overflow_add-result
+overflow_add-result c = let f = split c in
+    let count = f.count in
+    let q = c.requires.bound in
+    omega arith
+
+pub put_edges-requires-in-Dense : goal.put_edges-requires-in-Dense
+put_edges-requires-in-Dense c = let f = dense c in
+    let count = f.count in
+    let q = c.requires in
+    let bound = q.bound in
+    let numbers = q.numbers in
+    record { good = f.rest; bound = omega arith; numbers = omega arith; room = rw (← f.walk) q.room }
+
+pub overflow_add-result-in-Dense : goal.overflow_add-result-in-Dense
+overflow_add-result-in-Dense c = let f = dense c in
+    let count = f.count in
+    let q = c.requires.bound in
+    omega arith
+
+pub returns-in-Split : goal.returns-in-Split
+returns-in-Split c = let a = c.args in
+    let f = split c in
+    (ap (λ (t : ℕ). a.first + t) (sym f.count), c.put_edges.ensures ∙ ap (λ (t : Decoded). sets a.out.now (place a.first) (records_of (edges_from a.logs.now a.dead.now a.key a.first (partners_of t)))) (sym f.walk))
+
+pub returns-in-Dense : goal.returns-in-Dense
+returns-in-Dense c = let a = c.args in
+    let f = dense c in
+    (ap (λ (t : ℕ). a.first + t) (sym f.count), c.put_edges-in-Dense.ensures ∙ ap (λ (t : Decoded). sets a.out.now (place a.first) (records_of (edges_from a.logs.now a.dead.now a.key a.first (partners_of t)))) (sym f.walk))
+
+pub returns-in-Bad : goal.returns-in-Bad
+returns-in-Bad c = absurd (not_bad c.requires.good (group_bad c.args.g.now _ (sym c.head_of.ensures ∙ c.in-Bad.is)))

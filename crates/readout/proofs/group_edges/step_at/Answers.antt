@@ -1,0 +1,20 @@
+-- `readout::group_edges::step_at` meets its contract.
+use mathlib.Core.Path.{◌≡◌, sym, ap, ◌∙◌}
+use mathlib.Core.Bool.{Bool}
+use Rattle.group.specs.Group.{step_at}
+use Rattle.group.specs.Group.Laws.{step_dense, step_split}
+use native.Mathlib.Omega.{arith}
+use borrow.Author.Rules.{rules}
+use Rattle.readout.proofs.group_edges.step_at.Reads as reads
+use Rattle.readout.proofs.group_edges.step_at.Lts as lts
+use Rattle.group.proofs.split.split_step.Reads as split_step_reads
+use Rattle.readout.proofs.group_edges.dense_step.Reads as dense_step_reads
+use Rattle.readout.proofs.group_edges.step_at.Goals as goal
+
+pub returns-then-dense : goal.returns-then-dense
+returns-then-dense c = let a = c.args in
+    c.dense_step.ensures ∙ sym (step_dense a.g.now a.i a.hi) ∙ ap (λ (b : Bool). step_at b a.g.now a.i a.hi) (sym c.if-dense.true)
+
+pub returns : goal.returns
+returns c = let a = c.args in
+    c.split_step.ensures ∙ sym (step_split a.g.now a.i a.hi) ∙ ap (λ (b : Bool). step_at b a.g.now a.i a.hi) (sym c.if-dense.false)

@@ -1,0 +1,65 @@
+-- `readout::read_out` meets its contract: one law for each way out.
+use mathlib.Core.Path.{◌≡◌, sym, ap, ◌∙◌}
+use Prim.Native.Nat.{ℕ, ◌+◌, ◌*◌, ◌≤◌}
+use mathlib.Core.List.{List}
+use lib.ListN.{length}
+use lib.Seq.{sets, length-sets}
+use Rattle.frame.specs.declared.Opening.{Opening}
+use Rattle.frame.specs.Open.{known_of}
+use Rattle.batch.specs.Batch.{heading_bytes, records_of}
+use Rattle.full_check.specs.Full.{checked_of}
+use Rattle.full_check.specs.Checked.{checked_refused}
+use Rattle.readout.specs.declared.ReadOut.{ReadOut}
+use Rattle.readout.specs.Edges.{edges_in}
+use Rattle.readout.specs.ReadOut.{heading_in}
+use Rattle.readout.specs.ReadOut.Laws.{checked_records, checked_size, checked_few, batch_written, reads_bad, reads_short, reads_all}
+use native.Mathlib.Omega.{arith}
+use borrow.Author.Rules.{rules}
+use Rattle.readout.proofs.read_out.Reads as reads
+use Rattle.readout.proofs.read_out.Lts as lts
+use Rattle.full_check.proofs.checked.Reads as checked_reads
+use Rattle.readout.proofs.edges.put_edges_of.Reads as put_edges_of_reads
+use Rattle.readout.proofs.edges.put_heading.Reads as put_heading_reads
+use Rattle.readout.proofs.refused.Reads as refused_reads
+use Rattle.readout.proofs.read_out.Goals as goal
+
+good : (p : tie.After-known-told2) → checked_of p.before.before.before.before.before.before.args.file.now ≡ Opening.Good p.before.opened.given.0.0
+good p = sym p.before.before.before.checked.ensures ∙ p.before.opened.given.1
+
+pub overflow_mul-needed : goal.overflow_mul-needed
+overflow_mul-needed c = let few = checked_few c.args.file.now _ (good c) in omega arith
+
+pub overflow_add-needed : goal.overflow_add-needed
+overflow_add-needed c = let few = checked_few c.args.file.now _ (good c) in omega arith
+
+pub returns-then-room-needed : goal.returns-then-room-needed
+returns-then-room-needed c = let a = c.args in
+    let r = reads_short a.file.now a.out.now _ (good c) (omega arith) in
+    (c.refused-then-room-needed.ensures ∙ r.0, r.1)
+
+pub put_heading-requires : goal.put_heading-requires
+put_heading-requires c = let a = c.args in
+    let size = checked_size a.file.now _ (good c) in
+    (omega arith, omega arith)
+
+pub put_edges_of-requires : goal.put_edges_of-requires
+put_edges_of-requires c = let a = c.args in
+    let g = good c in
+    let len = checked_records a.file.now _ g in
+    let same = length-sets a.out.now 0 (heading_bytes (heading_in a.file.now)) in
+    (g, simp (c.put_heading.ensures, length-sets, len) (omega arith))
+
+pub returns-in-Refused : goal.returns-in-Refused
+returns-in-Refused c = let a = c.args in
+    let r = reads_bad a.file.now a.out.now _ (checked_refused a.file.now _ (sym c.checked.ensures ∙ c.in-Refused.is)) in
+    (c.refused.ensures ∙ r.0, r.1)
+
+pub returns-else-room-needed : goal.returns-else-room-needed
+returns-else-room-needed c = let a = c.args in
+    let g = good c in
+    let f = a.file.now in
+    let size = checked_size f _ g in
+    let len = checked_records f _ g in
+    let es = edges_in (known_of f c.in-Good.opened) in
+    reads_all f a.out.now _ g (omega arith)
+    (c.put_edges_of.ensures ∙ ap (λ (t : List ℕ). sets t 50 (records_of es)) c.put_heading.ensures ∙ batch_written f es a.out.now (omega arith) (omega arith))

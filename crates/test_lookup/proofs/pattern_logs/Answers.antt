@@ -1,0 +1,6 @@
+-- `test_lookup::pattern_logs` meets its contract.
+use Rattle.std.proofs.Common.{◌≡◌, ◌-◌, ◌≤◌, length, arith, length-set, rules}
+use Rattle.test_lookup.proofs.pattern_logs.Goals as goal
+
+pub loop-i-preserved : goal.loop-i-preserved
+loop-i-preserved c = (omega arith, rw length-set (omega arith))

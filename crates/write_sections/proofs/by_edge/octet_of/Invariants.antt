@@ -1,0 +1,18 @@
+use mathlib.Core.Path.{◌≡◌, sym, ap, ap₂, ◌∙◌}
+use Prim.Native.Nat.{ℕ, suc, ◌+◌, ◌-◌, ◌*◌, ◌^◌, ◌≤◌, ◌<◌}
+use native.Mathlib.Omega.{arith}
+use mathlib.Core.List.{List}
+use lib.ListN.{length, get_or, drop}
+use Rattle.batch.specs.Batch.{marks_in}
+use Rattle.batch.specs.declared.Edge.{Edge}
+use Rattle.batch_groups.specs.Groups.{none}
+use Rattle.write_image.specs.Image.{bit, octet}
+use Rattle.write_image.specs.Image.Laws.{mark_here, octet_none, octet_byte}
+use Rattle.write_source.specs.Source.{source_edges}
+use Rattle.write_sections.proofs.by_edge.octet_of.Given as goal
+
+abbrev pub invariant-loop-k : goal.invariant-loop-k
+invariant-loop-k l = Head (source_edges l.kind l.a l.b) l.i l.j l.k l.x
+
+abbrev pub decreases-loop-k : goal.decreases-loop-k
+decreases-loop-k l = l.k
