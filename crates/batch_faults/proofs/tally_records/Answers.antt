@@ -19,13 +19,7 @@ use Rattle.batch_faults.specs.Tally.{follow_at, tally_by}
 use Rattle.batch_faults.specs.Tally.Laws.{count_start, dead_start, dead_next, follows, tally_bad, tally_fine}
 use borrow.Author.Rules.{rules}
 use Rattle.batch_faults.proofs.tally_records.Goals as goal
-
--- what is left gives the whole, and what was passed is counted
-record Head (s : List ℕ) (n e keys : ℕ) (dead : Bool) : Type 0 where
-  upto : e ≤ n
-  rest : fault_from (n - e) s e ≡ fault_from n s 0
-  keys_are : keys ≡ length (groups_of (edges_at e s 0))
-  dead_is : dead ≡ any_dead (edges_at e s 0)
+use Rattle.batch_faults.proofs.tally_records.Invariants.{Head}
 
 module _ (s : List ℕ) (n e keys : ℕ) (dead : Bool) (h : Head s n e keys dead) where
   few : keys ≤ e

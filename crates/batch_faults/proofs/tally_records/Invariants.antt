@@ -20,6 +20,13 @@ use Rattle.batch_faults.specs.Tally.Laws.{count_start, dead_start, dead_next, fo
 use borrow.Author.Rules.{rules}
 use Rattle.batch_faults.proofs.tally_records.Given as goal
 
+-- what is left gives the whole, and what was passed is counted
+pub record Head (s : List ℕ) (n e keys : ℕ) (dead : Bool) : Type 0 where
+  pub upto : e ≤ n
+  pub rest : fault_from (n - e) s e ≡ fault_from n s 0
+  pub keys_are : keys ≡ length (groups_of (edges_at e s 0))
+  pub dead_is : dead ≡ any_dead (edges_at e s 0)
+
 abbrev pub invariant-loop-e : goal.invariant-loop-e
 invariant-loop-e l = Head l.s l.n l.e l.keys l.dead
 

@@ -39,13 +39,13 @@ pub returns-then-o : goal.returns-then-o
 returns-then-o c = let a = c.args in sym (few_edges a.flags a.x (omega arith))
 
 pub returns-then-not-edges_good : goal.returns-then-not-edges_good
-returns-then-not-edges_good c = let a = c.args in sym (keyless a.flags a.x (omega arith) (sym c.edges_good.ensures ∙ not-true _ c.if-not-edges_good.true))
+returns-then-not-edges_good c = let a = c.args in sym (keyless a.flags a.x (omega arith) (sym c.edges_good.ensures ∙ c.if-not-edges_good.true))
 
 pub returns-then-not-fences_there : goal.returns-then-not-fences_there
-returns-then-not-fences_there c = let a = c.args in sym (unfenced a.flags a.x (omega arith) (sym c.edges_good.ensures ∙ not-false _ c.if-not-edges_good.false) (sym c.fences_there.ensures ∙ not-true _ c.if-not-fences_there.true))
+returns-then-not-fences_there c = let a = c.args in sym (unfenced a.flags a.x (omega arith) (sym c.edges_good.ensures ∙ c.if-not-edges_good.false) (sym c.fences_there.ensures ∙ c.if-not-fences_there.true))
 
 pub returns-then-not-alike : goal.returns-then-not-alike
-returns-then-not-alike c = let a = c.args in sym (unlike a.flags a.x (omega arith) (sym c.edges_good.ensures ∙ not-false _ c.if-not-edges_good.false) (sym c.fences_there.ensures ∙ not-false _ c.if-not-fences_there.false) (sym (c.alike.ensures ∙ ap (λ (z : Bool). beq z a.x.streams) c.flag_of.ensures) ∙ not-true _ c.if-not-alike.true))
+returns-then-not-alike c = let a = c.args in sym (unlike a.flags a.x (omega arith) (sym c.edges_good.ensures ∙ c.if-not-edges_good.false) (sym c.fences_there.ensures ∙ c.if-not-fences_there.false) (sym (c.alike.ensures ∙ ap (λ (z : Bool). beq z a.x.streams) c.flag_of.ensures) ∙ c.if-not-alike.true))
 
 pub returns : goal.returns
-returns c = let a = c.args in c.implied.ensures ∙ ap (λ (z : Bool). not z || a.x.opened.marked) c.flag_of-2.ensures ∙ sym (last a.flags a.x (omega arith) (sym c.edges_good.ensures ∙ not-false _ c.if-not-edges_good.false) (sym c.fences_there.ensures ∙ not-false _ c.if-not-fences_there.false) (sym (c.alike.ensures ∙ ap (λ (z : Bool). beq z a.x.streams) c.flag_of.ensures) ∙ not-false _ c.if-not-alike.false))
+returns c = let a = c.args in c.implied.ensures ∙ ap (λ (z : Bool). not z || a.x.opened.marked) c.flag_of-2.ensures ∙ sym (last a.flags a.x (omega arith) (sym c.edges_good.ensures ∙ c.if-not-edges_good.false) (sym c.fences_there.ensures ∙ c.if-not-fences_there.false) (sym (c.alike.ensures ∙ ap (λ (z : Bool). beq z a.x.streams) c.flag_of.ensures) ∙ c.if-not-alike.false))

@@ -12,16 +12,16 @@ and_true false = refl
 
 pub returns-then-not-met : goal.returns-then-not-met
 unfolding needed_from
-returns-then-not-met c = simp (not-true (met_at c.args.t1 0) c.if-not-met.true)
+returns-then-not-met c = simp (c.if-not-met.true)
 
 pub returns-then-not-met-2 : goal.returns-then-not-met-2
 unfolding needed_from
-returns-then-not-met-2 c = let m = c.args.t1 in simp (not-false (met_at m 0) c.if-not-met.false, not-true (met_at m 1) c.if-not-met-2.true)
+returns-then-not-met-2 c = let m = c.args.t1 in simp (c.if-not-met.false, c.if-not-met-2.true)
 
 pub returns-then-not-met-3 : goal.returns-then-not-met-3
 unfolding needed_from
-returns-then-not-met-3 c = let m = c.args.t1 in simp (not-false (met_at m 0) c.if-not-met.false, not-false (met_at m 1) c.if-not-met-2.false, not-true (met_at m 2) c.if-not-met-3.true)
+returns-then-not-met-3 c = let m = c.args.t1 in simp (c.if-not-met.false, c.if-not-met-2.false, c.if-not-met-3.true)
 
 pub returns : goal.returns
 unfolding needed_from
-returns c = let m = c.args.t1 in simp (not-false (met_at m 0) c.if-not-met.false, not-false (met_at m 1) c.if-not-met-2.false, not-false (met_at m 2) c.if-not-met-3.false) (sym (and_true (met_at m 3)))
+returns c = let m = c.args.t1 in simp (c.if-not-met.false, c.if-not-met-2.false, c.if-not-met-3.false) (sym (and_true (met_at m 3)))

@@ -39,7 +39,7 @@ returns-then-not-fresh c =
     let l = c.loop-k in
     let m = c.le16-count.result in
     let h = c.le16-count.ensures.0 in
-    c.refused-then-not-fresh.ensures ∙ sym (passing_stale a.b.now a.limit m l.k l.i l.seen l.met l.places l.invariant (omega arith) (omega arith) c.row_at-r.result c.row_at-r.ensures (omega arith) c.slot-slot.result c.slot-slot.ensures (omega arith) (sym c.fresh.ensures ∙ not-true _ c.if-not-fresh.true) h)
+    c.refused-then-not-fresh.ensures ∙ sym (passing_stale a.b.now a.limit m l.k l.i l.seen l.met l.places l.invariant (omega arith) (omega arith) c.row_at-r.result c.row_at-r.ensures (omega arith) c.slot-slot.result c.slot-slot.ensures (omega arith) (sym c.fresh.ensures ∙ c.if-not-fresh.true) h)
 
 pub loop-k-preserved : goal.loop-k-preserved
 loop-k-preserved c =

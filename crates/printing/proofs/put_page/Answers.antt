@@ -10,14 +10,7 @@ use Rattle.printing.specs.Printed.{line_at, lines_from, line_room, line_count}
 use Rattle.printing.specs.Printed.Laws.{line_room_lem, lines_none, lines_more}
 use borrow.Author.Rules.{rules}
 use Rattle.printing.proofs.put_page.Goals as goal
-
-record Head (minor keys : ℕ) (s o : List ℕ) (from : ℕ) (out : List ℕ) (next at : ℕ) : Type 0 where
-  begun : from ≤ next
-  upto : next ≤ line_count s
-  same : length out ≡ length o
-  within : at ≤ length o
-  few : at ≤ line_room * (next - from)
-  lines : Put o out 0 at (lines_from minor keys s (next - from) from)
+use Rattle.printing.proofs.put_page.Invariants.{Head}
 
 module _ (minor keys : ℕ) (s o : List ℕ) (from : ℕ) where
   begin : from < line_count s → Head minor keys s o from o from 0

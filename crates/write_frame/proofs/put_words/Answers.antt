@@ -11,11 +11,7 @@ use Rattle.base.specs.Put.{Put, Left}
 use Rattle.codes.specs.Little.{le_at, le_bytes}
 use Rattle.codes.specs.Little.Laws.{length_le_bytes}
 use Rattle.write_frame.proofs.put_words.Goals as goal
-
-record Head (s o : List ℕ) (at : ℕ) (out : List ℕ) (k : ℕ) : Type 0 where
-  upto : k ≤ length s
-  words : k % 8 ≡ 0
-  left : Left out (at + k) (drop k s) o at s
+use Rattle.write_frame.proofs.put_words.Invariants.{Head}
 
 module _ (s o : List ℕ) (at : ℕ) (out : List ℕ) (k : ℕ) (h : Head s o at out k) where
   module _ (lt : k < length s) (whole : length s % 8 ≡ 0) where

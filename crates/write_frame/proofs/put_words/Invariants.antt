@@ -12,6 +12,11 @@ use Rattle.codes.specs.Little.{le_at, le_bytes}
 use Rattle.codes.specs.Little.Laws.{length_le_bytes}
 use Rattle.write_frame.proofs.put_words.Given as goal
 
+pub record Head (s o : List ℕ) (at : ℕ) (out : List ℕ) (k : ℕ) : Type 0 where
+  pub upto : k ≤ length s
+  pub words : k % 8 ≡ 0
+  pub left : Left out (at + k) (drop k s) o at s
+
 abbrev pub invariant-loop-k : goal.invariant-loop-k
 invariant-loop-k l = Head l.s l.initial.out l.at l.out l.k
 

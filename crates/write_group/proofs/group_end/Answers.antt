@@ -20,14 +20,14 @@ returns-then-not-same_id c =
     let a = c.args in
     let l = c.loop-j in
     let es = source_edges a.kind a.a.now a.b.now in
-    same_other es a.i l.j l.invariant.1 (omega arith) _ c.edge_of-next.ensures _ l.invariant.0 (sym c.same_id.ensures ∙ not-true _ c.if-not-same_id.true)
+    same_other es a.i l.j l.invariant.1 (omega arith) _ c.edge_of-next.ensures _ l.invariant.0 (sym c.same_id.ensures ∙ c.if-not-same_id.true)
 
 pub loop-j-preserved : goal.loop-j-preserved
 loop-j-preserved c =
     let a = c.args in
     let l = c.loop-j in
     let es = source_edges a.kind a.a.now a.b.now in
-    (l.invariant.0, same_on es a.i l.j l.invariant.1 (omega arith) _ c.edge_of-next.ensures _ l.invariant.0 (sym c.same_id.ensures ∙ not-false _ c.if-not-same_id.false))
+    (l.invariant.0, same_on es a.i l.j l.invariant.1 (omega arith) _ c.edge_of-next.ensures _ l.invariant.0 (sym c.same_id.ensures ∙ c.if-not-same_id.false))
 
 pub returns : goal.returns
 returns c =

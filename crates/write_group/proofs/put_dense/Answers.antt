@@ -16,11 +16,7 @@ use Rattle.batch_groups.specs.Groups.{none}
 use Rattle.write_image.specs.Image.Laws.{partner_first, partners_out, dense_none, dense_on}
 use Rattle.write_source.specs.Source.{source_edges}
 use Rattle.write_group.proofs.put_dense.Goals as goal
-
-record Head (es : List Edge) (i j : ℕ) (o : List ℕ) (at : ℕ) (out : List ℕ) (k to : ℕ) : Type 0 where
-  from : i ≤ k
-  upto : k ≤ j
-  left : Left out to (bytes_of (partners_in (part es k j))) o at (bytes_of (partners_in (part es i j)))
+use Rattle.write_group.proofs.put_dense.Invariants.{Head}
 
 module _ (es : List Edge) (i j : ℕ) (o : List ℕ) (at : ℕ) (out : List ℕ) (k to : ℕ) (h : Head es i j o at out k to) (m : j ≤ length es) where
   module _ (lt : k < j) (x : Edge) (e : x ≡ get_or es k none) where

@@ -17,6 +17,11 @@ use Rattle.write_image.specs.Image.Laws.{partner_first, partners_out, dense_none
 use Rattle.write_source.specs.Source.{source_edges}
 use Rattle.write_group.proofs.put_dense.Given as goal
 
+pub record Head (es : List Edge) (i j : ℕ) (o : List ℕ) (at : ℕ) (out : List ℕ) (k to : ℕ) : Type 0 where
+  pub from : i ≤ k
+  pub upto : k ≤ j
+  pub left : Left out to (bytes_of (partners_in (part es k j))) o at (bytes_of (partners_in (part es i j)))
+
 abbrev pub invariant-loop-k : goal.invariant-loop-k
 invariant-loop-k l = Head (source_edges l.kind l.a l.b) l.i l.j l.initial.out l.at l.out l.k l.to
 

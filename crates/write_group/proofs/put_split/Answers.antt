@@ -16,12 +16,7 @@ use Rattle.batch_groups.specs.Groups.{none}
 use Rattle.write_image.specs.Image.Laws.{Rise, partner_first, rise_first, partners_out, split_none, split_on}
 use Rattle.write_source.specs.Source.{source_edges}
 use Rattle.write_group.proofs.put_split.Goals as goal
-
-record Head (es : List Edge) (i j : ℕ) (o : List ℕ) (at : ℕ) (out : List ℕ) (k to hi : ℕ) : Type 0 where
-  from : i ≤ k
-  upto : k ≤ j
-  rise : Rise hi (partners_in (part es k j))
-  left : Left out to (split_from hi (partners_in (part es k j))) o at (split_from 0 (partners_in (part es i j)))
+use Rattle.write_group.proofs.put_split.Invariants.{Head}
 
 module _ (es : List Edge) (i j : ℕ) (o : List ℕ) (at : ℕ) (out : List ℕ) (k to hi : ℕ) (h : Head es i j o at out k to hi) (m : j ≤ length es) where
   module _ (lt : k < j) (x : Edge) (e : x ≡ get_or es k none) where

@@ -25,7 +25,7 @@ returns-then-not-same_id c =
     let l = c.loop-j in
     let es = source_edges a.kind a.a.now a.b.now in
     going_other es a.i l.j l.hi l.cost l.invariant.2 (omega arith) _ c.edge_of-other.ensures l.invariant.0 _ l.invariant.1
-    (sym c.same_id.ensures ∙ not-true _ c.if-not-same_id.true)
+    (sym c.same_id.ensures ∙ c.if-not-same_id.true)
 
 pub overflow_sub-upper : goal.overflow_sub-upper
 overflow_sub-upper c =
@@ -33,7 +33,7 @@ overflow_sub-upper c =
     let l = c.loop-j in
     let es = source_edges a.kind a.a.now a.b.now in
     going_up es a.i l.j l.hi l.cost l.invariant.2 (omega arith) _ c.edge_of-other.ensures l.invariant.0 _ l.invariant.1
-    (sym c.same_id.ensures ∙ not-false _ c.if-not-same_id.false)
+    (sym c.same_id.ensures ∙ c.if-not-same_id.false)
     c.requires.3
 
 pub overflow_add-cost : goal.overflow_add-cost
@@ -52,7 +52,7 @@ loop-j-preserved c =
       omega arith,
       l.invariant.1,
       going_on es a.i l.j l.hi l.cost l.invariant.2 (omega arith) _ c.edge_of-other.ensures l.invariant.0 _ l.invariant.1
-          (sym c.same_id.ensures ∙ not-false _ c.if-not-same_id.false) _ c.partner_cost-cost-in-loop-j.ensures.0,
+          (sym c.same_id.ensures ∙ c.if-not-same_id.false) _ c.partner_cost-cost-in-loop-j.ensures.0,
     )
 
 pub returns : goal.returns

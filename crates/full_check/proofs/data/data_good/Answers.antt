@@ -15,23 +15,23 @@ returns-then-sum-count c = let a = c.args in simp (ne_eqb a.sum a.count (λ q. o
 
 pub returns-then-not-alike : goal.returns-then-not-alike
 returns-then-not-alike c = let a = c.args in
-    let f = sym (c.alike.ensures ∙ ap (λ (x : Bool). beq x a.m.dead) c.flag_of.ensures) ∙ not-true _ c.if-not-alike.true in
+    let f = sym (c.alike.ensures ∙ ap (λ (x : Bool). beq x a.m.dead) c.flag_of.ensures) ∙ c.if-not-alike.true in
     simp (eq-eqb a.sum a.count (omega arith), f)
 
 pub returns-then-not-alike-2 : goal.returns-then-not-alike-2
 returns-then-not-alike-2 c = let a = c.args in
-    let f = sym (c.alike.ensures ∙ ap (λ (x : Bool). beq x a.m.dead) c.flag_of.ensures) ∙ not-false _ c.if-not-alike.false in
-    let g = sym (c.alike-2.ensures ∙ ap (λ (x : Bool). beq x a.dense) c.flag_of-2.ensures) ∙ not-true _ c.if-not-alike-2.true in
+    let f = sym (c.alike.ensures ∙ ap (λ (x : Bool). beq x a.m.dead) c.flag_of.ensures) ∙ c.if-not-alike.false in
+    let g = sym (c.alike-2.ensures ∙ ap (λ (x : Bool). beq x a.dense) c.flag_of-2.ensures) ∙ c.if-not-alike-2.true in
     simp (eq-eqb a.sum a.count (omega arith), f, g)
 
 pub returns-then-m : goal.returns-then-m
 returns-then-m c = let a = c.args in
-    let f = sym (c.alike.ensures ∙ ap (λ (x : Bool). beq x a.m.dead) c.flag_of.ensures) ∙ not-false _ c.if-not-alike.false in
-    let g = sym (c.alike-2.ensures ∙ ap (λ (x : Bool). beq x a.dense) c.flag_of-2.ensures) ∙ not-false _ c.if-not-alike-2.false in
+    let f = sym (c.alike.ensures ∙ ap (λ (x : Bool). beq x a.m.dead) c.flag_of.ensures) ∙ c.if-not-alike.false in
+    let g = sym (c.alike-2.ensures ∙ ap (λ (x : Bool). beq x a.dense) c.flag_of-2.ensures) ∙ c.if-not-alike-2.false in
     simp (eq-eqb a.sum a.count (omega arith), f, g, c.if-m.true)
 
 pub returns : goal.returns
 returns c = let a = c.args in
-    let f = sym (c.alike.ensures ∙ ap (λ (x : Bool). beq x a.m.dead) c.flag_of.ensures) ∙ not-false _ c.if-not-alike.false in
-    let g = sym (c.alike-2.ensures ∙ ap (λ (x : Bool). beq x a.dense) c.flag_of-2.ensures) ∙ not-false _ c.if-not-alike-2.false in
+    let f = sym (c.alike.ensures ∙ ap (λ (x : Bool). beq x a.m.dead) c.flag_of.ensures) ∙ c.if-not-alike.false in
+    let g = sym (c.alike-2.ensures ∙ ap (λ (x : Bool). beq x a.dense) c.flag_of-2.ensures) ∙ c.if-not-alike-2.false in
     simp (eq-eqb a.sum a.count (omega arith), f, g, c.if-m.false)

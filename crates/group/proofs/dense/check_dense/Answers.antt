@@ -90,7 +90,7 @@ pub loop-i-preserved : goal.loop-i-preserved
 loop-i-preserved c =
     let a = c.args in
     let l = c.loop-i in
-    (l.invariant.0 + 1, omega arith, passed_on a.g.now a.at a.degree l.last l.i l.invariant.0 l.invariant.2 (omega arith) (omega arith) c.be64-hi.ensures (sym c.precedes.ensures ∙ not-false _ c.if-not-precedes.false))
+    (l.invariant.0 + 1, omega arith, passed_on a.g.now a.at a.degree l.last l.i l.invariant.0 l.invariant.2 (omega arith) (omega arith) c.be64-hi.ensures (sym c.precedes.ensures ∙ c.if-not-precedes.false))
 
 pub returns-then-count-degree : goal.returns-then-count-degree
 returns-then-count-degree c =

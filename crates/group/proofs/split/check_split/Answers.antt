@@ -32,7 +32,7 @@ loop-k-preserved c =
     let p = c.in-Partner.id in
     let n = c.in-Partner.next in
     let e = step_split a.g.now l.i l.last.hi ∙ sym c.split_step.ensures ∙ c.in-Partner.is in
-    let m = check_more false a.g.now a.at a.degree l.i l.k l.last.hi (floor_of l.k l.last) l.invariant.1 c.loop-k-test.true p n e (sym c.in_order.ensures ∙ not-false _ c.if-not-in_order.false) in
+    let m = check_more false a.g.now a.at a.degree l.i l.k l.last.hi (floor_of l.k l.last) l.invariant.1 c.loop-k-test.true p n e (sym c.in_order.ensures ∙ c.if-not-in_order.false) in
     (omega arith, rw (floor_next (l.k + 1) p (λ q. omega arith)) m)
 
 pub returns-in-Bad : goal.returns-in-Bad

@@ -22,14 +22,14 @@ pub returns-then-not-fence_good : goal.returns-then-not-fence_good
 returns-then-not-fence_good c =
     let a = c.args in
     let l = c.loop-i in
-    let e = sym c.fence_good.ensures ∙ not-true _ c.if-not-fence_good.true in
+    let e = sym c.fence_good.ensures ∙ c.if-not-fence_good.true in
     sym (fences_bad a.x.now a.keys.now a.stride a.count l.i (omega arith) e) ∙ l.invariant.1
 
 pub loop-i-preserved : goal.loop-i-preserved
 loop-i-preserved c =
     let a = c.args in
     let l = c.loop-i in
-    let e = sym c.fence_good.ensures ∙ not-false _ c.if-not-fence_good.false in
+    let e = sym c.fence_good.ensures ∙ c.if-not-fence_good.false in
     (omega arith, sym (fences_on a.x.now a.keys.now a.stride a.count l.i (omega arith) e) ∙ l.invariant.1)
 
 pub returns : goal.returns

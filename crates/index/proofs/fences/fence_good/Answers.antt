@@ -23,11 +23,11 @@ said c b q =
 pub returns-then-not-same_id : goal.returns-then-not-same_id
 unfolding fence_good
 returns-then-not-same_id c =
-    let e = said c false (not-true _ c.if-not-same_id.true) in rw e
+    let e = said c false c.if-not-same_id.true in rw e
 
 pub returns : goal.returns
 unfolding fence_good
 returns c =
     let a = c.args in
-    let e = said c true (not-false _ c.if-not-same_id.false) in
+    let e = said c true c.if-not-same_id.false in
     rw e (ap (λ (v : ℕ). eqb v (16 * (a.i * a.stride))) c.le64-place.ensures)

@@ -37,7 +37,7 @@ pub returns-then-not-precedes : goal.returns-then-not-precedes
 returns-then-not-precedes c =
     let a = c.args in
     let l = c.loop-k in
-    sym (keys_bad a.keys.now a.n l.k (omega arith) (said a.keys.now l.k (omega arith) c.precedes.ensures (not-true _ c.if-not-precedes.true))) ∙ l.invariant.3
+    sym (keys_bad a.keys.now a.n l.k (omega arith) (said a.keys.now l.k (omega arith) c.precedes.ensures c.if-not-precedes.true)) ∙ l.invariant.3
 
 pub loop-k-preserved : goal.loop-k-preserved
 loop-k-preserved c =
@@ -47,7 +47,7 @@ loop-k-preserved c =
       omega arith,
       omega arith,
       rw back c.be64-hi.ensures,
-      sym (keys_on a.keys.now a.n l.k (omega arith) (said a.keys.now l.k (omega arith) c.precedes.ensures (not-false _ c.if-not-precedes.false))) ∙ l.invariant.3,
+      sym (keys_on a.keys.now a.n l.k (omega arith) (said a.keys.now l.k (omega arith) c.precedes.ensures c.if-not-precedes.false)) ∙ l.invariant.3,
     )
 
 pub returns : goal.returns

@@ -7,7 +7,7 @@ use borrow.Author.Rules.{rules}
 use Rattle.open_file.proofs.frames.counted.Goals as goal
 
 pub returns-then-not-counts_good : goal.returns-then-not-counts_good
-returns-then-not-counts_good c = c.refused.ensures ∙ sym (framing_lost Refusal.Counts c.args.x (sym c.counts_good.ensures ∙ not-true _ c.if-not-counts_good.true))
+returns-then-not-counts_good c = c.refused.ensures ∙ sym (framing_lost Refusal.Counts c.args.x (sym c.counts_good.ensures ∙ c.if-not-counts_good.true))
 
 pub returns : goal.returns
-returns c = sym (framing_last Refusal.Counts c.args.x (sym c.counts_good.ensures ∙ not-false _ c.if-not-counts_good.false))
+returns c = sym (framing_last Refusal.Counts c.args.x (sym c.counts_good.ensures ∙ c.if-not-counts_good.false))

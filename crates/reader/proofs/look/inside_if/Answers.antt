@@ -4,7 +4,7 @@ use borrow.Author.Rules.{rules}
 use Rattle.reader.proofs.look.inside_if.Goals as goal
 
 pub returns-then-not-there : goal.returns-then-not-there
-returns-then-not-there c = rw (not-true c.args.there c.if-not-there.true)
+returns-then-not-there c = rw (c.if-not-there.true)
 
 pub returns : goal.returns
-returns c = rw (not-false c.args.there c.if-not-there.false) c.inside.ensures
+returns c = rw (c.if-not-there.false) c.inside.ensures

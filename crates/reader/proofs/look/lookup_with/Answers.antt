@@ -18,14 +18,14 @@ returns-then-not-record_good c = let a = c.args in
     let f = a.file.now in
     let key = id_at a.key.now 0 in
     let rooms = lent (length a.out.now) (length a.logs.now) (length a.marks.now) in
-    rw c.refused.ensures (whole_refused _ _ a.out.now a.logs.now a.marks.now (with_bad true rooms key f a.o (sym c.record_good.ensures ∙ not-true _ c.if-not-record_good.true)))
+    rw c.refused.ensures (whole_refused _ _ a.out.now a.logs.now a.marks.now (with_bad true rooms key f a.o (sym c.record_good.ensures ∙ c.if-not-record_good.true)))
 
 pub edges_of_key-requires : goal.edges_of_key-requires
-edges_of_key-requires c = let a = c.args in holds a.file.now a.o (sym c.record_good.ensures ∙ not-false _ c.if-not-record_good.false)
+edges_of_key-requires c = let a = c.args in holds a.file.now a.o (sym c.record_good.ensures ∙ c.if-not-record_good.false)
 
 pub returns : goal.returns
 returns c = let a = c.args in
     let f = a.file.now in
     let key = id_at a.key.now 0 in
     let rooms = lent (length a.out.now) (length a.logs.now) (length a.marks.now) in
-    whole_as (with_good true rooms key f a.o (sym c.record_good.ensures ∙ not-false _ c.if-not-record_good.false) ∙ ap (look_in true rooms (known_of f a.o)) (sym (key_number a.key.now _ c.id_at.ensures))) c.edges_of_key.ensures
+    whole_as (with_good true rooms key f a.o (sym c.record_good.ensures ∙ c.if-not-record_good.false) ∙ ap (look_in true rooms (known_of f a.o)) (sym (key_number a.key.now _ c.id_at.ensures))) c.edges_of_key.ensures

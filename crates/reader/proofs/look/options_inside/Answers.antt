@@ -5,7 +5,7 @@ use borrow.Author.Rules.{rules}
 use Rattle.reader.proofs.look.options_inside.Goals as goal
 
 pub returns-then-not-inside_if : goal.returns-then-not-inside_if
-returns-then-not-inside_if c = rw (sym c.inside_if.ensures ∙ not-true _ c.if-not-inside_if.true)
+returns-then-not-inside_if c = rw (sym c.inside_if.ensures ∙ c.if-not-inside_if.true)
 
 pub returns : goal.returns
-returns c = rw (sym c.inside_if.ensures ∙ not-false _ c.if-not-inside_if.false) c.inside_if-2.ensures
+returns c = rw (sym c.inside_if.ensures ∙ c.if-not-inside_if.false) c.inside_if-2.ensures

@@ -18,14 +18,14 @@ returns-then-not-record_good c = let a = c.args in
     let f = a.file.now in
     let key = id_at a.key.now 0 in
     let rooms = alone (length a.out.now) in
-    rw c.refused.ensures (alone_refused _ _ a.out.now (with_bad false rooms key f a.o (sym c.record_good.ensures ∙ not-true _ c.if-not-record_good.true)))
+    rw c.refused.ensures (alone_refused _ _ a.out.now (with_bad false rooms key f a.o (sym c.record_good.ensures ∙ c.if-not-record_good.true)))
 
 pub partners_of-requires : goal.partners_of-requires
-partners_of-requires c = let a = c.args in holds a.file.now a.o (sym c.record_good.ensures ∙ not-false _ c.if-not-record_good.false)
+partners_of-requires c = let a = c.args in holds a.file.now a.o (sym c.record_good.ensures ∙ c.if-not-record_good.false)
 
 pub returns : goal.returns
 returns c = let a = c.args in
     let f = a.file.now in
     let key = id_at a.key.now 0 in
     let rooms = alone (length a.out.now) in
-    alone_as (with_good false rooms key f a.o (sym c.record_good.ensures ∙ not-false _ c.if-not-record_good.false) ∙ ap (look_in false rooms (known_of f a.o)) (sym (key_number a.key.now _ c.id_at.ensures))) c.partners_of.ensures
+    alone_as (with_good false rooms key f a.o (sym c.record_good.ensures ∙ c.if-not-record_good.false) ∙ ap (look_in false rooms (known_of f a.o)) (sym (key_number a.key.now _ c.id_at.ensures))) c.partners_of.ensures

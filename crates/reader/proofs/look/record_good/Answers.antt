@@ -57,34 +57,34 @@ returns-then-size-gt-BYTES c = let a = c.args in sym (large a.size a.o (omega ar
 pub returns-then-not-inside : goal.returns-then-not-inside
 returns-then-not-inside c =
     let a = c.args in
-    sym (no_keys a.size a.o (omega (arith, c.if-size-gt-BYTES.false)) (sym c.inside.ensures ∙ not-true _ c.if-not-inside.true))
+    sym (no_keys a.size a.o (omega (arith, c.if-size-gt-BYTES.false)) (sym c.inside.ensures ∙ c.if-not-inside.true))
 
 pub returns-then-not-inside-2 : goal.returns-then-not-inside-2
 returns-then-not-inside-2 c =
     let a = c.args in
-    sym (no_offsets a.size a.o (omega (arith, c.if-size-gt-BYTES.false)) (sym c.inside.ensures ∙ not-false _ c.if-not-inside.false) (sym c.inside-2.ensures ∙ not-true _ c.if-not-inside-2.true))
+    sym (no_offsets a.size a.o (omega (arith, c.if-size-gt-BYTES.false)) (sym c.inside.ensures ∙ c.if-not-inside.false) (sym c.inside-2.ensures ∙ c.if-not-inside-2.true))
 
 pub returns-then-not-inside-3 : goal.returns-then-not-inside-3
 returns-then-not-inside-3 c =
     let a = c.args in
-    sym (no_partners a.size a.o (omega (arith, c.if-size-gt-BYTES.false)) (sym c.inside.ensures ∙ not-false _ c.if-not-inside.false) (sym c.inside-2.ensures ∙ not-false _ c.if-not-inside-2.false) (sym c.inside-3.ensures ∙ not-true _ c.if-not-inside-3.true))
+    sym (no_partners a.size a.o (omega (arith, c.if-size-gt-BYTES.false)) (sym c.inside.ensures ∙ c.if-not-inside.false) (sym c.inside-2.ensures ∙ c.if-not-inside-2.false) (sym c.inside-3.ensures ∙ c.if-not-inside-3.true))
 
 pub returns-then-not-inside-4 : goal.returns-then-not-inside-4
 returns-then-not-inside-4 c =
     let a = c.args in
-    sym (no_logs a.size a.o (omega (arith, c.if-size-gt-BYTES.false)) (sym c.inside.ensures ∙ not-false _ c.if-not-inside.false) (sym c.inside-2.ensures ∙ not-false _ c.if-not-inside-2.false) (sym c.inside-3.ensures ∙ not-false _ c.if-not-inside-3.false) (sym c.inside-4.ensures ∙ not-true _ c.if-not-inside-4.true))
+    sym (no_logs a.size a.o (omega (arith, c.if-size-gt-BYTES.false)) (sym c.inside.ensures ∙ c.if-not-inside.false) (sym c.inside-2.ensures ∙ c.if-not-inside-2.false) (sym c.inside-3.ensures ∙ c.if-not-inside-3.false) (sym c.inside-4.ensures ∙ c.if-not-inside-4.true))
 
 pub returns-then-not-options_inside : goal.returns-then-not-options_inside
 returns-then-not-options_inside c =
     let a = c.args in
-    sym (no_options a.size a.o (omega (arith, c.if-size-gt-BYTES.false)) (sym c.inside.ensures ∙ not-false _ c.if-not-inside.false) (sym c.inside-2.ensures ∙ not-false _ c.if-not-inside-2.false) (sym c.inside-3.ensures ∙ not-false _ c.if-not-inside-3.false) (sym c.inside-4.ensures ∙ not-false _ c.if-not-inside-4.false) (sym c.options_inside.ensures ∙ not-true _ c.if-not-options_inside.true))
+    sym (no_options a.size a.o (omega (arith, c.if-size-gt-BYTES.false)) (sym c.inside.ensures ∙ c.if-not-inside.false) (sym c.inside-2.ensures ∙ c.if-not-inside-2.false) (sym c.inside-3.ensures ∙ c.if-not-inside-3.false) (sym c.inside-4.ensures ∙ c.if-not-inside-4.false) (sym c.options_inside.ensures ∙ c.if-not-options_inside.true))
 
 pub returns-then-not-width_good : goal.returns-then-not-width_good
 returns-then-not-width_good c =
     let a = c.args in
-    sym (no_width a.size a.o (omega (arith, c.if-size-gt-BYTES.false)) (sym c.inside.ensures ∙ not-false _ c.if-not-inside.false) (sym c.inside-2.ensures ∙ not-false _ c.if-not-inside-2.false) (sym c.inside-3.ensures ∙ not-false _ c.if-not-inside-3.false) (sym c.inside-4.ensures ∙ not-false _ c.if-not-inside-4.false) (sym c.options_inside.ensures ∙ not-false _ c.if-not-options_inside.false) (sym c.width_good.ensures ∙ not-true _ c.if-not-width_good.true))
+    sym (no_width a.size a.o (omega (arith, c.if-size-gt-BYTES.false)) (sym c.inside.ensures ∙ c.if-not-inside.false) (sym c.inside-2.ensures ∙ c.if-not-inside-2.false) (sym c.inside-3.ensures ∙ c.if-not-inside-3.false) (sym c.inside-4.ensures ∙ c.if-not-inside-4.false) (sym c.options_inside.ensures ∙ c.if-not-options_inside.false) (sym c.width_good.ensures ∙ c.if-not-width_good.true))
 
 pub returns : goal.returns
 returns c =
     let a = c.args in
-    c.sizes_good.ensures ∙ sym (last a.size a.o (omega (arith, c.if-size-gt-BYTES.false)) (sym c.inside.ensures ∙ not-false _ c.if-not-inside.false) (sym c.inside-2.ensures ∙ not-false _ c.if-not-inside-2.false) (sym c.inside-3.ensures ∙ not-false _ c.if-not-inside-3.false) (sym c.inside-4.ensures ∙ not-false _ c.if-not-inside-4.false) (sym c.options_inside.ensures ∙ not-false _ c.if-not-options_inside.false) (sym c.width_good.ensures ∙ not-false _ c.if-not-width_good.false))
+    c.sizes_good.ensures ∙ sym (last a.size a.o (omega (arith, c.if-size-gt-BYTES.false)) (sym c.inside.ensures ∙ c.if-not-inside.false) (sym c.inside-2.ensures ∙ c.if-not-inside-2.false) (sym c.inside-3.ensures ∙ c.if-not-inside-3.false) (sym c.inside-4.ensures ∙ c.if-not-inside-4.false) (sym c.options_inside.ensures ∙ c.if-not-options_inside.false) (sym c.width_good.ensures ∙ c.if-not-width_good.false))

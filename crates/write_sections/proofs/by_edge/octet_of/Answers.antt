@@ -10,12 +10,7 @@ use Rattle.write_image.specs.Image.{bit, octet}
 use Rattle.write_image.specs.Image.Laws.{mark_here, octet_none, octet_byte}
 use Rattle.write_source.specs.Source.{source_edges}
 use Rattle.write_sections.proofs.by_edge.octet_of.Goals as goal
-
--- the marks from edge k on
-record Head (es : List Edge) (i j k x : ℕ) : Type 0 where
-  above : i ≤ k
-  upto : k ≤ j
-  marks : x ≡ octet (j - k) (marks_in (drop k es))
+use Rattle.write_sections.proofs.by_edge.octet_of.Invariants.{Head}
 
 module _ (es : List Edge) (i j k x : ℕ) (h : Head es i j k x) where
   byte : j ≤ i + 8 → x < 2 ^ 8

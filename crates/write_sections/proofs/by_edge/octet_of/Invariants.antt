@@ -11,6 +11,12 @@ use Rattle.write_image.specs.Image.Laws.{mark_here, octet_none, octet_byte}
 use Rattle.write_source.specs.Source.{source_edges}
 use Rattle.write_sections.proofs.by_edge.octet_of.Given as goal
 
+-- the marks from edge k on
+pub record Head (es : List Edge) (i j k x : ℕ) : Type 0 where
+  pub above : i ≤ k
+  pub upto : k ≤ j
+  pub marks : x ≡ octet (j - k) (marks_in (drop k es))
+
 abbrev pub invariant-loop-k : goal.invariant-loop-k
 invariant-loop-k l = Head (source_edges l.kind l.a l.b) l.i l.j l.k l.x
 

@@ -15,10 +15,7 @@ use Rattle.write_image.specs.Image.{log_bytes}
 use Rattle.write_image.specs.Image.Laws.{logs_on, logs_out}
 use Rattle.write_source.specs.Source.{source_edges}
 use Rattle.write_sections.proofs.by_edge.put_logs.Goals as goal
-
-record Head (es : List Edge) (i j : ℕ) (o : List ℕ) (at : ℕ) (out : List ℕ) (k to : ℕ) : Type 0 where
-  upto : k ≤ j
-  left : Left out to (log_bytes (part es k j)) o at (log_bytes (part es i j))
+use Rattle.write_sections.proofs.by_edge.put_logs.Invariants.{Head}
 
 module _ (es : List Edge) (i j : ℕ) (o : List ℕ) (at : ℕ) (out : List ℕ) (k to : ℕ) (h : Head es i j o at out k to) where
   module _ (lt : k < j) (le : j ≤ length es) (x : ℕ) (e : x ≡ (get_or es k none).log) where

@@ -16,6 +16,10 @@ use Rattle.write_image.specs.Image.Laws.{logs_on, logs_out}
 use Rattle.write_source.specs.Source.{source_edges}
 use Rattle.write_sections.proofs.by_edge.put_logs.Given as goal
 
+pub record Head (es : List Edge) (i j : ℕ) (o : List ℕ) (at : ℕ) (out : List ℕ) (k to : ℕ) : Type 0 where
+  pub upto : k ≤ j
+  pub left : Left out to (log_bytes (part es k j)) o at (log_bytes (part es i j))
+
 abbrev pub invariant-loop-k : goal.invariant-loop-k
 invariant-loop-k l = Head (source_edges l.kind l.a l.b) l.i l.j l.initial.out l.at l.out l.k l.to
 

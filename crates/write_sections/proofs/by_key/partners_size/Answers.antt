@@ -15,13 +15,7 @@ use Rattle.write_image.specs.Image.Laws.{partners_step, partners_end, any_step, 
 use Rattle.write_source.specs.Source.{source_edges}
 use Rattle.write_group.specs.Span.{span_few, span_dense, span_size}
 use Rattle.write_sections.proofs.by_key.partners_size.Goals as goal
-
-record Head (es : List Edge) (n keys i bytes : ℕ) (dense : Bool) : Type 0 where
-  upto : i ≤ n
-  rest : Grouped 0 (groups_of (drop i es))
-  sum : bytes + length (partner_bytes keys (groups_of (drop i es))) ≡ length (partner_bytes keys (groups_of es))
-  some : (dense || any_dense keys (groups_of (drop i es))) ≡ any_dense keys (groups_of es)
-  most : bytes ≤ 29 * i
+use Rattle.write_sections.proofs.by_key.partners_size.Invariants.{Head}
 
 or_assoc : (x y z : Bool) → ((x || y) || z) ≡ (x || (y || z))
 or_assoc true y z = refl

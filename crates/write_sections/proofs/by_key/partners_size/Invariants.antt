@@ -16,6 +16,13 @@ use Rattle.write_source.specs.Source.{source_edges}
 use Rattle.write_group.specs.Span.{span_few, span_dense, span_size}
 use Rattle.write_sections.proofs.by_key.partners_size.Given as goal
 
+pub record Head (es : List Edge) (n keys i bytes : ℕ) (dense : Bool) : Type 0 where
+  pub upto : i ≤ n
+  pub rest : Grouped 0 (groups_of (drop i es))
+  pub sum : bytes + length (partner_bytes keys (groups_of (drop i es))) ≡ length (partner_bytes keys (groups_of es))
+  pub some : (dense || any_dense keys (groups_of (drop i es))) ≡ any_dense keys (groups_of es)
+  pub most : bytes ≤ 29 * i
+
 abbrev pub invariant-loop-i : goal.invariant-loop-i
 invariant-loop-i l = Head (source_edges l.kind l.a l.b) l.n l.keys l.i l.bytes l.dense
 

@@ -14,10 +14,7 @@ use Rattle.write_image.specs.Image.{numbers, firsts_from, start_bytes}
 use Rattle.write_image.specs.Image.Laws.{firsts_step, firsts_end}
 use Rattle.write_source.specs.Source.{source_edges}
 use Rattle.write_sections.proofs.starts.put_starts.Goals as goal
-
-record Head (es : List Edge) (o : List ℕ) (at : ℕ) (out : List ℕ) (i to : ℕ) : Type 0 where
-  upto : i ≤ length es
-  left : Left out to (numbers 8 (firsts_from i (groups_of (drop i es)))) o at (start_bytes (groups_of es))
+use Rattle.write_sections.proofs.starts.put_starts.Invariants.{Head}
 
 -- x is written in 8 bytes
 eight : {o o₁ : List ℕ} {to : ℕ} (x : ℕ) → o₁ ≡ sets o to (le_bytes 8 x) → Put o o₁ to (to + 8) (le_bytes 8 x)

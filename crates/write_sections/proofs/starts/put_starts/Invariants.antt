@@ -15,6 +15,10 @@ use Rattle.write_image.specs.Image.Laws.{firsts_step, firsts_end}
 use Rattle.write_source.specs.Source.{source_edges}
 use Rattle.write_sections.proofs.starts.put_starts.Given as goal
 
+pub record Head (es : List Edge) (o : List ℕ) (at : ℕ) (out : List ℕ) (i to : ℕ) : Type 0 where
+  pub upto : i ≤ length es
+  pub left : Left out to (numbers 8 (firsts_from i (groups_of (drop i es)))) o at (start_bytes (groups_of es))
+
 abbrev pub invariant-loop-i : goal.invariant-loop-i
 invariant-loop-i l = Head (source_edges l.kind l.a l.b) l.initial.out l.at l.out l.i l.to
 
