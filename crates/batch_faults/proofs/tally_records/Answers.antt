@@ -71,13 +71,13 @@ returns-then-not-is_edge c =
     let a = c.args in
     let l = c.loop-e in
     c.batch_fault.ensures
-    ∙ stop_kind a.s.now a.n l.e l.keys l.dead l.invariant (omega arith) (sym c.is_edge.ensures ∙ not-true _ c.if-not-is_edge.true)
+    ∙ stop_kind a.s.now a.n l.e l.keys l.dead l.invariant (omega arith) (sym c.is_edge.ensures ∙ c.if-not-is_edge.true)
 
 pub returns-in-Wrong : goal.returns-in-Wrong
 returns-in-Wrong c =
     let a = c.args in
     let l = c.loop-e in
-    stop_order a.s.now a.n l.e l.keys l.dead l.invariant (omega arith) (sym c.is_edge.ensures ∙ not-false _ c.if-not-is_edge.false)
+    stop_order a.s.now a.n l.e l.keys l.dead l.invariant (omega arith) (sym c.is_edge.ensures ∙ c.if-not-is_edge.false)
     (sym c.in-Wrong.is ∙ c.follow_at.ensures)
 
 pub overflow_add-keys : goal.overflow_add-keys
@@ -90,7 +90,7 @@ pub loop-e-preserved : goal.loop-e-preserved
 loop-e-preserved c =
     let a = c.args in
     let l = c.loop-e in
-    let k = sym c.is_edge.ensures ∙ not-false _ c.if-not-is_edge.false in
+    let k = sym c.is_edge.ensures ∙ c.if-not-is_edge.false in
     let f = c.follow_at.ensures in
     ⊎_elim
     (λ w. rw w.2 (on_new a.s.now a.n l.e l.keys l.dead l.invariant (omega arith) k _ c.dead_too-dead.ensures (sym w.1.given.1 ∙ f)))
