@@ -20,7 +20,7 @@ use Rattle.write_source.specs.Source.{source_edges}
 use Rattle.write_sections.specs.Three as T
 use Rattle.write_sections.specs.Three.{Three}
 use Rattle.write_sections.proofs.by_key.put_groups.Goals as goal
-use Rattle.write_sections.proofs.by_key.put_groups.Invariants.{all, Head, room, again, {, room_last, done}
+use Rattle.write_sections.proofs.by_key.put_groups.Invariants.{all, Head, room, again, room_last, done}
 
 module _ (es : List Edge) (n keys w : ℕ) (start : List ℕ) (at o base : ℕ) (k : keys ≡ length (groups_of es)) where
   lengths : (length (key_bytes (groups_of es)) ≡ 16 * keys) × (length (offset_bytes w keys 0 (groups_of es)) ≡ (keys + 1) * w)
