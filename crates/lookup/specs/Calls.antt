@@ -141,22 +141,23 @@ module _ (f : List ℕ) (o : Opened) (i : ℕ) where
   abbrev pub group : GroupSeen
   group = group_seen (bytes_at f o.partners) begins ends i
 
+module _ (f : List ℕ) (o : Opened) (i : ℕ) where
   module _ (full : Bool) (rooms : Rooms) (c : ℕ) where
-    pub look_fault : (r : Refusal) → group ≡ GroupSeen.Refused r → look_group full rooms (known_of f o) i c ≡ refused r
+    pub look_fault : (r : Refusal) → (group f o i) ≡ GroupSeen.Refused r → look_group full rooms (known_of f o) i c ≡ refused r
     unfolding look_group look_check known_of
-    look_fault r e = outcome_bad _ (bad_then _ (seen_refusal (bytes_at f o.partners) begins ends i r e))
+    look_fault r e = outcome_bad _ (bad_then _ (seen_refusal (bytes_at f o.partners) (begins f o i) (ends f o i) i r e))
 
-  module _ (d : ℕ) (g : group ≡ GroupSeen.Good d) where
+  module _ (d : ℕ) (g : (group f o i) ≡ GroupSeen.Good d) where
     degree : length (partners_at true (alone 0) (known_of f o) i) ≡ d
     unfolding known_of
-    degree = seen_degree (bytes_at f o.partners) begins ends i d g
+    degree = seen_degree (bytes_at f o.partners) (begins f o i) (ends f o i) i d g
 
     -- partners alone
     module _ (n c : ℕ) where
       alone_check : (t : Bool) → ltb n (16 * d) ≡ t → look_check false (alone n) (known_of f o) i d ≡ refuse (Refusal.Room d) t
       unfolding look_check short known_of
       alone_check t e =
-          fine_then _ (seen_fault (bytes_at f o.partners) begins ends i d g)
+          fine_then _ (seen_fault (bytes_at f o.partners) (begins f o i) (ends f o i) i d g)
           ∙ ap (refuse (Refusal.Room d)) (or_false (ltb n (16 * d)) ∙ e)
         where
           or_false : (b : Bool) → (b || false) ≡ b
@@ -195,7 +196,7 @@ module _ (f : List ℕ) (o : Opened) (i : ℕ) where
           → look_check true rooms (known_of f o) i d ≡ (refuse (Refusal.Degrees i) (not t) ⊳ refuse (Refusal.Room d) u)
       unfolding look_check known_of
       rest t u p q =
-          fine_then _ (seen_fault (bytes_at f o.partners) begins ends i d g)
+          fine_then _ (seen_fault (bytes_at f o.partners) (begins f o i) (ends f o i) i d g)
           ∙ ap₂ (λ (x y : Bool). refuse (Refusal.Degrees i) (not x) ⊳ refuse (Refusal.Room d) y) p q
 
       pub whole_lost : capped o.edgecount sum ≡ Sum.Bad → look_group true rooms (known_of f o) i c ≡ refused (Refusal.Degrees i)
