@@ -2,7 +2,7 @@
 use mathlib.Core.Path.{sym, ap, ◌∙◌}
 use native.Mathlib.Omega.{arith}
 use Rattle.frame.specs.declared.Opened.{Opened}
-use Rattle.frame.specs.Open.Laws.{opens_record}
+use Rattle.frame.proofs.Laws.Open.{opens_record}
 use Rattle.full_check.specs.Checked.{full_unopened}
 use borrow.Author.Rules.{rules}
 use Rattle.printing.proofs.print_file.Goals as goal
