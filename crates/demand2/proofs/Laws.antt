@@ -1,4 +1,4 @@
-pub mod Answers
+pub mod Answered
 pub mod Cases
 pub mod Contents
 pub mod Demand2

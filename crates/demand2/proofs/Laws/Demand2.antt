@@ -34,7 +34,7 @@ use Rattle.reader.proofs.Laws.Look.{of_good, with_record}
 use Rattle.demand2.specs.File.{WrittenFile}
 use Rattle.demand2.proofs.Laws.File.{minor_is, flags_is, file_opens, known_keys, known_indexed, passes, edges_again, batch_back}
 use Rattle.demand2.specs.Answers.{outcome_for, PlaceTold}
-use Rattle.demand2.proofs.Laws.Answers.{look_placed, outcome_is}
+use Rattle.demand2.proofs.Laws.Answered.{look_placed, outcome_is}
 use Rattle.demand2.specs.Demand2.{file_for, flags_for, minor_for, Lawful, Demand2}
 
 -- whatever bytes the batch's check takes within the bounds are lawful
