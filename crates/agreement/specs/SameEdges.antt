@@ -1,54 +1,21 @@
 -- Whenever the full check passes, both users see the same edges: for every key, the lookup with enough room gives exactly
 -- the read-out's edges of that key, in order, with log numbers and dead marks, and absence exactly if it has none.
-use Rattle.std.specs.Prelude.{◌≡◌, Bool, eqb, ltb}
-use Rattle.std.proofs.Math.Path.{refl, sym, ap, ap₂}
-use Rattle.std.proofs.Common.{◌∙◌, add-one, eq-eqb, ne_eqb, ltb-false}
-use Prim.Native.Nat.{ℕ, zero, suc, ◌+◌, ◌-◌, ◌*◌, ◌/◌, ◌%◌, ◌≤◌, ◌<◌}
-use Rattle.std.proofs.Math.Nat.{add-zero, zero-add, sub-zero}
-use native.Mathlib.Omega.{arith}
-use Rattle.std.proofs.Math.Decide.{ℕ_discrete}
-use mathlib.Core.List.{List, [], ◌∷◌, ◌++◌, append-nil}
+use Rattle.std.specs.Prelude.{◌≡◌, Bool, eqb}
+use Prim.Native.Nat.{ℕ, ◌*◌, ◌≤◌}
+use mathlib.Core.List.{List, [], ◌∷◌}
 use Rattle.std.proofs.Math.Bool.{true, false}
 use Rattle.std.proofs.Math.ListN.{length}
 use Rattle.batch.specs.Batch.{partners_in, logs_in}
 use Rattle.base.specs.Pick.{pick}
-use Rattle.base.specs.Over.{part}
 use Rattle.codes.specs.declared.ids.Id.{Id}
-use Rattle.codes.specs.declared.varint.Varint.{Varint}
-use Rattle.codes.specs.Ids.{id_number, halves_at}
-use Rattle.codes.specs.Ids.Laws.{number_halves}
-use Rattle.refusal.specs.declared.Refusal.{Refusal}
-use Rattle.refusal.specs.declared.Check.{Check}
-use Rattle.refusal.specs.Check.{refuse}
-use Rattle.refusal.proofs.Laws.Check.{fine_parts, either_parts}
+use Rattle.codes.specs.Ids.{id_number}
 use Rattle.frame.specs.declared.Range.{Range}
 use Rattle.frame.specs.declared.Opened.{Opened}
-use Rattle.frame.specs.declared.Opening.{Opening}
 use Rattle.frame.specs.Frame.{record_of}
-use Rattle.frame.specs.Open.{known_of, bytes_at, key_at, offset_at, open_of}
-use Rattle.index.specs.declared.keys.Found.{Found}
-use Rattle.index.specs.Find.{find_in}
-use Rattle.index.specs.Find.Laws.{find_sound, find_absent}
-use Rattle.index.specs.Order.{KeysRise, key_once, OffsetsRise}
-use Rattle.degrees.specs.declared.Degree.{Degree}
-use Rattle.degrees.specs.declared.Sum.{Sum}
-use Rattle.degrees.specs.Degrees.{group_at, degree_at, edges_before, start_of, plus, capped}
-use Rattle.degrees.specs.Degrees.Laws.{in_is, degree_is, capped_is, start_is}
-use Rattle.codes.specs.Varint.{varint_at}
-use Rattle.group.specs.Group.{degree_of, group_of, is_good, partners_of}
-use Rattle.group.proofs.Laws.Group.{good_is}
-use Rattle.group.specs.Good as group
-use Rattle.lookup.specs.declared.groups.GroupSeen.{GroupSeen}
-use Rattle.lookup.specs.Lookup.{Outcome, found, absent, refused, Rooms, group_check, before, logs_from, marks_from, short, look_in, look_with, look_of}
-use Rattle.lookup.proofs.Laws.Groups.{check_good, good_seen}
-use Rattle.lookup.specs.Calls as calls
-use Rattle.reader.proofs.Laws.Opened.{opened_keys, opened_offsets}
-use Rattle.reader.proofs.Laws.Look.{of_good, with_record}
+use Rattle.frame.specs.Open.{known_of}
+use Rattle.lookup.specs.Lookup.{Outcome, found, absent, refused, Rooms}
 use Rattle.batch.specs.declared.Edge.{Edge}
-use Rattle.full_check.specs.Full.{group_in, groups_from, degrees_from, full_check, checked_of}
-use Rattle.full_check.specs.Checked.{checked_opened, fine_checked}
-use Rattle.readout.specs.Edges.{edge_of, edges_from, key_degree, key_edges, read_from, edges_in}
-use Rattle.readout.specs.ReadOut.Laws.{checked_edges, checked_starts}
+use Rattle.readout.specs.Edges.{edges_in}
 
 -- ---- the words of the statement
 

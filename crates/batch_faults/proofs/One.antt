@@ -1,5 +1,5 @@
 -- The public contract leaves one result.
-use mathlib.Core.Path.{◌≡◌, refl, sym, ◌∙◌}
+use mathlib.Core.Path.{refl, sym, ◌∙◌}
 use Rattle.base.proofs.Determined.{Determined}
 use Rattle.batch_faults.specs.contracts.check_batch as check_batch
 use Rattle.batch_faults.proofs.check_batch.Reads as check_batch_reads

@@ -1,5 +1,5 @@
 -- What is read as a number, an id or a varint is what is written for it: bytes that were read can be put back.
-use Rattle.std.specs.Prelude.{◌≡◌, refl, ℕ, zero, suc, ◌+◌, ◌-◌, ◌*◌, ◌/◌, ◌%◌, ◌^◌, ◌≤◌, ◌<◌, List, ◌∷◌, ◌++◌, length, get_or, take, drop}
+use Rattle.std.specs.Prelude.{◌≡◌, ℕ, zero, suc, ◌+◌, ◌-◌, ◌*◌, ◌/◌, ◌%◌, ◌≤◌, List, ◌∷◌, ◌++◌, length, get_or, take, drop}
 use Rattle.std.proofs.Common.{sym, ap, ap₂, ◌∙◌, add-zero, add-one, arith, append_assoc, take-append-drop, drop-cons, drop-drop, take_at}
 use Rattle.std.proofs.Math.Seq.{append_snoc}
 use Rattle.std.proofs.Math.Arith.{digits_div, digits_mod}

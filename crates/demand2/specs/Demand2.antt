@@ -1,38 +1,23 @@
 -- Demand 2: "For each well-formed batch within the limits, given room, the file we write passes the full check, reads out to
 -- that same batch, and a lookup of any key gives exactly its written partners, in order, with log numbers and dead marks, or
 -- absence."
-use Rattle.std.specs.Prelude.{◌≡◌, refl, ℕ, ◌*◌, ◌^◌, ◌≤◌, List, Bool, true, false, ◌&&◌, length, get_or, ltb, leb, eqb}
-use Rattle.std.proofs.Math.Path.{ap}
-use Rattle.std.proofs.Common.{◌∙◌, arith, leb-true}
+use Rattle.std.specs.Prelude.{◌≡◌, ℕ, ◌*◌, ◌^◌, ◌≤◌, List, true, false, length, ltb}
 use Rattle.base.specs.Pick.{pick}
-use Rattle.base.specs.Over.{length_part}
 use Rattle.base.specs.Bytes.{Bytes}
-use Rattle.refusal.specs.declared.Refusal.{Refusal}
 use Rattle.refusal.specs.declared.Check.{Check}
-use Rattle.refusal.proofs.Laws.Check.{and_parts, pick_fine}
-use Rattle.frame.specs.declared.Opening.{Opening}
-use Rattle.frame.specs.Frame.{header_in, record_of}
-use Rattle.frame.specs.Open.{known_of, open_of}
+use Rattle.frame.specs.Frame.{record_of}
 use Rattle.lookup.specs.Lookup.{Rooms, look_of, look_with}
 use Rattle.lookup.specs.Calls.{alone}
-use Rattle.batch.specs.Batch.{heading_of, edges_of, record_count, fault_from, headed, batch_check}
+use Rattle.batch.specs.Batch.{heading_of, edges_of, batch_check}
 use Rattle.batch_groups.specs.Groups.{any_dead, groups_of}
-use Rattle.batch_groups.proofs.Laws.Groups.{grouped}
-use Rattle.batch_groups.proofs.Laws.Order.{batch_ordered, fine_long}
-use Rattle.batch_groups.proofs.Laws.Back.{batch_same}
-use Rattle.write_image.specs.Image.{any_dense, bit, flags_by, file_of}
+use Rattle.write_image.specs.Image.{any_dense, flags_by, file_of}
 use Rattle.full_check.specs.Full.{full_check}
 use Rattle.readout.specs.ReadOut.{batch_in}
-use Rattle.agreement.specs.SameEdges.{of_key, Says, Enough, edges_of_file}
-use Rattle.agreement.proofs.Laws.SameEdges.{same_edges, same_partners}
+use Rattle.agreement.specs.SameEdges.{of_key, Says, Enough}
 use Rattle.agreement.specs.Heading.{header_for}
-use Rattle.agreement.proofs.Laws.Heading.{same_heading}
 use Rattle.reader.specs.declared.header.HeaderRead.{HeaderRead}
 use Rattle.reader.specs.Header.{header_of}
-use Rattle.reader.proofs.Laws.Header.{header_good}
-use Rattle.reader.proofs.Laws.Look.{of_good, with_record}
-use Rattle.demand2.specs.File.{WrittenFile}
-use Rattle.demand2.specs.Answers.{outcome_for, PlaceTold}
+use Rattle.demand2.specs.Answers.{outcome_for}
 
 -- the file of a batch
 abbrev pub file_for : List ℕ → List ℕ

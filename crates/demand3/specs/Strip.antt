@@ -1,32 +1,14 @@
 -- The stripped copy itself: laid out without gaps, the sections' sums as they were stored. It is a copy as Stripped says.
-use Rattle.std.specs.Prelude.{◌≡◌, Bool, true, false, length, take, drop, set, leb}
-use Rattle.std.proofs.Math.Path.{refl, sym, ap}
-use Rattle.std.proofs.Common.{ap₂, ◌∙◌, inl, length-append, length-set, length-take, length-take-le}
-use Prim.Native.Nat.{ℕ, zero, suc, ◌+◌, ◌-◌, ◌*◌, ◌^◌, ◌≤◌, ◌<◌}
-use native.Mathlib.Omega.{arith}
-use mathlib.Core.List.{List, [], ◌∷◌, ◌++◌, append_assoc}
-use Rattle.std.proofs.Math.ListN.{get_or}
-use Rattle.std.proofs.Math.Seq.{get_or-take, get_or-set_same, get_or-set_other}
-use borrow.Author.Tests.{leb-true}
+use Rattle.std.specs.Prelude.{length, take, set}
+use Prim.Native.Nat.{ℕ, ◌+◌, ◌^◌, ◌≤◌, ◌<◌}
+use mathlib.Core.List.{List, [], ◌∷◌}
 use Rattle.base.specs.Pick.{pick}
-use Rattle.base.specs.Over.{part, length_part}
-use Rattle.base.specs.Bytes.{Bytes, bytes_part}
-use Rattle.codes.specs.Little.{le_at, le_bytes}
-use Rattle.codes.specs.Little.Laws.{le_at_lt}
-use Rattle.xxh3_spec.specs.Xxh3.{xxh3}
-use Rattle.refusal.specs.declared.Refusal.{Refusal}
-use Rattle.refusal.specs.declared.Check.{Check}
-use Rattle.refusal.proofs.Laws.Check.{pick_fine, and_parts}
+use Rattle.base.specs.Over.{part}
 use Rattle.frame.specs.declared.Row.{Row}
-use Rattle.frame.specs.Frame.{row_at, next_at, rows_from, end_from, rows_of, end_of, entry_count, key_count, edge_count, bits_of, range_good, ranges, foot_len, body_of}
+use Rattle.frame.specs.Frame.{rows_of, key_count, edge_count, bits_of, body_of}
 use Rattle.frame.specs.Kind as kind
-use Rattle.frame.proofs.Laws.Frame.{length_rows, end_room, ranges_parts, ranges_made}
-use Rattle.frame.proofs.Laws.Open.{size_parts, tail_parts}
-use Rattle.frame.specs.Layout.{Section, Layout, payload, entry, entries, body_bytes, trailer, lay_out}
-use Rattle.laid_out.specs.Rows.{rows_in, SectionsFit, Small}
-use Rattle.laid_out.proofs.Laws.Rows.{length_entry, past_first, length_first, name_back, length_body, body_end, keys_back, edges_back, bits_back}
-use Rattle.laid_out.proofs.Laws.Laid.{length_laid, sum_back, magic_back, body_back, size_fine, tail_fine, file_rows, ranges_fine, head_back, bytes_first}
-use Rattle.demand3.specs.Stripped.{Kept, Copied, none, dropped, kept, Outer, copy_minor, Stripped, Later}
+use Rattle.frame.specs.Layout.{Section, Layout, lay_out}
+use Rattle.demand3.specs.Stripped.{copy_minor}
 
 -- an entry of b with its name, and its bytes in f
 unfoldable pub section_at : List ℕ → List ℕ → Row → Section

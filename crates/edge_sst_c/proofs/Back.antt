@@ -1,5 +1,5 @@
 -- The opened record lent back, and the rows: over the contracts of the calls.
-use mathlib.Core.Path.{◌≡◌, refl}
+use mathlib.Core.Path.{◌≡◌}
 use Prim.Native.Nat.{ℕ, ◌*◌, ◌<◌}
 use lib.ListN.{drop}
 use Rattle.listing.specs.List.{row_is}

@@ -1,38 +1,18 @@
 -- What the calls for C tell, read back by the words of include/edge_sst.h: the library's answers, and the record of
 -- `edge_sst_open` where it is lent to a lookup.
-use Rattle.std.specs.Prelude.{◌≡◌, refl, ℕ, ◌+◌, ◌-◌, ◌^◌, ◌≤◌, ◌<◌, List, [], ◌∷◌, Bool, true, false, length, take, drop, replicate, ltb, eqb}
-use Rattle.std.proofs.Common.{sym, ap, ◌∙◌, arith, append-nil, lt-ltb}
-use Rattle.base.specs.Bytes.{Bytes}
+use Rattle.std.specs.Prelude.{◌≡◌, ℕ, ◌≤◌, List, [], ◌∷◌, replicate, ltb, eqb}
 use Rattle.base.specs.Pick.{pick}
-use Rattle.base.specs.Over.{part}
-use Rattle.codes.specs.declared.ids.Id.{Id}
-use Rattle.codes.specs.Ids.{be_at, id_at, halves_at, id_bytes}
-use Rattle.codes.specs.Ids.Laws.{be_at_lt, halves_is, halves_back}
-use Rattle.codes.specs.Stood.{id_same}
+use Rattle.codes.specs.Ids.{halves_at}
 use Rattle.refusal.specs.declared.Refusal.{Refusal}
 use Rattle.refusal.specs.declared.Check.{Check}
-use Rattle.refusal.specs.Refusal.{number_of, place_of, beside_of, refusal_told}
-use Rattle.refusal.proofs.Laws.Refusal.{number_some, told_back}
+use Rattle.refusal.specs.Refusal.{refusal_told}
 use Rattle.frame.specs.declared.Opened.{Opened}
 use Rattle.frame.specs.declared.Opening.{Opening}
-use Rattle.frame.specs.Open.{open_of, record_good}
 use Rattle.lookup.specs.declared.Looked.{Looked}
-use Rattle.lookup.proofs.Laws.Record.{holds}
-use Rattle.lookup.specs.Lookup.{Outcome, Rooms, refused, look_with, look_of, looked_of, partners_left, logs_left, marks_left}
-use Rattle.lookup.specs.Calls.{alone, lent}
-use Rattle.frame.specs.declared.ends.Header.{Header}
 use Rattle.reader.specs.declared.header.HeaderRead.{HeaderRead}
-use Rattle.reader.specs.Header.{header_of}
-use Rattle.reader.proofs.Laws.Header.{header_long, header_ids}
-use Rattle.reader.proofs.Laws.Look.{with_bad, with_record, opened_holds}
 use Rattle.readout.specs.declared.ReadOut.{ReadOut}
-use Rattle.full_check.specs.Full.{full_check}
 use Rattle.summary.specs.declared.figures.Extremes.{Extremes}
 use Rattle.summary.specs.declared.Summarised.{Summarised}
-use Rattle.summary.specs.declared.figures.Summary.{Summary}
-use Rattle.summary.specs.Summary.{nothing, summarised_of}
-use Rattle.summary.specs.Promise.{EndsThere, ExtremesFit}
-use Rattle.summary.proofs.Laws.Promise.{summary_refuses, summary_there, summary_fits}
 use Rattle.write_file.specs.declared.Written.{Written}
 use Rattle.listing.specs.declared.Listed.{Listed}
 use Rattle.edge_sst_c.specs.declared.EdgeSstOpened.{EdgeSstOpened}
@@ -43,13 +23,8 @@ use Rattle.edge_sst_c.specs.declared.desk.EdgeSstDone.{EdgeSstDone}
 use Rattle.edge_sst_c.specs.declared.section_list.EdgeSstListed.{EdgeSstListed}
 use Rattle.edge_sst_c.specs.declared.figures.ExtremesTold.{ExtremesTold}
 use Rattle.edge_sst_c.specs.declared.figures.EdgeSstSummary.{EdgeSstSummary}
-use Rattle.edge_sst_c.specs.Summary.{none_told, extremes_told, figures_told, summary_told}
-use Rattle.edge_sst_c.specs.Told.{truth, record_with, refusal_with, opened_told}
-use Rattle.edge_sst_c.specs.Header.{header_told}
-use Rattle.edge_sst_c.specs.Look.{looked_told, record_lent, PartnersTold, EdgesTold}
-use Rattle.edge_sst_c.specs.Desk.{check_told, read_told}
-use Rattle.edge_sst_c.specs.Write.{written_told}
-use Rattle.edge_sst_c.specs.SectionList.{listed_told}
+use Rattle.edge_sst_c.specs.Told.{refusal_with}
+use Rattle.edge_sst_c.specs.Look.{record_lent}
 
 -- ---- the answers
 

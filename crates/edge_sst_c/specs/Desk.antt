@@ -1,7 +1,4 @@
 -- What the release desk's C calls tell of the library's answers.
-use Rattle.std.specs.Prelude.{◌≡◌, ℕ}
-use Rattle.std.proofs.Common.{sym, ap, ◌∙◌}
-use Rattle.refusal.specs.declared.Refusal.{Refusal}
 use Rattle.refusal.specs.declared.Check.{Check}
 use Rattle.refusal.specs.Refusal.{number_of, place_of, beside_of}
 use Rattle.readout.specs.declared.ReadOut.{ReadOut}

@@ -1,12 +1,6 @@
 -- What the header's call for C tells of the library's answer.
-use Rattle.std.specs.Prelude.{◌≡◌, ℕ, List, ◌++◌, drop, replicate}
-use Rattle.std.proofs.Common.{ap, ◌∙◌, arith, append-nil}
-use Rattle.std.proofs.lemmas.List.Edits.{sets}
-use Rattle.base.specs.Over.{sets_over}
-use Rattle.codes.specs.declared.ids.Id.{Id}
+use Rattle.std.specs.Prelude.{ℕ, replicate}
 use Rattle.codes.specs.Ids.{id_bytes}
-use Rattle.codes.specs.Ids.Laws.{length_id_bytes}
-use Rattle.refusal.specs.declared.Refusal.{Refusal}
 use Rattle.refusal.specs.Refusal.{number_of, place_of, beside_of}
 use Rattle.frame.specs.declared.ends.Header.{Header}
 use Rattle.reader.specs.declared.header.HeaderRead.{HeaderRead}

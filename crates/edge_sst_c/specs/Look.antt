@@ -1,14 +1,12 @@
 -- What the C lookups tell of the library's answers, and which record C lends.
-use Rattle.std.specs.Prelude.{◌≡◌, ℕ, ◌+◌, ◌≤◌, ◌<◌, List, length, get_or, ltb}
-use Rattle.std.proofs.Common.{ap, ◌∙◌, lt-ltb, le-ltb}
+use Rattle.std.specs.Prelude.{◌≡◌, ℕ, ◌+◌, List, length, get_or, ltb}
 use Rattle.base.specs.Pick.{pick}
-use Rattle.refusal.specs.declared.Refusal.{Refusal}
 use Rattle.refusal.specs.Refusal.{number_of, place_of, beside_of}
 use Rattle.frame.specs.declared.Opened.{Opened}
 use Rattle.frame.specs.declared.Range.{Range}
 use Rattle.lookup.specs.declared.Looked.{Looked}
 use Rattle.lookup.specs.Lookup.{Outcome, Rooms, looked_of, partners_left, logs_left, marks_left}
-use Rattle.lookup.specs.Calls.{lent, Alone, Whole}
+use Rattle.lookup.specs.Calls.{lent}
 use Rattle.edge_sst_c.specs.declared.look.EdgeSstLooked.{EdgeSstLooked}
 
 abbrev pub refused_told : ℕ → ℕ → ℕ → EdgeSstLooked

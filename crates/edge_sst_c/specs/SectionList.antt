@@ -1,18 +1,10 @@
 -- What the section list for C tells of the library's answer, and the numbers that it leaves.
-use Rattle.std.specs.Prelude.{◌≡◌, refl, ℕ, zero, suc, ◌+◌, ◌*◌, ◌/◌, ◌≤◌, List, [], ◌∷◌, ◌++◌, length, set}
-use Rattle.std.proofs.Common.{sym, ap, ◌∙◌, zero-add, arith, length-append}
-use Rattle.std.proofs.Math.Numerals.{unary_clauses}
+use Rattle.std.specs.Prelude.{ℕ, zero, suc, ◌*◌, List, [], ◌∷◌, ◌++◌}
 use Rattle.std.proofs.lemmas.List.Edits.{sets}
-use Rattle.std.proofs.Math.Seq.{length-sets}
-use Rattle.base.specs.Over.{over, sets_append, sets_over}
-use Rattle.refusal.specs.declared.Refusal.{Refusal}
 use Rattle.refusal.specs.Refusal.{number_of, place_of, beside_of}
 use Rattle.frame.specs.declared.Row.{Row}
 use Rattle.listing.specs.declared.Listed.{Listed}
-use Rattle.listing.specs.declared.ListPlan.{ListPlan}
-use Rattle.listing.specs.List.{plan_of, row_is}
-use Rattle.listing.proofs.Laws.List.{plan_fits}
-use Rattle.listing.specs.Table.{rows_to}
+use Rattle.listing.specs.List.{row_is}
 use Rattle.edge_sst_c.specs.declared.section_list.EdgeSstListed.{EdgeSstListed}
 
 unfoldable pub listed_told : Listed → EdgeSstListed

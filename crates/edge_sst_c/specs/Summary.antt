@@ -1,7 +1,5 @@
 -- What the summary's call for C tells of the library's answer.
-use Rattle.std.specs.Prelude.{◌≡◌, ℕ, List, replicate}
-use Rattle.std.proofs.Common.{sym, ap, ◌∙◌}
-use Rattle.codes.specs.declared.ids.Id.{Id}
+use Rattle.std.specs.Prelude.{replicate}
 use Rattle.codes.specs.Ids.{id_bytes}
 use Rattle.summary.specs.declared.figures.Extremes.{Extremes}
 use Rattle.summary.specs.declared.figures.Summary.{Summary}

@@ -1,6 +1,5 @@
 -- What the C calls tell of the library's answers.
-use Rattle.std.specs.Prelude.{◌≡◌, ℕ, Bool, true, false}
-use Rattle.refusal.specs.declared.Refusal.{Refusal}
+use Rattle.std.specs.Prelude.{ℕ, Bool, true, false}
 use Rattle.refusal.specs.Refusal.{number_of, place_of, beside_of}
 use Rattle.frame.specs.declared.Opened.{Opened}
 use Rattle.frame.specs.declared.Opening.{Opening}

@@ -1,10 +1,8 @@
 -- What the writer's C calls tell of the library's answers.
 use Rattle.std.specs.Prelude.{◌≡◌, ℕ, List, length}
-use Rattle.std.proofs.Common.{sym, ap, ◌∙◌}
-use Rattle.refusal.specs.declared.Refusal.{Refusal}
 use Rattle.refusal.specs.Refusal.{number_of, place_of, beside_of}
 use Rattle.write_file.specs.declared.Written.{Written}
-use Rattle.write_file.specs.Written.{write_leaves, written_of, file_in, Wrote}
+use Rattle.write_file.specs.Written.{write_leaves, written_of, file_in}
 use Rattle.edge_sst_c.specs.declared.desk.EdgeSstDone.{EdgeSstDone}
 
 unfoldable pub written_told : Written → EdgeSstDone

@@ -1,20 +1,10 @@
 -- Sections of the reserved range: when opening gives 36, exactly, and that no file with such a section opens.
-use Rattle.std.specs.Prelude.{◌≡◌, ◌↔◌, ◌⊎◌, ℕ, zero, suc, ◌+◌, ◌<◌, List, [], ◌∷◌, Bool, true, false, not, length, eqb}
-use Rattle.std.proofs.Math.Path.{refl, sym, ap}
-use Rattle.std.proofs.Common.{subst, ◌∙◌, inl, inr, ⊎_elim, zero-add, arith, ne_eqb}
-use Rattle.std.proofs.Math.Decide.{dec_lt}
-use Rattle.codes.specs.Little.{le_at}
-use Rattle.refusal.specs.declared.Refusal.{Refusal}
+use Rattle.std.specs.Prelude.{◌≡◌, ℕ, zero, suc, ◌<◌, List, [], ◌∷◌, false, length}
 use Rattle.refusal.specs.declared.Check.{Check}
-use Rattle.refusal.specs.Refusal.{number_of}
-use Rattle.refusal.specs.Check.{◌⊳◌}
-use Rattle.refusal.proofs.Laws.Check.{fine_parts, fine_both, bad_then, then_assoc, by_first, by_second, good_parts, good_fine, listed, Numbers, numbers_then, numbers_more, not_given}
 use Rattle.frame.specs.declared.Row.{Row}
 use Rattle.frame.specs.Kind as kind
-use Rattle.frame.specs.Frame.{row_at, next_at, rows_from, end_from, entry_count, rows_of, end_of, body_of, has, repeated, all, name_good, each_row, kind_good, reserved_check, size_check, head_check, tail_check, sum_check}
+use Rattle.frame.specs.Frame.{rows_of, body_of, size_check, head_check, tail_check, sum_check}
 use Rattle.frame.specs.Frame.Laws.{Table, ReservedKind}
-use Rattle.frame.specs.Open.{file_check}
-use Rattle.frame.specs.Given.{head_numbers, foot_numbers, rest_numbers, early_numbers}
 
 -- the kind of entry j; 0 where there is none
 unfoldable pub kind_at : List Row → ℕ → ℕ

@@ -1,5 +1,5 @@
 -- Each contract of the crate leaves one result and one content of lent memory.
-use mathlib.Core.Path.{◌≡◌, refl, sym, ap, ◌∙◌}
+use mathlib.Core.Path.{refl, sym, ◌∙◌}
 use Rattle.base.proofs.Determined.{Determined}
 use Rattle.full_check.specs.contracts.groups.groups_of as groups_of
 use Rattle.full_check.proofs.groups.groups_of.Reads as groups_of_reads

@@ -1,19 +1,11 @@
 -- The two writings of a group, and that a group which was written reads back.
-use Rattle.std.specs.Prelude.{◌≡◌, refl, ℕ, zero, suc, ◌+◌, ◌-◌, ◌*◌, ◌^◌, ◌≤◌, ◌<◌, List, [], ◌∷◌, ◌++◌, Bool, true, false, length, get_or}
-use Rattle.std.proofs.Common.{sym, ap, ◌∙◌, zero-add, arith, append-nil, append_assoc, length-append, le-leb}
-use Rattle.std.proofs.Math.Seq.{append_snoc, get_or-append_seam}
+use Rattle.std.specs.Prelude.{ℕ, suc, ◌-◌, ◌^◌, ◌≤◌, ◌<◌, List, [], ◌∷◌, ◌++◌, Bool, length}
 use Rattle.base.specs.Pick.{pick}
 use Rattle.codes.specs.declared.ids.Id.{Id}
-use Rattle.codes.specs.declared.varint.Varint.TheVariants.{Value}
-use Rattle.codes.specs.Little.{le_at, le_bytes}
-use Rattle.codes.specs.Little.Laws.{le_at_back, length_le_bytes}
+use Rattle.codes.specs.Little.{le_bytes}
 use Rattle.codes.specs.Ids.{id_number, id_bytes}
-use Rattle.codes.specs.Ids.Laws.{length_id_bytes, halves_back}
-use Rattle.codes.specs.Varint.{varint_at, var_bytes}
-use Rattle.codes.specs.Varint.Laws.{read_back}
-use Rattle.group.specs.declared.split.Step.{Step}
-use Rattle.group.specs.Group.{split_tag, dense_tag, Decoded, good, split_step, step_at, cons, walk_from, group_of, bytes_of}
-use Rattle.group.specs.Group.Laws.{tag_of}
+use Rattle.codes.specs.Varint.{var_bytes}
+use Rattle.group.specs.Group.{split_tag, dense_tag, bytes_of}
 
 -- ---- what can be written
 

@@ -1,27 +1,17 @@
 -- What is wrong with a group, in the documents' words: each fault is told exactly where it is the first in reading order.
-use Rattle.std.proofs.Math.Path.{◌≡◌, refl, sym, ap, subst}
-use Rattle.std.proofs.Common.{◌∙◌, inl, inr, zero-add, le-leb, leb-true, leb-false}
-use Rattle.std.specs.Prelude.{◌↔◌, ◌⊎◌, List, Bool, length, get_or, leb}
-use Rattle.std.proofs.Math.Logic.{⊎_elim}
-use Prim.Native.Nat.{ℕ, zero, suc, ◌+◌, ◌-◌, ◌^◌, ◌≤◌, ◌<◌}
-use native.Mathlib.Omega.{arith}
-use Rattle.std.proofs.Math.Decide.{dec_le, dec_lt, ℕ_discrete}
+use Rattle.std.proofs.Math.Path.{◌≡◌}
+use Rattle.std.specs.Prelude.{◌⊎◌, List, Bool, length, get_or}
+use Prim.Native.Nat.{ℕ, zero, suc, ◌+◌, ◌^◌, ◌≤◌, ◌<◌}
 use Rattle.std.proofs.Math.Bool.{true, false}
-use Rattle.std.proofs.lemmas.Bool.{lt-leb}
 use Rattle.codes.specs.declared.ids.Id.{Id}
-use Rattle.codes.specs.declared.varint.Varint.{Varint}
 use Rattle.codes.specs.declared.varint.Varint.TheVariants.{Value}
 use Rattle.codes.specs.declared.varint.Unread.{Unread}
 use Rattle.codes.specs.Ids.{id_number}
 use Rattle.codes.specs.Varint.{varint_at}
-use Rattle.codes.specs.Varint.Laws.{varint_next}
-use Rattle.codes.specs.NoNumber.{NoNumber, no_number}
+use Rattle.codes.specs.NoNumber.{NoNumber}
 use Rattle.group.specs.declared.fault.Flaw.{Flaw}
-use Rattle.group.specs.declared.fault.Fault.{Fault}
-use Rattle.group.specs.declared.head.Head.{Head}
 use Rattle.group.specs.declared.split.Step.{Step}
-use Rattle.group.specs.Fault.{fault_at}
-use Rattle.group.specs.Group.{Decoded, good, bad, dense_size, lower_size, split_tag, dense_tag, split_step, step_at, cons, walk_from, degree_of, head_of, group_of}
+use Rattle.group.specs.Group.{dense_size, lower_size, split_tag, dense_tag, step_at}
 use Rattle.group.specs.Group.Laws.{Headed}
 
 -- ---- what stands before the fault

@@ -1,11 +1,11 @@
 -- Comparing: two numbers, and two ids that were read.
-use Rattle.std.specs.Prelude.{◌≡◌, ℕ, ◌<◌, List, Bool, true, false, eqb}
+use Rattle.std.specs.Prelude.{◌≡◌, ℕ, ◌<◌, List, Bool, eqb}
 use Rattle.std.proofs.Common.{sym, ap, ap₂, ◌∙◌, arith}
 use Rattle.std.proofs.Math.Decide.{dec_lt}
 use Rattle.codes.specs.declared.ids.Order.{Order}
 use Rattle.codes.specs.declared.ids.Id.{Id}
 use Rattle.codes.specs.Ids.{id_at, id_number, halves_at, order}
-use Rattle.codes.specs.Ids.Laws.{equal, number_halves}
+use Rattle.codes.specs.Ids.Laws.{number_halves}
 
 -- a number is below another, equal to it or above it
 pub tri {ℓ} : {X : Type ℓ} (m n : ℕ) → (m < n → X) → (m ≡ n → X) → (n < m → X) → X

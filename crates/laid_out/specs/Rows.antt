@@ -1,21 +1,9 @@
 -- The entries of a table that was laid out, read back.
-use Rattle.std.specs.Prelude.{◌≡◌, Bool, true, false, not, leb}
-use Rattle.std.proofs.Math.Path.{refl, ap, ap₂}
-use Rattle.std.proofs.Common.{sym, ◌∙◌, add-zero, length-append, get_or-append-add, le-leb}
-use Prim.Native.Nat.{ℕ, zero, suc, ◌+◌, ◌-◌, ◌*◌, ◌^◌, ◌≤◌, ◌<◌}
-use native.Mathlib.Omega.{arith}
-use mathlib.Core.List.{List, [], ◌∷◌, ◌++◌, append_assoc}
-use Rattle.std.proofs.Math.ListN.{length, get_or, take}
-use Rattle.std.proofs.Math.Seq.{get_or_at, drop-append-add, take_at}
-use Rattle.base.specs.Over.{part}
-use Rattle.codes.specs.Little.{le_at, le_bytes}
-use Rattle.codes.specs.Little.Laws.{le_at_back, le_at_same, length_le_bytes}
-use Rattle.refusal.specs.declared.Refusal.{Refusal}
-use Rattle.refusal.specs.declared.Check.{Check}
-use Rattle.refusal.proofs.Laws.Check.{fine_pick, and_both}
+use Prim.Native.Nat.{ℕ, ◌+◌, ◌^◌, ◌≤◌, ◌<◌}
+use mathlib.Core.List.{List, [], ◌∷◌}
+use Rattle.std.proofs.Math.ListN.{length}
 use Rattle.frame.specs.declared.Row.{Row}
-use Rattle.frame.specs.Frame.{row_at, rows_from, end_from, rows_of, end_of, entry_count, key_count, edge_count, bits_of, ranges}
-use Rattle.frame.specs.Layout.{Section, payload, entry, entries, body_bytes}
+use Rattle.frame.specs.Layout.{Section}
 
 -- the rows that reading the entries gives: sections from `at` on, entries from i on
 unfoldable pub rows_in : ℕ → ℕ → List Section → List Row

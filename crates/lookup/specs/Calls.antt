@@ -1,28 +1,11 @@
 -- Lookups by their ways out, as the code goes through them: f the file, o the record.
-use Rattle.std.specs.Prelude.{◌≡◌, ℕ, ◌+◌, ◌*◌, ◌/◌, ◌≤◌, ◌<◌, Bool, not, ◌||◌, length, ltb, leb}
-use Rattle.std.proofs.Math.Path.{refl, ap, ap₂}
-use Rattle.std.proofs.Common.{sym, ◌∙◌, arith, true≢false}
-use Rattle.std.proofs.Math.Decide.{dec_le}
-use mathlib.Core.List.{List, []}
-use Rattle.std.proofs.Math.Bool.{true, false}
-use borrow.Author.Tests.{lt-ltb, le-ltb, le-leb, lt-leb}
-use Rattle.base.specs.Pick.{pick}
-use Rattle.base.specs.Over.{over}
-use Rattle.codes.specs.declared.ids.Id.{Id}
-use Rattle.refusal.specs.declared.Refusal.{Refusal}
-use Rattle.refusal.specs.declared.Check.{Check}
-use Rattle.refusal.specs.Check.{◌⊳◌, refuse}
-use Rattle.refusal.proofs.Laws.Check.{bad_then, fine_then}
+use Rattle.std.specs.Prelude.{◌≡◌, ℕ, ◌+◌, ◌/◌, length}
+use mathlib.Core.List.{List}
 use Rattle.frame.specs.declared.Opened.{Opened}
-use Rattle.frame.specs.Open.{Known, known_of, bytes_at, offset_at}
-use Rattle.index.specs.declared.keys.Found.{Found}
-use Rattle.index.specs.Find.{find_in}
-use Rattle.degrees.specs.declared.Sum.{Sum}
-use Rattle.degrees.specs.Degrees.{capped}
-use Rattle.group.specs.Group.{bytes_of}
+use Rattle.frame.specs.Open.{bytes_at, offset_at}
 use Rattle.lookup.specs.declared.Looked.{Looked}
 use Rattle.lookup.specs.declared.groups.GroupSeen.{GroupSeen}
-use Rattle.lookup.specs.Lookup.{Outcome, found, absent, refused, outcome, Rooms, logs_from, marks_from, within, first_of, short, partners_at, before, look_check, look_group, on_found, look_in, looked_of, partners_left, logs_left, marks_left}
+use Rattle.lookup.specs.Lookup.{Outcome, Rooms, looked_of, partners_left, logs_left, marks_left}
 use Rattle.lookup.specs.Groups.{group_seen}
 
 -- partners alone lend n bytes

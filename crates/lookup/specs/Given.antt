@@ -1,27 +1,17 @@
 -- Which refusals a lookup gives after opening, and when it tells a fault of the group, 14 at it or 19, exactly.
-use Rattle.std.proofs.Math.Path.{◌≡◌, refl, ap}
-use Rattle.std.proofs.Common.{◌∙◌, inl, inr, ⊎_elim, arith, ltb-false, lt-ltb, le-ltb}
-use Rattle.std.specs.Prelude.{◌↔◌, ◌⊎◌, List, [], ◌∷◌, Bool, not, ◌&&◌, ◌||◌, ltb}
+use Rattle.std.proofs.Math.Path.{◌≡◌}
+use Rattle.std.specs.Prelude.{◌⊎◌, List, ◌∷◌}
 use Prim.Native.Nat.{ℕ, ◌+◌, ◌/◌, ◌≤◌, ◌<◌}
-use Rattle.std.proofs.Math.Decide.{dec_lt}
 use Rattle.std.proofs.Math.Bool.{true, false}
 use Rattle.std.proofs.Math.ListN.{length}
-use Rattle.std.proofs.lemmas.Bool.{not-true}
 use Rattle.base.specs.Over.{part}
-use Rattle.refusal.specs.declared.Refusal.{Refusal}
-use Rattle.refusal.specs.declared.Check.{Check}
-use Rattle.refusal.specs.Refusal.{number_of}
-use Rattle.refusal.specs.Check.{◌⊳◌, refuse}
-use Rattle.refusal.proofs.Laws.Check.{fine_parts, fine_both, bad_then, fine_then, by_first, by_second, refuse_bad, refuse_fine, refuse_own, either_parts, and_parts, listed, Numbers, numbers_fine, numbers_bad, numbers_refuse, numbers_then, numbers_more, not_given}
 use Rattle.frame.specs.Open.{Known, offset_at}
 use Rattle.index.specs.declared.keys.Found.{Found}
 use Rattle.index.specs.Find.{find_in}
-use Rattle.degrees.specs.Degrees.{misplaced}
-use Rattle.group.specs.Group.{Decoded, good, bad, is_good, group_of, partners_of}
+use Rattle.group.specs.Group.{bad, is_good, group_of, partners_of}
 use Rattle.group.specs.declared.fault.Fault.{Fault}
-use Rattle.group.specs.Fault.{refusal_of}
-use Rattle.group.proofs.Laws.Fault.{fault_numbers, fault_listed, fault_once, fault_apart}
-use Rattle.lookup.specs.Lookup.{Outcome, found, refused, outcome, Rooms, group_check, group_fault, within, short, partners_at, before, look_check, look_group, on_found, look_in}
+use Rattle.group.proofs.Laws.Fault.{fault_numbers}
+use Rattle.lookup.specs.Lookup.{within, before}
 
 -- what a lookup may give after opening: 14, a group's faults, 19 and 20
 abbrev pub look_numbers : List ℕ

@@ -1,19 +1,10 @@
 -- The group asked for, as its own call sees it.
-use Rattle.std.specs.Prelude.{◌≡◌, refl, ℕ, ◌*◌, ◌≤◌, ◌<◌, List, Bool, true, false, ◌||◌, length, ltb}
-use Rattle.std.proofs.Common.{sym, ap, ◌∙◌, arith}
-use borrow.Author.Tests.{lt-ltb, le-ltb, ltb-false}
+use Rattle.std.specs.Prelude.{◌≡◌, ℕ, ◌*◌, ◌≤◌, List, true, length}
 use Rattle.base.specs.Over.{part}
-use Rattle.refusal.specs.declared.Refusal.{Refusal}
 use Rattle.refusal.specs.declared.Check.{Check}
-use Rattle.refusal.specs.Check.{◌⊳◌, refuse}
-use Rattle.refusal.proofs.Laws.Check.{fine_parts, either_parts}
-use Rattle.degrees.specs.Degrees.{misplaced}
-use Rattle.codes.specs.declared.ids.Id.{Id}
-use Rattle.group.specs.declared.fault.Fault.{Fault}
-use Rattle.group.specs.Fault.{refusal_of}
-use Rattle.group.specs.Group.{Decoded, good, bad, group_of, is_good, partners_of}
+use Rattle.group.specs.Group.{group_of, is_good, partners_of}
 use Rattle.lookup.specs.declared.groups.GroupSeen.{GroupSeen}
-use Rattle.lookup.specs.Lookup.{group_check, group_fault}
+use Rattle.lookup.specs.Lookup.{group_fault}
 
 unfoldable pub seen : Check → ℕ → GroupSeen
 seen Check.Fine d = GroupSeen.Good d

@@ -1,12 +1,8 @@
 -- What rule 21 gives a lookup: ranges that lie within the file, and lengths that the counts give.
 use Rattle.std.specs.Prelude.{◌≡◌, ℕ, ◌+◌, ◌/◌, ◌≤◌, List, true, length}
-use Rattle.std.proofs.Common.{arith}
-use Rattle.base.specs.Over.{length_part}
-use Rattle.frame.specs.declared.Range.{Range}
 use Rattle.frame.specs.declared.Opened.{Opened}
 use Rattle.frame.specs.Kind as kind
-use Rattle.frame.specs.Open.{record_good, bytes_at}
-use Rattle.frame.proofs.Laws.Open.{recorded_parts, width_bytes}
+use Rattle.frame.specs.Open.{bytes_at}
 
 pub record Holds (f : List ℕ) (o : Opened) : Type 0 where
   pub size : length f ≤ kind.most_bytes

@@ -1,5 +1,5 @@
 -- Each public contract of the crate leaves one result.
-use mathlib.Core.Path.{◌≡◌, refl, sym, ◌∙◌}
+use mathlib.Core.Path.{refl, sym, ◌∙◌}
 use Rattle.base.proofs.Determined.{Determined}
 use Rattle.open_file.specs.contracts.ends.size_check as size_check
 use Rattle.open_file.proofs.ends.size_check.Reads as size_check_reads

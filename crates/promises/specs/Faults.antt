@@ -1,47 +1,27 @@
 -- "Say what is wrong with a group": each number of a group's faults is given by every call on the file exactly where that fault is the
 -- first in the order of checks, at the byte inside the group, with the group beside it.
-use Rattle.std.specs.Prelude.{◌≡◌, refl, ◌↔◌, ℕ, ◌+◌, ◌/◌, ◌<◌, List, [], ◌∷◌, Bool, true}
-use Rattle.std.proofs.Common.{sym, ◌∙◌, arith}
-use Rattle.std.proofs.Math.Logic.Iff.{trans as iff_trans}
-use Rattle.refusal.specs.declared.Refusal.{Refusal}
+use Rattle.std.specs.Prelude.{◌≡◌, ◌↔◌, ℕ, ◌/◌, ◌<◌, List, Bool, true}
 use Rattle.refusal.specs.declared.Check.{Check}
-use Rattle.refusal.specs.Refusal.{number_of, is_gone}
-use Rattle.refusal.proofs.Laws.Refusal.{not_gone}
 use Rattle.frame.specs.declared.Opened.{Opened}
 use Rattle.frame.specs.declared.Opening.{Opening}
 use Rattle.frame.specs.Frame.{rows_of, body_of, record_of}
-use Rattle.frame.specs.Open.{Known, key_at, known_of, bytes_at, record_good, file_check, open_of}
-use Rattle.frame.proofs.Laws.Open.{opens_fine, opens_refused}
-use Rattle.frame.specs.Given.{opening_numbers}
-use Rattle.frame.proofs.Laws.Given.{opening_numbers_lem}
+use Rattle.frame.specs.Open.{Known, known_of, bytes_at, record_good, file_check, open_of}
 use Rattle.index.specs.declared.keys.Found.{Found}
 use Rattle.index.specs.Find.{find_in}
-use Rattle.index.specs.Find.Laws.{find_sound, find_complete}
 use Rattle.degrees.specs.Degrees.{group_at}
 use Rattle.group.specs.declared.fault.Flaw.{Flaw}
-use Rattle.group.specs.declared.fault.Fault.{Fault}
-use Rattle.group.specs.Fault.{fault_at, refusal_of, number_for}
-use Rattle.group.proofs.Laws.Fault.{fault_number, fault_place, fault_beside, fault_unlisted, fault_apart}
 use Rattle.group.specs.Group.{is_good, group_of}
 use Rattle.group.specs.Wrong.{Wrong}
-use Rattle.group.proofs.Laws.Wrong.{wrong_exactly}
 use Rattle.lookup.specs.Lookup.{Rooms, refused, look_of, look_with}
-use Rattle.lookup.specs.Given.{GroupIn, FaultIn, UnplacedIn, MisplacedIn}
+use Rattle.lookup.specs.Given.{GroupIn, UnplacedIn, MisplacedIn}
 use Rattle.reader.specs.declared.header.HeaderRead.{HeaderRead}
 use Rattle.reader.specs.Header.{header_of}
-use Rattle.reader.proofs.Laws.Header.{header_opening}
-use Rattle.reader.proofs.Laws.Opened.{opened_keys, opened_offsets}
-use Rattle.reader.proofs.Laws.Given.{look_of_fault, look_with_fault, look_of_unplaced, look_with_unplaced, look_with_misplaced}
 use Rattle.full_check.specs.Full.{sums_from, full_check, checked_of}
-use Rattle.full_check.specs.Given.{FaultFirst, full_fault}
 use Rattle.readout.specs.declared.ReadOut.{ReadOut}
 use Rattle.readout.specs.ReadOut.{read_out_of}
-use Rattle.readout.specs.ReadOut.Laws.{read_full}
 use Rattle.summary.specs.Summary.{summarised_of}
-use Rattle.summary.proofs.Laws.Promise.{summary_refuses}
 use Rattle.listing.specs.declared.Listed.{Listed}
 use Rattle.listing.specs.List.{listed_of}
-use Rattle.listing.proofs.Laws.List.{list_opening}
 use Rattle.promises.specs.Given.{Gives, not_summed}
 
 -- in the group asked for: the file opens, and the search ends at key i

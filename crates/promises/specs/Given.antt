@@ -1,34 +1,20 @@
 -- Refusals by document 01's numbers and places, and that a refusal of opening is every call's on the file.
-use Rattle.std.specs.Prelude.{◌≡◌, refl, ◌↔◌, ℕ, List, Bool, true, false}
-use Rattle.std.proofs.Common.{sym, ap, ◌∙◌, arith}
-use Rattle.std.proofs.Math.Logic.Iff.{trans as iff_trans}
+use Rattle.std.specs.Prelude.{◌≡◌, ◌↔◌, ℕ, List, Bool}
 use Rattle.refusal.specs.declared.Refusal.{Refusal}
 use Rattle.refusal.specs.declared.Check.{Check}
 use Rattle.refusal.specs.Refusal.{number_of, place_of, beside_of}
-use Rattle.refusal.proofs.Laws.Refusal.{told_once}
 use Rattle.frame.specs.declared.Opening.{Opening}
-use Rattle.refusal.proofs.Laws.Check.{listed}
-use Rattle.frame.specs.Open.{file_check, open_of}
-use Rattle.frame.specs.Given.{opening_numbers}
-use Rattle.frame.proofs.Laws.Open.{opens_refused}
+use Rattle.frame.specs.Open.{open_of}
 use Rattle.lookup.specs.Lookup.{Rooms, refused, look_of}
-use Rattle.lookup.specs.Given.{look_numbers}
 use Rattle.reader.specs.declared.header.HeaderRead.{HeaderRead}
 use Rattle.reader.specs.Header.{header_of}
-use Rattle.reader.proofs.Laws.Header.{header_opening}
-use Rattle.reader.proofs.Laws.Given.{look_opening}
 use Rattle.full_check.specs.Full.{full_check, checked_of}
-use Rattle.full_check.specs.Checked.{checked_bad, checked_refused}
-use Rattle.full_check.specs.Given.{full_opening}
 use Rattle.readout.specs.declared.ReadOut.{ReadOut}
 use Rattle.readout.specs.ReadOut.{read_out_of}
-use Rattle.readout.specs.ReadOut.Laws.{read_full}
 use Rattle.summary.specs.declared.Summarised.{Summarised}
 use Rattle.summary.specs.Summary.{nothing, summarised_of}
-use Rattle.summary.proofs.Laws.Promise.{summary_refuses}
 use Rattle.listing.specs.declared.Listed.{Listed}
 use Rattle.listing.specs.List.{listed_of}
-use Rattle.listing.proofs.Laws.List.{list_opening}
 
 -- the answer a is a refusal, number n at place p, with s beside it
 pub record Gives {A : Type 0} (refusing : Refusal → A) (a : A) (n p s : ℕ) : Type 0 where

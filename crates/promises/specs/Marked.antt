@@ -1,26 +1,16 @@
 -- Document 01's twelve marked cases, one table, computed through the definitions.
-use Rattle.std.specs.Prelude.{◌≡◌, refl, ℕ, zero, suc, ◌+◌, ◌-◌, ◌*◌, ◌^◌, List, [], ◌∷◌, ◌++◌, Bool, true, false, ◌||◌, length, leb}
-use Rattle.std.proofs.Common.{ap, ◌∙◌}
+use Rattle.std.specs.Prelude.{◌≡◌, ℕ, zero, suc, ◌+◌, ◌-◌, ◌*◌, ◌^◌, List, [], ◌∷◌, ◌++◌, true, false, length, leb}
 use Rattle.codes.specs.declared.ids.Id.{Id}
 use Rattle.codes.specs.declared.varint.Varint.TheVariants.{Value, Bad}
 use Rattle.codes.specs.declared.varint.Unread.TheVariants.{Long}
-use Rattle.codes.specs.Little.{le_at, le_bytes}
-use Rattle.codes.specs.Ids.{be_at, halves_at, be_bytes, id_bytes}
-use Rattle.codes.specs.Varint.{last_byte, var_from, varint_at, bytes_from, var_bytes}
-use Rattle.xxh3_spec.specs.Xxh3.{mul, fold, xorshift, rotl, swap, rrmxmx, secret, of1to3, of4to8, of9to16, small, pair, mix_step, inward, of17to128, onward, of129to240, lane, accumulate, stir, scramble, turn, run_on, start_lanes, twice, merge, finish, large, xxh3}
-use Rattle.refusal.specs.declared.Refusal.{Refusal}
+use Rattle.codes.specs.Varint.{varint_at, var_bytes}
 use Rattle.refusal.specs.declared.Check.{Check}
-use Rattle.frame.specs.Layout.{head_bytes, payload, entry, entries, body_bytes, trailer, lay_out}
 use Rattle.frame.proofs.Laws.Cases.{ids, heading_only, one_edge}
-use Rattle.group.specs.Group.{good, onVarint, split_step, dense_step, step_at, on_step, cons, walk_from, degree_of, head_of, on_head, group_of, bytes_of}
-use Rattle.group.specs.Written.{split_from, split_bytes, dense_bytes}
+use Rattle.group.specs.Group.{good, group_of}
 use Rattle.lookup.specs.Lookup.{group_check}
-use Rattle.batch.specs.Batch.{heading_of, edge_at, edges_at, edges_of, before, in_order, fault_from, headed, batch_check, partners_in, logs_in, marks_in}
-use Rattle.batch_groups.specs.Groups.{any_dead, join, groups_of}
-use Rattle.write_image.specs.Image.{keys_in, split_cost, dense_by, is_dense, group_bytes, any_dense, numbers, partner_bytes, offsets_from, width_of, octet, octets, fence_bytes, fence_keys_from, fences_of, last_sections, sections_by, layout_by, layout_of, file_of}
-use Rattle.write_plan.specs.Bounds.{too_many}
+use Rattle.write_image.specs.Image.{split_cost, is_dense, group_bytes}
 use Rattle.write_file.specs.declared.Written.{Written}
-use Rattle.write_file.specs.Written.{written_answer, needed_check, needed_of}
+use Rattle.write_file.specs.Written.{needed_of}
 use Rattle.demand2.specs.Demand2.{file_for}
 use Rattle.promises.specs.Given.{Gives}
 

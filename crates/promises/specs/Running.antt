@@ -6,7 +6,6 @@ use Rattle.xxh3_spec.specs.Xxh3.{xxh3}
 use Rattle.xxh3_running.specs.declared.State.{State}
 use Rattle.xxh3_running.specs.Running.{most_fed, new_state, feed_of, sum_of}
 use Rattle.xxh3_running.specs.Chunks.{in_row, feed_all, Step, answers, sums_before}
-use Rattle.xxh3_running.proofs.Laws.Chunks.{any_cuts, same_state, each_answer, refused_exactly, refused_leaves, goes_on, past_most, empty_taken}
 
 pub record RunningSum : Type 0 where
   -- of any cuts, empty chunks and none, up to 2^30 bytes: the sum at the end is that of the bytes in a row

@@ -1,34 +1,26 @@
 -- The start index: when opening refuses it, what a lookup takes from it, and that it does not show in a file that passes the full
 -- check.
-use Rattle.std.specs.Prelude.{◌≡◌, refl, ◌↔◌, ◌⊎◌, ℕ, ◌+◌, ◌/◌, ◌≤◌, ◌<◌, List, Bool, true, false, length}
-use Rattle.std.proofs.Common.{sym, ◌∙◌, arith}
-use Rattle.std.proofs.Math.Logic.Iff.{trans as iff_trans}
+use Rattle.std.specs.Prelude.{◌≡◌, ◌↔◌, ◌⊎◌, ℕ, ◌+◌, ◌/◌, ◌≤◌, ◌<◌, List, Bool, true, false, length}
 use Rattle.codes.specs.declared.ids.Id.{Id}
 use Rattle.refusal.specs.declared.Refusal.{Refusal}
 use Rattle.refusal.specs.declared.Check.{Check}
 use Rattle.frame.specs.declared.Range.{Range}
 use Rattle.frame.specs.declared.Opened.{Opened}
-use Rattle.refusal.proofs.Laws.Check.{fine_parts, fine_both}
 use Rattle.frame.specs.Frame.{rows_of, body_of, flags_of, record_of}
 use Rattle.frame.specs.declared.Opening.{Opening}
 use Rattle.frame.specs.Open.{Known, known_of, bytes_at, start_at, record_good, file_check, open_of}
-use Rattle.frame.proofs.Laws.Open.{Recorded, recorded_parts, recorded_made}
-use Rattle.frame.proofs.Laws.Starts.{StartAt, starts_exactly}
+use Rattle.frame.proofs.Laws.Open.{Recorded}
 use Rattle.group.specs.Group.{is_good, group_of, partners_of}
 use Rattle.degrees.specs.Degrees.{edges_before}
 use Rattle.lookup.specs.Lookup.{found, refused, Rooms, before, logs_from, marks_from, look_in, look_with, look_of}
 use Rattle.lookup.specs.Given.{GroupIn}
-use Rattle.lookup.proofs.Laws.Given.{look_numbers_lem, look_unplaced}
 use Rattle.lookup.specs.Starts.{SameGroup, SameBut}
-use Rattle.lookup.proofs.Laws.Starts.{unlike_exactly, no_other, taken, known_starts, summed_there}
-use Rattle.reader.proofs.Laws.Look.{with_bad, with_good, of_good}
 use Rattle.index.specs.declared.keys.Found.{Found}
 use Rattle.index.specs.Find.{find_in}
 use Rattle.full_check.specs.Full.{sums_from, groups_from, degrees_from, stray_in, edges_check, full_check}
-use Rattle.full_check.specs.Starts.{hidden, edges_exactly, stray_told}
+use Rattle.full_check.specs.Starts.{hidden}
 use Rattle.agreement.specs.SameEdges.{unindexed}
-use Rattle.agreement.proofs.Laws.Index.{same_without}
-use Rattle.promises.specs.Given.{Gives, Every}
+use Rattle.promises.specs.Given.{Gives}
 
 -- ---- 19 by the start index, of what is known of a file: the group of key i is found and good, and its two entries differ by another
 -- number than its degree, or the later is above the edge count. Earlier groups are not asked.

@@ -1,18 +1,12 @@
 -- An entry of a file's section table, by its number.
-use Rattle.std.specs.Prelude.{◌≡◌, List, Bool, ◌&&◌, get_or, ltb}
-use Rattle.std.proofs.Math.Path.{refl, sym, ap}
-use Rattle.std.proofs.Common.{◌∙◌, add-one}
-use Prim.Native.Nat.{ℕ, zero, suc, ◌+◌, ◌-◌, ◌*◌, ◌^◌, ◌≤◌, ◌<◌}
-use native.Mathlib.Omega.{arith}
-use Rattle.std.proofs.Math.Bool.{true, false}
+use Rattle.std.specs.Prelude.{List, Bool, ◌&&◌, ltb}
+use Prim.Native.Nat.{ℕ, suc, ◌+◌, ◌-◌}
 use Rattle.std.proofs.Math.ListN.{length}
 use Rattle.std.proofs.Math.Dec.{leb}
-use borrow.Author.Tests.{le-leb, lt-leb, lt-ltb, le-ltb}
 use Rattle.base.specs.Pick.{pick}
 use Rattle.frame.specs.declared.Row.{Row}
 use Rattle.frame.specs.Kind as kind
-use Rattle.frame.specs.Frame.{row_at, next_at, end_from, entry_count, foot_len, body_of}
-use Rattle.frame.proofs.Laws.Frame.{end_room, end_none}
+use Rattle.frame.specs.Frame.{row_at, end_from, entry_count, foot_len, body_of}
 use Rattle.reader.specs.declared.rows.SectionAt.{SectionAt}
 
 -- an entry whose name's place counts from the file's first byte; at is where the footer body begins

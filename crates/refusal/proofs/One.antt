@@ -1,5 +1,5 @@
 -- Each public contract of the crate leaves one result.
-use mathlib.Core.Path.{◌≡◌, refl, sym, ◌∙◌}
+use mathlib.Core.Path.{refl, sym, ◌∙◌}
 use Rattle.base.proofs.Determined.{Determined}
 use Rattle.refusal.specs.contracts.told_of as told_of
 use Rattle.refusal.proofs.told_of.Reads as told_of_reads

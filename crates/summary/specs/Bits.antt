@@ -1,11 +1,6 @@
 -- What the machine counts: the leading zeros of a degree give its bucket, the ones of a tombstone byte its dead edges.
-use Rattle.std.specs.Prelude.{◌≡◌, ℕ, zero, suc, ◌+◌, ◌-◌, ◌*◌, ◌/◌, ◌%◌, ◌^◌, ◌<◌, ◌≤◌, true, List, slice_index, slice_index_or}
-use Rattle.std.proofs.Common.{sym, ap, ap₂, ◌∙◌, add-zero, zero-add, pow-suc, div-one, arith, add-one}
-use Rattle.std.proofs.Math.Nat.{div-div-eq-div-mul}
-use Rattle.std.specs.Int.Count.{ones, ones_step, count_leading_zeros}
-use Rattle.std.proofs.lemmas.Nat.{leading_top}
+use Rattle.std.specs.Prelude.{ℕ, zero, suc, ◌+◌, List}
 use Rattle.lookup.specs.Lookup.{mark_at}
-use Rattle.summary.specs.Summary.{in_bucket}
 
 -- ---- ones
 

@@ -1,19 +1,8 @@
 -- The pass over the log numbers.
-use Rattle.std.specs.Prelude.{◌≡◌, ℕ, zero, suc, ◌+◌, ◌-◌, ◌*◌, ◌/◌, ◌%◌, ◌^◌, ◌<◌, ◌≤◌, Bool, true, false, ◌⊎◌, List, [], ◌∷◌, bit_and, bit_or, nat_lt, refl}
-use Rattle.std.proofs.Common.{sym, subst, ◌∙◌, inl, inr, ⊎_elim, le_refl, add-zero, zero-add}
-use Rattle.std.proofs.Math.Path.{ap, ap₂}
-use Rattle.std.proofs.Math.Nat.{sub-zero}
-use native.Mathlib.Omega.{arith}
-use Rattle.std.proofs.Math.Decide.{dec_lt}
-use Rattle.std.specs.Int.Bits.{or_add_and}
-use Rattle.std.proofs.lemmas.Nat.{and_le_l, and_le_r, and_shr}
-use borrow.Author.Tests.{lt-ltb, le-ltb, ltb-false}
-use Rattle.base.specs.Pick.{pick}
+use Rattle.std.specs.Prelude.{ℕ, ◌+◌, ◌*◌, ◌^◌, ◌<◌, ◌≤◌, List}
 use Rattle.codes.specs.Little.{le_at}
-use Rattle.lookup.specs.Lookup.{logs_from}
 use Rattle.summary.specs.declared.logs.Span.{Span}
 use Rattle.summary.specs.Summary.{smallest, largest}
-use Rattle.summary.specs.Summary.Laws.{Among}
 
 -- a span that takes in numbers more
 unfoldable pub span_on : Span → List ℕ → Span

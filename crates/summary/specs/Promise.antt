@@ -1,30 +1,13 @@
 -- What the query planner may rely on.
-use Rattle.std.specs.Prelude.{◌≡◌, ℕ, suc, ◌+◌, ◌-◌, ◌^◌, ◌<◌, ◌≤◌, Bool, true, false, ◌⊎◌, ◌↔◌, List, [], ◌∷◌, length, ◌≢◌, nat_lt, slice_index}
-use Rattle.std.proofs.Math.Path.{refl, ap}
-use Rattle.std.proofs.Common.{sym, ◌∙◌, inl, inr, zero-add, arith}
-use Rattle.std.proofs.lemmas.Bool.{false≢true}
-use Rattle.base.specs.Bytes.{Bytes}
-use Rattle.base.specs.Pick.{pick}
-use Rattle.codes.specs.declared.ids.Id.{Id}
+use Rattle.std.specs.Prelude.{◌≡◌, ℕ, suc, ◌+◌, ◌^◌, ◌<◌, ◌≤◌, ◌⊎◌, List, [], ◌∷◌, length, ◌≢◌, slice_index}
 use Rattle.codes.specs.Ids.{id_number}
-use Rattle.refusal.specs.declared.Refusal.{Refusal}
-use Rattle.refusal.specs.declared.Check.{Check}
-use Rattle.frame.specs.Frame.{record_of}
-use Rattle.frame.specs.Open.{bytes_at, key_at}
 use Rattle.batch.specs.declared.Edge.{Edge}
-use Rattle.batch.specs.Batch.{edges_of, logs_in}
+use Rattle.batch.specs.Batch.{logs_in}
 use Rattle.batch_groups.specs.Groups.{IdFits, groups_of}
-use Rattle.full_check.specs.Full.{full_check}
-use Rattle.full_check.specs.Checked.{fine_checked}
-use Rattle.readout.specs.ReadOut.{batch_in}
-use Rattle.readout.specs.ReadOut.Laws.{length_edges_in, checked_few}
-use Rattle.agreement.specs.SameEdges.{of_key, mark_bytes_in, edges_of_file}
-use Rattle.agreement.specs.OutBytes.{EdgesFit}
-use Rattle.agreement.proofs.Laws.OutBytes.{fits, out_edges}
+use Rattle.agreement.specs.SameEdges.{mark_bytes_in}
 use Rattle.summary.specs.declared.figures.Extremes.{Extremes}
 use Rattle.summary.specs.declared.figures.Summary.{Summary}
-use Rattle.summary.specs.declared.Summarised.{Summarised}
-use Rattle.summary.specs.Summary.{smallest, largest, smallest_key, largest_key, extremes_of, degrees_of, in_bucket, bucket, buckets_of, dead_in, nothing, summary_of, summarised, summarised_of}
+use Rattle.summary.specs.Summary.{degrees_of}
 use Rattle.summary.specs.Summary.Laws.{Smallest, Largest, total}
 
 -- ---- the keys' own smallest and largest

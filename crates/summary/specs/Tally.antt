@@ -1,24 +1,10 @@
 -- The pass over the groups: degrees one by one, each into its bucket. p the partners, o the offsets of w bytes each.
-use Rattle.std.specs.Prelude.{◌≡◌, ℕ, zero, suc, ◌+◌, ◌-◌, ◌<◌, ◌≤◌, Bool, true, false, List, [], ◌∷◌, length, replicate, ◌≢◌, nat_lt, slice_index, slice_index_or, slice_set, refl}
-use Rattle.std.proofs.Math.Path.{sym, ap}
-use Rattle.std.proofs.Common.{ap₂, ◌∙◌, zero-add, add-zero, get_or-set_same, get_or-set_other}
-use Rattle.std.proofs.Math.Nat.{sub-zero}
-use native.Mathlib.Omega.{arith}
-use Rattle.std.proofs.Math.Decide.{ℕ_discrete}
-use Rattle.std.proofs.Math.ListN.{length-set}
-use Rattle.std.proofs.lemmas.List.{get_or-replicate}
-use Rattle.std.proofs.Math.Seq.{ext_get_or}
-use Rattle.base.specs.Pick.{pick}
-use Rattle.base.specs.Over.{part}
-use Rattle.codes.specs.declared.varint.Unread.{Unread}
+use Rattle.std.specs.Prelude.{ℕ, zero, suc, ◌+◌, ◌<◌, ◌≤◌, List, [], ◌∷◌}
 use Rattle.codes.specs.declared.varint.Varint.{Varint}
-use Rattle.codes.specs.Varint.{varint_at}
-use Rattle.frame.specs.Open.{offset_at}
-use Rattle.index.specs.Order.{OffsetsRise}
 use Rattle.degrees.specs.Degrees.{group_at}
 use Rattle.group.specs.Group.{degree_of}
 use Rattle.summary.specs.declared.tally.Tally.{Tally}
-use Rattle.summary.specs.Summary.{largest, in_bucket, bucket, buckets_of}
+use Rattle.summary.specs.Summary.{largest, buckets_of}
 
 -- a degree that was read, 0 where there is none
 unfoldable pub degree_told : Varint → ℕ

@@ -1,6 +1,5 @@
 -- "file 2^30 bytes, 2^24 keys, 2^26 edges": refusal 26, "more keys, edges or file bytes than the bounds".
-use Rattle.std.specs.Prelude.{◌≡◌, refl, ℕ, ◌≤◌, ◌<◌, List, Bool, true, false, ◌||◌, length, ltb}
-use Rattle.std.proofs.Common.{arith}
+use Rattle.std.specs.Prelude.{◌≡◌, refl, ◌≤◌, ◌<◌, List, Bool, true, false, ◌||◌, length, ltb}
 use borrow.Author.Tests.{lt-ltb, le-ltb}
 use Rattle.frame.specs.Kind as kind
 use Rattle.batch.specs.declared.Edge.{Edge}

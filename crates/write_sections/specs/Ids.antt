@@ -1,6 +1,6 @@
 -- Ids that stand one after the other in bytes.
-use Rattle.std.specs.Prelude.{◌≡◌, refl, ℕ, zero, suc, ◌+◌, ◌*◌, ◌^◌, ◌≤◌, ◌<◌, List, [], ◌∷◌, ◌++◌, length, get_or}
-use Rattle.std.proofs.Common.{sym, ap, ap₂, ◌∙◌, arith, add-zero, add_assoc, append_assoc, length-append}
+use Rattle.std.specs.Prelude.{◌≡◌, refl, ℕ, zero, suc, ◌+◌, ◌*◌, ◌≤◌, ◌<◌, List, [], ◌∷◌, ◌++◌, length, get_or}
+use Rattle.std.proofs.Common.{sym, ap, ap₂, ◌∙◌, arith, add-zero, append_assoc, length-append}
 use Rattle.base.specs.Over.{get_d_sets_below}
 use Rattle.base.specs.Put.{Left}
 use Rattle.codes.specs.declared.ids.Id.{Id}

@@ -1,5 +1,5 @@
 -- Each public contract of the crate leaves one result.
-use Rattle.std.proofs.Common.{◌≡◌, sym, refl, ◌∙◌}
+use Rattle.std.proofs.Common.{sym, refl, ◌∙◌}
 use Rattle.base.proofs.Determined.{Determined}
 use Rattle.xxh3_mix.specs.contracts.product.low as low
 use Rattle.xxh3_mix.proofs.product.low.Reads as low_reads

@@ -1,17 +1,11 @@
 -- What users may rely on: chunks, however they are cut, have the sum of their bytes in a row; asking for it midway changes nothing; 27 is
 -- given exactly past 2^30 bytes, and then the state stays.
-use Rattle.std.specs.Prelude.{◌≡◌, refl, ◌↔◌, ℕ, ◌+◌, ◌≤◌, ◌<◌, List, [], ◌∷◌, ◌++◌, map, leb, length}
-use Rattle.std.proofs.Common.{sym, ap, ap₂, ◌∙◌, subst, add-zero, zero-add, arith, length-append, le-leb}
-use Rattle.std.proofs.Math.Decide.{dec_lt}
-use Rattle.std.proofs.lemmas.Bool.{lt-leb}
+use Rattle.std.specs.Prelude.{ℕ, ◌+◌, List, [], ◌∷◌, ◌++◌, leb, length}
 use Rattle.base.specs.Pick.{pick}
 use Rattle.refusal.specs.declared.Check.{Check}
-use Rattle.refusal.specs.declared.Refusal.{Refusal}
 use Rattle.xxh3_spec.specs.Xxh3.{xxh3}
 use Rattle.xxh3_running.specs.declared.State.{State}
-use Rattle.xxh3_running.specs.declared.Fed.{Fed}
-use Rattle.xxh3_running.specs.Running.{most_fed, new_state, bytes_more, feed_of, sum_of}
-use Rattle.xxh3_running.specs.Running.Sums.{Holds}
+use Rattle.xxh3_running.specs.Running.{most_fed, feed_of, sum_of}
 
 -- ---- chunks one after the other
 

@@ -1,5 +1,5 @@
 -- The numbers that the program has in place of words of the secret: each is computed. Assumes nothing.
-use Rattle.std.proofs.Common.{◌≡◌, ℕ, refl}
+use Rattle.std.proofs.Common.{◌≡◌, refl}
 use lib.Bits.{bit_xor}
 use Rattle.codes.specs.Little.{le_at}
 use Rattle.xxh3_spec.specs.Xxh3.{secret}

@@ -1,5 +1,5 @@
 -- Each public contract of the crate leaves one result.
-use Rattle.std.proofs.Common.{◌≡◌, sym, refl, ◌∙◌}
+use Rattle.std.proofs.Common.{sym, refl, ◌∙◌}
 use Rattle.base.proofs.Determined.{Determined}
 use Rattle.xxh3_upto240.specs.contracts.small.small as small
 use Rattle.xxh3_upto240.proofs.small.small.Reads as small_reads

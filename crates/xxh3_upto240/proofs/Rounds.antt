@@ -1,5 +1,5 @@
 -- One turn of each recursion of the specification, at the numbers that a loop counts with. Assumes nothing.
-use Rattle.std.proofs.Common.{◌≡◌, ℕ, zero, suc, ◌+◌, ◌-◌, ◌*◌, ◌/◌, ◌<◌, List, length, refl, zero-le, not-suc-le-zero, add-one, sub-one}
+use Rattle.std.proofs.Common.{◌≡◌, ℕ, zero, suc, ◌+◌, ◌-◌, ◌*◌, ◌/◌, ◌<◌, List, length, refl, not-suc-le-zero, add-one, sub-one}
 use Rattle.codes.specs.Little.{le_at}
 use Rattle.xxh3_spec.specs.Xxh3.{add, mul, avalanche, secret, pair, mix_step, inward, onward, of17to128}
 

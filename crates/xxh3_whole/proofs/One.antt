@@ -1,5 +1,5 @@
 -- Each public contract leaves one result.
-use mathlib.Core.Path.{◌≡◌, refl, sym, ◌∙◌}
+use mathlib.Core.Path.{refl, sym, ◌∙◌}
 use Rattle.base.proofs.Determined.{Determined}
 use Rattle.xxh3_whole.specs.contracts.xxh3 as xxh3
 use Rattle.xxh3_whole.proofs.xxh3.Reads as xxh3_reads

@@ -1,7 +1,7 @@
 -- The header of a file and the heading of its read-out: direction and ids are the same.
-use Rattle.std.specs.Prelude.{◌≡◌, refl, get_or, take, drop}
+use Rattle.std.specs.Prelude.{◌≡◌, get_or, drop}
 use Rattle.std.proofs.Math.Path.{sym}
-use Rattle.std.proofs.Common.{ap, ◌∙◌, add_assoc, arith, get_or-append-add}
+use Rattle.std.proofs.Common.{◌∙◌, add_assoc, arith, get_or-append-add}
 use Prim.Native.Nat.{ℕ, ◌+◌, ◌≤◌, ◌<◌}
 use mathlib.Core.List.{List, [], ◌∷◌, ◌++◌}
 use Rattle.std.proofs.Math.ListN.{length, get_or-append}

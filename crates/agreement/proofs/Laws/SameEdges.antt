@@ -12,7 +12,6 @@ use Rattle.std.proofs.Math.Bool.{true, false}
 use Rattle.std.proofs.Math.ListN.{length}
 use Rattle.batch.specs.Batch.{partners_in, logs_in}
 use Rattle.base.specs.Pick.{pick}
-use Rattle.base.specs.Over.{part}
 use Rattle.codes.specs.declared.ids.Id.{Id}
 use Rattle.codes.specs.declared.varint.Varint.{Varint}
 use Rattle.codes.specs.Ids.{id_number, halves_at}

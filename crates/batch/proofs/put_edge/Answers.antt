@@ -2,12 +2,6 @@ use native.Mathlib.Omega.{arith}
 use lib.ListN.{length-set}
 use lib.Seq.{length-sets}
 use Rattle.batch.specs.Batch.Laws.{record_parts}
-use borrow.Author.Rules.{rules}
-use Rattle.batch.proofs.put_edge.Reads as reads
-use Rattle.batch.proofs.put_edge.Lts as lts
-use Rattle.batch.proofs.kind_of.Reads as kind_of_reads
-use Rattle.codes.proofs.ids.put_id.Reads as put_id_reads
-use Rattle.codes.proofs.little.put_le.Reads as put_le_reads
 use Rattle.batch.proofs.put_edge.Goals as goal
 
 -- src/lib.rt:71:5

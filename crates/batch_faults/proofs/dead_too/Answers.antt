@@ -1,4 +1,3 @@
-use borrow.Author.Rules.{rules}
 use Rattle.batch_faults.proofs.dead_too.Goals as goal
 
 pub returns-else-dead : goal.returns-else-dead

@@ -4,7 +4,6 @@ use native.Mathlib.Omega.{arith}
 use Rattle.batch.specs.Batch.{place, edge_at}
 use Rattle.batch_faults.specs.Tally.{follow_by}
 use Rattle.batch_faults.specs.Tally.Laws.{follow_first, follow_next}
-use borrow.Author.Rules.{rules}
 use Rattle.batch_faults.proofs.follow_at.Goals as goal
 
 at : (e : ℕ) → 0 < e → place (e - 1) ≡ place e - 41

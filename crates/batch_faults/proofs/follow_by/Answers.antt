@@ -6,7 +6,6 @@ use Rattle.codes.specs.declared.ids.Order.{Order}
 use Rattle.codes.specs.Ids.{id_number, order, halves_at}
 use Rattle.batch.specs.Batch.{edge_at}
 use Rattle.batch_faults.specs.Tally.Laws.{key_less, key_greater, partner_less, partner_equal, partner_greater}
-use borrow.Author.Rules.{rules}
 use Rattle.batch_faults.proofs.follow_by.Goals as goal
 
 -- the ids that are compared are those of the two edges

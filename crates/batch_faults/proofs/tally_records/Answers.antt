@@ -2,12 +2,10 @@ use mathlib.Core.Path.{◌≡◌, refl, sym, ap, ◌∙◌}
 use Prim.Native.Nat.{ℕ, suc, ◌+◌, ◌-◌, ◌≤◌, ◌<◌}
 use native.Mathlib.Nat.{sub-zero}
 use native.Mathlib.Omega.{arith}
-use mathlib.Core.Logic.{⊎_elim}
 use mathlib.Core.List.{List}
 use mathlib.Core.Bool.{Bool, true, false, ◌||◌}
 use lib.ListN.{length, get_or}
 use lib.Dec.{eqb}
-use borrow.Author.Tests.{not-true, not-false}
 use Rattle.refusal.specs.declared.Refusal.{Refusal}
 use Rattle.batch.specs.Batch.{place, edges_at, in_order, is_edge, fault_from}
 use Rattle.batch_groups.specs.Groups.{any_dead, groups_of}
@@ -17,7 +15,6 @@ use Rattle.batch_faults.specs.declared.Tally.{Tally}
 use Rattle.batch_faults.specs.declared.Follow.{Follow}
 use Rattle.batch_faults.specs.Tally.{follow_at, tally_by}
 use Rattle.batch_faults.specs.Tally.Laws.{count_start, dead_start, dead_next, follows, tally_bad, tally_fine}
-use borrow.Author.Rules.{rules}
 use Rattle.batch_faults.proofs.tally_records.Goals as goal
 use Rattle.batch_faults.proofs.tally_records.Goals.{in-New, in-Same}
 use Rattle.batch_faults.proofs.tally_records.Invariants.{Head}

@@ -1,7 +1,7 @@
 -- A batch without fault is the bytes of its heading and its edges.
 use Rattle.std.proofs.Math.Path.{◌≡◌, refl, sym, ap, ap₂}
-use Rattle.std.proofs.Common.{◌∙◌, add-one, length-drop, drop_of_length-le, take-suc, drop-cons, get_or-drop, drop-drop, take-add}
-use Prim.Native.Nat.{ℕ, zero, suc, ◌+◌, ◌-◌, ◌*◌, ◌/◌, ◌%◌, ◌^◌, ◌≤◌, ◌<◌}
+use Rattle.std.proofs.Common.{◌∙◌, add-one, drop_of_length-le, drop-cons, drop-drop, take-add}
+use Prim.Native.Nat.{ℕ, zero, suc, ◌+◌, ◌*◌, ◌≤◌, ◌<◌}
 use native.Mathlib.Omega.{arith}
 use mathlib.Core.List.{List, [], ◌∷◌, ◌++◌}
 use Rattle.std.specs.Prelude.{Bool, ◌&&◌}
@@ -11,15 +11,11 @@ use Rattle.std.proofs.Math.ListN.{length, get_or, take, drop, take-append-drop}
 use Rattle.std.proofs.Math.Dec.{leb, eqb}
 use borrow.Author.Tests.{eqb-true, leb-true}
 use Rattle.base.specs.Pick.{pick}
-use Rattle.base.specs.Over.{part}
 use Rattle.base.specs.Bytes.{Bytes}
-use Rattle.codes.specs.Little.{le_at, le_bytes}
 use Rattle.codes.specs.Stood.{le_same, id_same}
-use Rattle.codes.specs.Ids.{be_at, be_bytes, halves_at, id_bytes}
 use Rattle.refusal.specs.declared.Refusal.{Refusal}
 use Rattle.refusal.specs.declared.Check.{Check}
 use Rattle.refusal.proofs.Laws.Check.{and_parts}
-use Rattle.batch.specs.declared.Edge.{Edge}
 use Rattle.batch.specs.Batch.{edge_at, edges_at, place, is_edge, fault_from, batch_check, headed, record_count, edges_of, heading_of, heading_bytes, edge_bytes, records_of, batch_bytes}
 use Rattle.batch_groups.proofs.Laws.Order.{fault_inv}
 

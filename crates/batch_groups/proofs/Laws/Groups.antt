@@ -1,7 +1,7 @@
 -- The laws of groups: they hold the edges in order, and the first group of what is left can be found by going on.
-use Rattle.std.specs.Prelude.{◌≡◌, refl, ℕ, zero, suc, ◌+◌, ◌-◌, ◌*◌, ◌^◌, ◌≤◌, ◌<◌, ◌⊎◌, Bool, true, false, ◌||◌, length, drop, eqb}
+use Rattle.std.specs.Prelude.{◌≡◌, refl, ℕ, suc, ◌+◌, ◌-◌, ◌*◌, ◌^◌, ◌≤◌, ◌<◌, Bool, true, false, ◌||◌, length, drop, eqb}
 use Rattle.std.proofs.Math.Path.{sym, subst}
-use Rattle.std.proofs.Common.{ap, ap₂, ◌∙◌, add-one, ⊎_elim, length-append, length-drop, take-append-drop, take-suc, drop-cons, get_or-drop, drop-drop, eq-eqb, ne_eqb}
+use Rattle.std.proofs.Common.{ap, ap₂, ◌∙◌, add-one, ⊎_elim, length-drop, take-append-drop, take-suc, drop-cons, get_or-drop, drop-drop, eq-eqb, ne_eqb}
 use native.Mathlib.Omega.{arith}
 use mathlib.Core.List.{List, [], ◌∷◌, ◌++◌, append_assoc}
 use Rattle.std.proofs.Math.ListN.{get_or, take}

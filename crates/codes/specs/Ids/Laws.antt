@@ -1,13 +1,12 @@
 -- The laws of be_at, id_at and order.
 use Rattle.std.specs.Prelude.{◌≡◌, refl, ℕ, zero, suc, ◌+◌, ◌-◌, ◌*◌, ◌/◌, ◌%◌, ◌^◌, ◌≤◌, ◌<◌, Bool, true, false, List, [], ◌∷◌, ◌++◌, length, get_or, set, ltb}
-use Rattle.std.proofs.Common.{sym, ap, ap₂, ◌∙◌, lt_of_lt_of_le, pow-suc, zero-lt-suc, add-zero, add-suc, add_assoc, add-mul, mul_assoc, div-add-mod', div-lt_iff_lt-mul, add-one, arith, append_assoc, append-nil, length-append, get_or-append-add, lit<, lt-ltb, le-ltb}
+use Rattle.std.proofs.Common.{sym, ap, ap₂, ◌∙◌, lt_of_lt_of_le, pow-suc, zero-lt-suc, add-zero, add-suc, add_assoc, add-mul, mul_assoc, div-add-mod', div-lt_iff_lt-mul, arith, append_assoc, append-nil, length-append, get_or-append-add, lit<, lt-ltb, le-ltb}
 use Rattle.std.proofs.Math.Nat.{pow-le-pow_right}
 use Rattle.std.proofs.Math.Decide.{dec_lt}
 use Rattle.std.proofs.lemmas.List.Edits.{sets}
 use Rattle.std.proofs.lemmas.List.{get_or_at}
 use Rattle.std.proofs.Math.Seq.{append_snoc}
 use Rattle.base.specs.Over.{sets_snoc, sets_append}
-use Rattle.base.specs.Pick.{pick}
 use Rattle.std.proofs.Math.Arith.{digits_lt}
 use Rattle.codes.specs.declared.ids.Order.{Order}
 use Rattle.codes.specs.declared.ids.Id.{Id}

@@ -1,7 +1,6 @@
 -- The laws of little-endian numbers, over the width.
 use Rattle.std.specs.Prelude.{◌≡◌, refl, ℕ, zero, suc, ◌+◌, ◌-◌, ◌*◌, ◌/◌, ◌%◌, ◌^◌, ◌≤◌, ◌<◌, List, [], ◌∷◌, ◌++◌, length, get_or, set}
-use Rattle.std.proofs.Common.{sym, ap, ap₂, ◌∙◌, lt_of_lt_of_le, add_comm, add-zero, add-suc, add_assoc, mul-suc, mul_comm, mul_assoc, mul_left_comm, add-mul, div-add-mod', div-lt_iff_lt-mul, zero-lt-suc, add-one, arith, length-set, length-append, lit<, pow-add, pow_mono, shl_exact, get_or-set_same, get_or-append-add, get_or-take, get_or-drop}
-use Rattle.std.proofs.Math.ListN.{get_or-append}
+use Rattle.std.proofs.Common.{sym, ap, ap₂, ◌∙◌, add_comm, add-zero, mul-suc, mul_assoc, add-mul, div-add-mod', div-lt_iff_lt-mul, zero-lt-suc, add-one, arith, length-set, length-append, lit<, pow-add, shl_exact, get_or-set_same}
 use Rattle.std.proofs.Math.Arith.{digits_lt}
 use Rattle.std.specs.Int.Bits.{bit_or, or_shifted_r}
 use Rattle.std.proofs.lemmas.List.Edits.{sets}

@@ -1,14 +1,12 @@
 -- The laws of varint_at and var_bytes.
-use Rattle.std.specs.Prelude.{◌≡◌, ℕ, zero, suc, ◌+◌, ◌-◌, ◌*◌, ◌/◌, ◌%◌, ◌^◌, ◌≤◌, ◌<◌, List, [], ◌∷◌, ◌++◌, length, get_or, take, drop, set, ltb, eqb}
+use Rattle.std.specs.Prelude.{◌≡◌, ℕ, zero, suc, ◌+◌, ◌-◌, ◌*◌, ◌/◌, ◌%◌, ◌^◌, ◌≤◌, ◌<◌, List, [], ◌∷◌, ◌++◌, length, get_or, take, drop}
 use Rattle.std.proofs.Math.Path.{refl}
-use Rattle.std.proofs.Common.{sym, ap, ap₂, ◌∙◌, le_trans, lt_of_lt_of_le, pow-suc, div-add-mod', div-lt_iff_lt-mul, zero-lt-suc, mul_assoc, mul_comm, add_assoc, one-mul, not-le_of_lt, add-mul, zero-mul, add-one, arith, length-set, length-append, length-drop, lit<, drop-cons, take_at}
+use Rattle.std.proofs.Common.{sym, ap, ap₂, ◌∙◌, pow-suc, div-add-mod', div-lt_iff_lt-mul, zero-lt-suc, mul_assoc, mul_comm, not-le_of_lt, add-mul, zero-mul, add-one, arith, length-append, length-drop, lit<, drop-cons, take_at}
 use Rattle.std.proofs.Math.Nat.{pow-le-pow_right}
 use Rattle.std.proofs.Math.Decide.{dec_le, dec_lt, ℕ_discrete}
 use Rattle.std.proofs.Math.Arith.{digits_lt}
-use Rattle.std.proofs.lemmas.List.Edits.{sets}
 use Rattle.std.proofs.Math.Seq.{get_or-append_seam, append_snoc}
 use borrow.Author.Tests.{lt-ltb, le-ltb, eq-eqb, ne_eqb}
-use Rattle.codes.specs.declared.varint.Varint.{Varint}
 use Rattle.codes.specs.declared.varint.Varint.TheVariants.{Value, Bad}
 use Rattle.codes.specs.declared.varint.Unread.TheVariants.{Cut, Long, Large}
 use Rattle.base.specs.Over.{part}

@@ -1,8 +1,7 @@
 -- `degrees::degree_in` meets its contract.
-use mathlib.Core.Path.{◌≡◌, refl, sym, ap, ◌∙◌}
+use mathlib.Core.Path.{sym, ◌∙◌}
 use Rattle.degrees.specs.Degrees.Laws.{in_falls, in_past, in_zero, in_is, in_unread}
 use native.Mathlib.Omega.{arith}
-use borrow.Author.Rules.{rules}
 use Rattle.degrees.proofs.degree_in.Goals as goal
 
 pub returns-then-e-a : goal.returns-then-e-a

@@ -1,10 +1,7 @@
 -- `degrees::edges_before` meets its contract. Invariant: `sum` is the edges before group j, and `a` is its offset.
-use mathlib.Core.Path.{◌≡◌, refl, sym, ap, ◌∙◌}
-use Prim.Native.Nat.{◌+◌, ◌-◌, ◌*◌, ◌≤◌}
+use mathlib.Core.Path.{◌≡◌, sym, ◌∙◌}
+use Prim.Native.Nat.{◌+◌, ◌*◌, ◌≤◌}
 use native.Mathlib.Nat.{mul-le-mul_right}
-use Rattle.frame.specs.Open.{offset_at}
-use Rattle.degrees.specs.declared.Sum.{Sum}
-use Rattle.degrees.specs.Degrees.{edges_before}
 use Rattle.degrees.specs.Degrees.Laws.{before_none, before_bad, before_over, before_on, before_all, degree_is}
 use borrow.Author.Rules.{rules}
 use native.Mathlib.Omega.{arith}

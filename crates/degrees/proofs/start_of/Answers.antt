@@ -3,7 +3,6 @@ use mathlib.Core.Path.{sym, ap, ◌∙◌}
 use Rattle.degrees.specs.declared.Sum.{Sum}
 use Rattle.degrees.specs.Degrees.Laws.{start_over, start_unlike, start_told}
 use native.Mathlib.Omega.{arith}
-use borrow.Author.Rules.{rules}
 use Rattle.degrees.proofs.start_of.Goals as goal
 
 pub returns-then-most-edges : goal.returns-then-most-edges

@@ -1,5 +1,5 @@
 -- The laws of degrees and of the edges before a group.
-use Rattle.std.specs.Prelude.{◌≡◌, List, Bool, length, leb, eqb}
+use Rattle.std.specs.Prelude.{◌≡◌, List, Bool, length, eqb}
 use Rattle.std.proofs.Math.Path.{refl}
 use Rattle.std.proofs.Common.{sym, ap, ◌∙◌, add-one, arith}
 use Prim.Native.Nat.{ℕ, zero, suc, ◌+◌, ◌-◌, ◌≤◌, ◌<◌}

@@ -1,10 +1,9 @@
 -- What a lookup answers of a written file, to the last number: a key's index is its place among the different keys of the batch,
 -- and the count of keys compared is the halving rule's own among them.
-use Rattle.std.specs.Prelude.{◌≡◌, refl, ℕ, zero, suc, ◌+◌, ◌≤◌, ◌<◌, Bool, true, false, length, get_or, take, drop, ltb}
+use Rattle.std.specs.Prelude.{◌≡◌, refl, ℕ, zero, suc, ◌+◌, ◌≤◌, ◌<◌, Bool, length, get_or, take, drop}
 use Rattle.std.proofs.Math.Path.{sym, ap₂}
 use Rattle.std.proofs.Common.{ap, ◌∙◌, arith, take-append-drop, drop-cons, length-take-le, lt-ltb, le-ltb}
 use mathlib.Core.List.{List, [], ◌∷◌, ◌++◌}
-use Rattle.batch.specs.Batch.{partners_in, logs_in}
 use Rattle.base.specs.Pick.{pick}
 use Rattle.codes.specs.declared.ids.Id.{Id}
 use Rattle.codes.specs.Ids.{id_number}
@@ -13,11 +12,11 @@ use Rattle.frame.specs.Open.{Known, key_at}
 use Rattle.index.specs.declared.keys.Found.{Found}
 use Rattle.index.specs.Find.{find_in, compared_of}
 use Rattle.index.specs.Find.Laws.{find_sound}
-use Rattle.lookup.specs.Lookup.{Outcome, found, absent, refused, outcome, Rooms, look_check, look_group, on_found, look_in}
+use Rattle.lookup.specs.Lookup.{Outcome, found, absent, refused, outcome, Rooms, look_group, on_found, look_in}
 use Rattle.batch.specs.declared.Edge.{Edge}
-use Rattle.batch_groups.specs.Groups.{none, Group, groups_of, IdFits, Grouped}
+use Rattle.batch_groups.specs.Groups.{none, Group, IdFits, Grouped}
 use Rattle.write_image.specs.Image.{key_bytes}
-use Rattle.agreement.specs.SameEdges.{of_key, mark_bytes_in, Says}
+use Rattle.agreement.specs.SameEdges.{Says}
 use Rattle.demand2.proofs.Laws.Contents.{group_key}
 use Rattle.demand2.specs.Answers.{index_in, comparisons_in, outcome_by, PlaceTold}
 

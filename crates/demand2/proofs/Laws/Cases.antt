@@ -1,14 +1,13 @@
 -- A batch that the second program wrote, of an inverse heading and three edges, one of them dead: it is lawful, and so all of
 -- demand 2 holds of it; what its lookups answer is computed.
-use Rattle.std.specs.Prelude.{◌≡◌, refl, ℕ, ◌+◌, ◌-◌, ◌*◌, ◌^◌, List, [], ◌∷◌, ◌++◌, true, false, length, get_or}
+use Rattle.std.specs.Prelude.{◌≡◌, refl, ℕ, ◌+◌, ◌-◌, ◌^◌, [], ◌∷◌, true, length, get_or}
 use Rattle.std.proofs.Common.{ap, arith}
 use Rattle.codes.specs.declared.ids.Id.{Id}
 use Rattle.codes.specs.Little.{le_at}
 use Rattle.codes.specs.Ids.{be_at, be_bytes, id_at, id_bytes, halves_at, order}
-use Rattle.refusal.specs.declared.Check.{Check}
 use Rattle.index.specs.Find.{narrowed, find_from, find_in, compared_of}
 use Rattle.group.specs.Group.{bytes_of}
-use Rattle.lookup.specs.Lookup.{Outcome, found, absent}
+use Rattle.lookup.specs.Lookup.{found, absent}
 use Rattle.batch.specs.Batch.{edge_at, edges_at, edges_of, before, in_order, fault_from, headed, batch_check, partners_in, logs_in}
 use Rattle.batch_groups.specs.Groups.{join, groups_of}
 use Rattle.write_image.specs.Image.{keys_in}

@@ -1,6 +1,6 @@
 -- The contents of the writer's sections, read: keys, offsets, groups, edges. In each statement the groups are split, all ≡ gs ++
 -- g ∷ hs, and the number of g is the length of gs.
-use Rattle.std.specs.Prelude.{◌≡◌, ℕ, zero, suc, ◌+◌, ◌-◌, ◌*◌, ◌/◌, ◌%◌, ◌^◌, ◌≤◌, ◌<◌, Bool, true, false, not, ◌||◌, get_or, ltb, eqb}
+use Rattle.std.specs.Prelude.{◌≡◌, ℕ, zero, suc, ◌+◌, ◌-◌, ◌*◌, ◌/◌, ◌%◌, ◌^◌, ◌≤◌, ◌<◌, Bool, true, false, not, ◌||◌, get_or, eqb}
 use Rattle.std.proofs.Math.Path.{refl, sym, ap, ap₂}
 use Rattle.std.proofs.Common.{◌∙◌, zero-add, arith, lt-ltb, eq-eqb}
 use Rattle.std.proofs.Math.Nat.{zero-div}
@@ -25,7 +25,7 @@ use Rattle.lookup.specs.Lookup.{group_check, mark_at}
 use Rattle.batch.specs.declared.Edge.{Edge}
 use Rattle.batch_groups.specs.Groups.{any_dead, Group, flat, IdFits, Run, Grouped}
 use Rattle.batch_groups.proofs.Laws.Groups.{flat_append}
-use Rattle.write_image.specs.Image.{keys_in, is_dense, bytes_in, any_dense, key_bytes, partner_bytes, offsets_from, offset_bytes, log_bytes, tomb_bytes, start_bytes, bit}
+use Rattle.write_image.specs.Image.{keys_in, is_dense, bytes_in, any_dense, key_bytes, partner_bytes, offsets_from, offset_bytes, log_bytes, tomb_bytes, start_bytes}
 use Rattle.write_image.specs.Image.Laws.{length_partners, run_partners, group_is, group_some, length_keys_in, numbers_at, start_is}
 use Rattle.full_check.specs.Full.{dense_of, group_in, groups_from, degrees_from, dense_from, stray_from}
 use Rattle.readout.specs.Edges.{edges_from, key_edges, read_from}

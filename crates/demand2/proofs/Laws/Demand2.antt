@@ -16,11 +16,11 @@ use Rattle.frame.specs.Open.{known_of, open_of}
 use Rattle.lookup.specs.Lookup.{Rooms, look_of, look_with}
 use Rattle.lookup.specs.Calls.{alone}
 use Rattle.batch.specs.Batch.{heading_of, edges_of, record_count, fault_from, headed, batch_check}
-use Rattle.batch_groups.specs.Groups.{any_dead, groups_of}
+use Rattle.batch_groups.specs.Groups.{groups_of}
 use Rattle.batch_groups.proofs.Laws.Groups.{grouped}
 use Rattle.batch_groups.proofs.Laws.Order.{batch_ordered, fine_long}
 use Rattle.batch_groups.proofs.Laws.Back.{batch_same}
-use Rattle.write_image.specs.Image.{any_dense, bit, flags_by, file_of}
+use Rattle.write_image.specs.Image.{bit}
 use Rattle.full_check.specs.Full.{full_check}
 use Rattle.readout.specs.ReadOut.{batch_in}
 use Rattle.agreement.specs.SameEdges.{of_key, Says, Enough, edges_of_file}

@@ -1,15 +1,15 @@
 -- Rule 15 of the writer's fences.
-use Rattle.std.specs.Prelude.{◌≡◌, Bool, false, ◌&&◌, leb, eqb}
+use Rattle.std.specs.Prelude.{◌≡◌}
 use Rattle.std.proofs.Math.Path.{refl, sym, ap, ap₂}
-use Rattle.std.proofs.Common.{◌∙◌, add-zero, eq-eqb, le-leb}
-use Prim.Native.Nat.{ℕ, zero, suc, ◌+◌, ◌-◌, ◌*◌, ◌/◌, ◌^◌, ◌≤◌, ◌<◌}
+use Rattle.std.proofs.Common.{◌∙◌, eq-eqb, le-leb}
+use Prim.Native.Nat.{ℕ, zero, suc, ◌+◌, ◌-◌, ◌*◌, ◌/◌, ◌≤◌, ◌<◌}
 use native.Mathlib.Omega.{arith}
 use mathlib.Core.List.{List, [], ◌∷◌, ◌++◌, append_assoc}
 use Rattle.std.proofs.Math.Bool.{true}
 use Rattle.std.proofs.Math.ListN.{length, get_or, length-append}
 use Rattle.codes.specs.declared.ids.Id.{Id}
 use Rattle.codes.specs.Little.{le_at, le_bytes}
-use Rattle.codes.specs.Little.Laws.{le_at_back, length_le_bytes}
+use Rattle.codes.specs.Little.Laws.{length_le_bytes}
 use Rattle.codes.specs.Ids.{id_at, id_number, id_bytes, halves_at}
 use Rattle.codes.specs.Ids.Laws.{number_halves, halves_back, length_id_bytes}
 use Rattle.refusal.proofs.Laws.Check.{and_both}
@@ -20,7 +20,6 @@ use Rattle.write_image.specs.Image.{keys_in, key_bytes, fence_bytes, fences_of}
 use Rattle.write_image.specs.Image as image
 use Rattle.write_image.specs.Image.Laws.{length_keys_in, length_fence, length_fences, fences_are, fence_is}
 use Rattle.laid_out.proofs.Laws.Rows.{le_at_at}
-use Rattle.demand2.proofs.Laws.Rows.{keys_append}
 use Rattle.demand2.proofs.Laws.Contents.{group_key}
 use Rattle.demand2.proofs.Laws.Rules.{cut_at}
 

@@ -31,7 +31,7 @@ use Rattle.laid_out.proofs.Laws.Rows.{small_is, le_at_at, count_back, body_end, 
 use Rattle.laid_out.proofs.Laws.Laid.{length_laid, body_back, size_fine, tail_fine, sum_fine, file_rows, ranges_fine}
 use Rattle.batch.specs.declared.Edge.{Edge}
 use Rattle.batch.specs.Batch.{Heading, batch_bytes}
-use Rattle.batch_groups.specs.Groups.{any_dead, Group, groups_of, flat, Grouped}
+use Rattle.batch_groups.specs.Groups.{any_dead, Group, groups_of, flat}
 use Rattle.batch_groups.proofs.Laws.Groups.{flat_groups, groups_count}
 use Rattle.write_image.specs.Image.{any_dense, keys_in, key_bytes, partner_bytes, width_of, offset_bytes, log_bytes, tomb_bytes, fences_of, fenced, start_bytes, indexed, minor_of, bit, flags_by, last_sections, sections_by, layout_by, layout_of, file_of}
 use Rattle.write_image.specs.Image.Laws.{length_keys, length_offsets, length_log_bytes, length_tombs, length_start_bytes}

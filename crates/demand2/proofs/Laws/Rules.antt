@@ -19,7 +19,6 @@ use Rattle.frame.specs.Open.{offset_at, offset_good, rising_from, offsets_check,
 use Rattle.batch.specs.declared.Edge.{Edge}
 use Rattle.batch_groups.specs.Groups.{any_dead, Group, flat, Grouped}
 use Rattle.write_image.specs.Image.{partner_bytes, offset_bytes, tomb_bytes, start_bytes}
-use Rattle.write_image.specs.Image as image
 use Rattle.write_image.specs.Image.Laws.{length_tombs, start_first, start_next, start_last}
 use Rattle.full_check.specs.Full.{dead_from}
 use Rattle.demand2.proofs.Laws.Rows.{length_marks_in, marks_at}

@@ -3,20 +3,15 @@
 -- and places included." "Demand 3 now speaks of added sections outside the range only": those of unknown kinds (`kind.unknown`),
 -- which the reserved range is no part of, nor is kind 0x0200: it is kept, and where it is present the copy has minor 1. And the
 -- other way: a later writer's file, with such sections and any minor version, opens where that copy does.
-use Rattle.std.specs.Prelude.{◌≡◌, ◌↔◌, ℕ, List, Bool, true, not}
+use Rattle.std.specs.Prelude.{◌≡◌, ℕ, List}
 use Rattle.std.proofs.Common.{sym, ap, ◌∙◌}
-use Rattle.base.specs.Pick.{pick}
 use Rattle.base.specs.Bytes.{Bytes}
 use Rattle.frame.specs.declared.Opened.{Opened}
 use Rattle.frame.specs.declared.Opening.{Opening}
-use Rattle.frame.specs.declared.ends.Header.{Header}
-use Rattle.frame.specs.Kind as kind
-use Rattle.frame.specs.Frame.{has, all, rows_of, body_of, record_of, at_minor}
+use Rattle.frame.specs.Frame.{rows_of, body_of, record_of, at_minor}
 use Rattle.frame.proofs.Laws.Frame.{header_minor}
 use Rattle.frame.specs.Open.{open_of}
-use Rattle.lookup.specs.Lookup.{Rooms, look_of, look_with}
 use Rattle.reader.specs.declared.header.HeaderRead.{HeaderRead}
-use Rattle.reader.specs.Header.{header_of}
 use Rattle.reader.proofs.Laws.Header.{header_opens, header_good}
 use Rattle.reader.proofs.Laws.Look.{with_record}
 use Rattle.laid_out.proofs.Laws.Laid.{file_rows}
@@ -24,7 +19,6 @@ use Rattle.demand3.specs.Stripped.{Stripped, Later}
 use Rattle.demand3.proofs.Laws.Stripped.{opened_later, copy_opens, copy_answers, added_opens}
 use Rattle.demand3.specs.Strip.{strip, stripped}
 use Rattle.demand3.proofs.Laws.Strip.{is_copy, h64, small, fits}
-use Rattle.demand3.specs.Whole.{Byted}
 use Rattle.demand3.proofs.Laws.Whole.{byted_strip, none_unknown}
 use Rattle.demand3.specs.Demand3.{Alike, Copy, Demand3}
 

@@ -1,7 +1,7 @@
 -- The stripped copy itself: laid out without gaps, the sections' sums as they were stored. It is a copy as Stripped says.
-use Rattle.std.specs.Prelude.{◌≡◌, Bool, true, false, length, take, drop, set, leb}
+use Rattle.std.specs.Prelude.{◌≡◌, Bool, true, false, length, take, leb}
 use Rattle.std.proofs.Math.Path.{refl, sym, ap}
-use Rattle.std.proofs.Common.{ap₂, ◌∙◌, inl, length-append, length-set, length-take, length-take-le}
+use Rattle.std.proofs.Common.{ap₂, ◌∙◌, inl, length-append, length-set, length-take-le}
 use Prim.Native.Nat.{ℕ, zero, suc, ◌+◌, ◌-◌, ◌*◌, ◌^◌, ◌≤◌, ◌<◌}
 use native.Mathlib.Omega.{arith}
 use mathlib.Core.List.{List, [], ◌∷◌, ◌++◌, append_assoc}
@@ -11,7 +11,7 @@ use borrow.Author.Tests.{leb-true}
 use Rattle.base.specs.Pick.{pick}
 use Rattle.base.specs.Over.{part, length_part}
 use Rattle.base.specs.Bytes.{Bytes, bytes_part}
-use Rattle.codes.specs.Little.{le_at, le_bytes}
+use Rattle.codes.specs.Little.{le_bytes}
 use Rattle.codes.specs.Little.Laws.{le_at_lt}
 use Rattle.xxh3_spec.specs.Xxh3.{xxh3}
 use Rattle.refusal.specs.declared.Refusal.{Refusal}
@@ -22,7 +22,7 @@ use Rattle.frame.specs.Frame.{row_at, next_at, rows_from, end_from, rows_of, end
 use Rattle.frame.specs.Kind as kind
 use Rattle.frame.proofs.Laws.Frame.{length_rows, end_room, ranges_parts, ranges_made}
 use Rattle.frame.proofs.Laws.Open.{size_parts, tail_parts}
-use Rattle.frame.specs.Layout.{Section, Layout, payload, entry, entries, body_bytes, trailer, lay_out}
+use Rattle.frame.specs.Layout.{Section, payload, entry, entries, body_bytes, trailer, lay_out}
 use Rattle.laid_out.specs.Rows.{rows_in, SectionsFit, Small}
 use Rattle.laid_out.proofs.Laws.Rows.{length_entry, past_first, length_first, name_back, length_body, body_end, keys_back, edges_back, bits_back}
 use Rattle.laid_out.proofs.Laws.Laid.{length_laid, sum_back, magic_back, body_back, size_fine, tail_fine, file_rows, ranges_fine, head_back, bytes_first}

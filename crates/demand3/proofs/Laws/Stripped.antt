@@ -1,14 +1,11 @@
 -- Demand 3, as a relation: a copy of a file "without the unknown sections, minor 0, and offsets, lengths and checksums
 -- mended"; "Kind 0x0200 now counts as known in demand 3 and isn't taken away; where it is present the stripped copy has minor 1".
 -- It opens exactly if the file does, and it knows the same.
-use Rattle.std.specs.Prelude.{◌≡◌, ◌↔◌, ◌⊎◌, ℕ, ◌+◌, ◌-◌, ◌^◌, ◌≤◌, List, [], ◌∷◌, Bool, not, ◌||◌, length, get_or, eqb}
+use Rattle.std.specs.Prelude.{◌≡◌, ◌↔◌, ℕ, ◌+◌, ◌-◌, ◌≤◌, List, [], Bool, not, ◌||◌, length, eqb}
 use Rattle.std.proofs.Math.Path.{refl, sym, ap, ap₂}
 use Rattle.std.proofs.Common.{◌∙◌, arith}
 use Rattle.std.proofs.Math.Bool.{true, false}
 use Rattle.base.specs.Pick.{pick}
-use Rattle.base.specs.Over.{part}
-use Rattle.codes.specs.Little.{le_at}
-use Rattle.xxh3_spec.specs.Xxh3.{xxh3}
 use Rattle.refusal.specs.declared.Refusal.{Refusal}
 use Rattle.refusal.specs.declared.Check.{Check}
 use Rattle.refusal.proofs.Laws.Check.{fine_parts, fine_both, fine_pick, and_parts, and_both}
@@ -16,9 +13,9 @@ use Rattle.frame.specs.declared.Row.{Row}
 use Rattle.frame.specs.declared.Opened.{Opened}
 use Rattle.frame.specs.declared.Opening.{Opening}
 use Rattle.frame.specs.Kind as kind
-use Rattle.frame.specs.Frame.{record_from, record_of, framed_from, framed_of, has, repeated, range_of, section_of, all, name_good, kinds_good, each_row, kind_good, codec_good, ranges, entry_count, rows_of, end_of, counts_good, key_count, edge_count, bits_of, body_of, foot_len, flags_of, size_check, tail_check, sum_check, reserved_check, codec_check, frame_check}
+use Rattle.frame.specs.Frame.{record_from, record_of, framed_from, framed_of, has, repeated, range_of, section_of, all, name_good, kinds_good, each_row, kind_good, codec_good, ranges, entry_count, rows_of, counts_good, body_of, foot_len, flags_of, size_check, tail_check, sum_check, reserved_check, codec_check, frame_check}
 use Rattle.frame.specs.Frame.Laws.{Table}
-use Rattle.frame.proofs.Laws.Frame.{length_rows, Apart, Short, names_short, ranges_parts, ranges_made, SameKnown, skipped, section_skipped, kinds_known, kinds_some, counts_known, each_good, each_parts, kind_skipped, codec_skipped, name_skipped, ButMinor, flags_minor, head_minor}
+use Rattle.frame.proofs.Laws.Frame.{length_rows, Short, names_short, ranges_parts, ranges_made, SameKnown, skipped, section_skipped, kinds_known, kinds_some, counts_known, each_good, each_parts, kind_skipped, codec_skipped, name_skipped, flags_minor, head_minor}
 use Rattle.frame.specs.Open.{known_of, bytes_at, content_check, file_check, open_of}
 use Rattle.frame.proofs.Laws.Open.{frames_made, opens_parts, opens_record, opens_fine, size_parts, size_made, tail_parts, tail_magic, tail_made, sum_parts, sum_made}
 use Rattle.lookup.specs.Lookup.{Rooms, look_of}

@@ -1,6 +1,6 @@
 -- The stripped copy is made of bytes, and no unknown kind is left in it.
 use Rattle.std.specs.Prelude.{◌≡◌, refl, Bool, true, false, not, length, get_or, take, drop, set}
-use Rattle.std.proofs.Common.{ap, arith, length-take, lit<}
+use Rattle.std.proofs.Common.{arith, length-take, lit<}
 use Prim.Native.Nat.{ℕ, zero, suc, ◌+◌, ◌-◌, ◌/◌, ◌%◌, ◌^◌, ◌<◌}
 use mathlib.Core.List.{List, [], ◌∷◌, ◌++◌}
 use Rattle.base.specs.Pick.{pick}

@@ -1,6 +1,6 @@
 -- What the calls for C tell, read back by the words of include/edge_sst.h: the library's answers, and the record of
 -- `edge_sst_open` where it is lent to a lookup.
-use Rattle.std.specs.Prelude.{◌≡◌, refl, ℕ, ◌+◌, ◌-◌, ◌^◌, ◌≤◌, ◌<◌, List, [], ◌∷◌, Bool, true, false, length, take, drop, replicate, ltb, eqb}
+use Rattle.std.specs.Prelude.{◌≡◌, refl, ℕ, ◌+◌, ◌-◌, ◌^◌, ◌≤◌, ◌<◌, List, [], ◌∷◌, Bool, true, false, length, take, drop, replicate, ltb}
 use Rattle.std.proofs.Common.{sym, ap, ◌∙◌, arith, append-nil, lt-ltb}
 use Rattle.base.specs.Bytes.{Bytes}
 use Rattle.base.specs.Pick.{pick}
@@ -20,7 +20,6 @@ use Rattle.lookup.specs.declared.Looked.{Looked}
 use Rattle.lookup.proofs.Laws.Record.{holds}
 use Rattle.lookup.specs.Lookup.{Outcome, Rooms, refused, look_with, look_of, looked_of, partners_left, logs_left, marks_left}
 use Rattle.lookup.specs.Calls.{alone, lent}
-use Rattle.frame.specs.declared.ends.Header.{Header}
 use Rattle.reader.specs.declared.header.HeaderRead.{HeaderRead}
 use Rattle.reader.specs.Header.{header_of}
 use Rattle.reader.proofs.Laws.Header.{header_long, header_ids}
@@ -36,15 +35,10 @@ use Rattle.summary.proofs.Laws.Promise.{summary_refuses, summary_there, summary_
 use Rattle.write_file.specs.declared.Written.{Written}
 use Rattle.listing.specs.declared.Listed.{Listed}
 use Rattle.edge_sst_c.specs.declared.EdgeSstOpened.{EdgeSstOpened}
-use Rattle.edge_sst_c.specs.declared.header.EdgeSstHeader.{EdgeSstHeader}
 use Rattle.edge_sst_c.specs.declared.look.EdgeSstLooked.{EdgeSstLooked}
 use Rattle.edge_sst_c.specs.declared.desk.EdgeSstTold.{EdgeSstTold}
-use Rattle.edge_sst_c.specs.declared.desk.EdgeSstDone.{EdgeSstDone}
-use Rattle.edge_sst_c.specs.declared.section_list.EdgeSstListed.{EdgeSstListed}
-use Rattle.edge_sst_c.specs.declared.figures.ExtremesTold.{ExtremesTold}
-use Rattle.edge_sst_c.specs.declared.figures.EdgeSstSummary.{EdgeSstSummary}
 use Rattle.edge_sst_c.specs.Summary.{none_told, extremes_told, figures_told, summary_told}
-use Rattle.edge_sst_c.specs.Told.{truth, record_with, refusal_with, opened_told}
+use Rattle.edge_sst_c.specs.Told.{truth, record_with, opened_told}
 use Rattle.edge_sst_c.proofs.Laws.Told.{told_good, told_refused}
 use Rattle.edge_sst_c.specs.Header.{header_told}
 use Rattle.edge_sst_c.specs.Look.{looked_told, record_lent, PartnersTold, EdgesTold}

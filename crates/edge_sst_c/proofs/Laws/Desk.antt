@@ -5,8 +5,6 @@ use Rattle.refusal.specs.declared.Refusal.{Refusal}
 use Rattle.refusal.specs.declared.Check.{Check}
 use Rattle.refusal.specs.Refusal.{number_of, place_of, beside_of}
 use Rattle.readout.specs.declared.ReadOut.{ReadOut}
-use Rattle.edge_sst_c.specs.declared.desk.EdgeSstTold.{EdgeSstTold}
-use Rattle.edge_sst_c.specs.declared.desk.EdgeSstDone.{EdgeSstDone}
 use Rattle.edge_sst_c.specs.Desk.{check_told, read_told}
 
 -- ---- laws

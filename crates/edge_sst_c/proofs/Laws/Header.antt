@@ -10,7 +10,6 @@ use Rattle.refusal.specs.declared.Refusal.{Refusal}
 use Rattle.refusal.specs.Refusal.{number_of, place_of, beside_of}
 use Rattle.frame.specs.declared.ends.Header.{Header}
 use Rattle.reader.specs.declared.header.HeaderRead.{HeaderRead}
-use Rattle.edge_sst_c.specs.declared.header.EdgeSstHeader.{EdgeSstHeader}
 use Rattle.edge_sst_c.specs.Header.{fields_told, without_fields, header_told}
 
 -- ---- laws

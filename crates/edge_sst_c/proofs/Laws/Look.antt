@@ -1,14 +1,12 @@
 -- What the C lookups tell of the library's answers, and which record C lends.
-use Rattle.std.specs.Prelude.{◌≡◌, ℕ, ◌+◌, ◌≤◌, ◌<◌, List, length, get_or, ltb}
+use Rattle.std.specs.Prelude.{◌≡◌, ℕ, ◌≤◌, ◌<◌, List}
 use Rattle.std.proofs.Common.{ap, ◌∙◌, lt-ltb, le-ltb}
-use Rattle.base.specs.Pick.{pick}
 use Rattle.refusal.specs.declared.Refusal.{Refusal}
 use Rattle.refusal.specs.Refusal.{number_of, place_of, beside_of}
 use Rattle.frame.specs.declared.Opened.{Opened}
-use Rattle.frame.specs.declared.Range.{Range}
 use Rattle.lookup.specs.declared.Looked.{Looked}
-use Rattle.lookup.specs.Lookup.{Outcome, Rooms, looked_of, partners_left, logs_left, marks_left}
-use Rattle.lookup.specs.Calls.{lent, Alone, Whole}
+use Rattle.lookup.specs.Lookup.{Outcome}
+use Rattle.lookup.specs.Calls.{Alone, Whole}
 use Rattle.edge_sst_c.specs.declared.look.EdgeSstLooked.{EdgeSstLooked}
 use Rattle.edge_sst_c.specs.Look.{refused_told, looked_told, byte_or, PartnersTold, EdgesTold}
 

@@ -1,6 +1,6 @@
 -- What the numbers of a C call say of a refusal: `number` is 0 exactly if nothing is refused, and where it is not 0 every
 -- output is left as it was.
-use Rattle.std.specs.Prelude.{◌≡◌, refl, ℕ, ◌/◌, ◌≤◌, List, ◌⊎◌, length}
+use Rattle.std.specs.Prelude.{◌≡◌, refl, ℕ, ◌/◌, ◌≤◌, List, length}
 use Rattle.std.proofs.Common.{sym, ap, ◌∙◌, arith, inl, inr}
 use Rattle.std.proofs.Math.Decide.{dec_le}
 use Rattle.refusal.specs.declared.Refusal.{Refusal}

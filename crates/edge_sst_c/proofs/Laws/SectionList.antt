@@ -13,7 +13,6 @@ use Rattle.listing.specs.declared.ListPlan.{ListPlan}
 use Rattle.listing.specs.List.{plan_of, row_is}
 use Rattle.listing.proofs.Laws.List.{plan_fits}
 use Rattle.listing.specs.Table.{rows_to}
-use Rattle.edge_sst_c.specs.declared.section_list.EdgeSstListed.{EdgeSstListed}
 use Rattle.edge_sst_c.specs.SectionList.{listed_told, numbers_of, numbered, in_numbers}
 
 -- ---- laws

@@ -1,13 +1,11 @@
 -- What the summary's call for C tells of the library's answer.
-use Rattle.std.specs.Prelude.{◌≡◌, ℕ, List, replicate}
+use Rattle.std.specs.Prelude.{◌≡◌, ℕ, List}
 use Rattle.std.proofs.Common.{sym, ap, ◌∙◌}
 use Rattle.codes.specs.declared.ids.Id.{Id}
 use Rattle.codes.specs.Ids.{id_bytes}
 use Rattle.summary.specs.declared.figures.Extremes.{Extremes}
-use Rattle.summary.specs.declared.figures.Summary.{Summary}
 use Rattle.summary.specs.declared.Summarised.{Summarised}
 use Rattle.edge_sst_c.specs.declared.desk.EdgeSstTold.{EdgeSstTold}
-use Rattle.edge_sst_c.specs.declared.figures.ExtremesTold.{ExtremesTold}
 use Rattle.edge_sst_c.specs.declared.figures.EdgeSstSummary.{EdgeSstSummary}
 use Rattle.edge_sst_c.specs.Desk.{check_told}
 use Rattle.edge_sst_c.specs.Summary.{none_told, extremes_told, figures_told, summary_told}

@@ -1,6 +1,5 @@
 -- `edge_sst_c::record_told` meets its contract.
 use Rattle.edge_sst_c.specs.Told.{record_with}
-use borrow.Author.Rules.{rules}
 use Rattle.edge_sst_c.proofs.record_told.Goals as goal
 
 pub returns : goal.returns

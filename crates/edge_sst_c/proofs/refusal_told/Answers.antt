@@ -1,7 +1,5 @@
 -- `edge_sst_c::refusal_told` meets its contract.
-use mathlib.Core.Path.{ap₂}
 use Rattle.edge_sst_c.specs.Told.{refusal_with}
-use borrow.Author.Rules.{rules}
 use Rattle.edge_sst_c.proofs.refusal_told.Goals as goal
 
 pub returns : goal.returns

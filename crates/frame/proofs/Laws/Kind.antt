@@ -1,6 +1,6 @@
 -- Slots: each kind that is read has one of its own.
 use Rattle.std.specs.Prelude.{◌≡◌, refl, ℕ, zero, suc, ◌≤◌, ◌<◌, Bool, true, false, not, ◌&&◌, List, [], ◌∷◌, length, ltb, eqb}
-use Rattle.std.proofs.Common.{sym, ap, ◌∙◌, arith, eqb-true, eq-eqb, ne_eqb, ltb-false}
+use Rattle.std.proofs.Common.{sym, ap, arith, eqb-true, eq-eqb, ne_eqb, ltb-false}
 use Rattle.std.proofs.lemmas.Bool.{not-true}
 use Rattle.base.specs.Pick.{pick}
 use Rattle.refusal.proofs.Laws.Check.{and_parts}

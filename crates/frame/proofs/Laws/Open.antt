@@ -18,8 +18,7 @@ use Rattle.frame.specs.declared.Framed.{Framed}
 use Rattle.frame.specs.declared.Framing.{Framing}
 use Rattle.frame.specs.declared.Opening.{Opening}
 use Rattle.frame.specs.Kind as kind
-use Rattle.frame.specs.Frame.{rows_of, section_of, width_good, sizes_good, counts_good, flags_of, foot_len, body_of, record_of, framed_from, framed_of, size_check, head_check, tail_check, sum_check, table_check, reserved_check, codec_check, range_check, counts_check, ends_check, rows_check, footer_check, shape_check, frame_check}
-use Rattle.frame.specs.Frame.Laws.{Table}
+use Rattle.frame.specs.Frame.{rows_of, section_of, width_good, sizes_good, counts_good, flags_of, foot_len, body_of, record_of, framed_from, framed_of, size_check, head_check, tail_check, sum_check, table_check, reserved_check, codec_check, counts_check, ends_check, rows_check, footer_check, shape_check, frame_check}
 use Rattle.frame.proofs.Laws.Frame.{table_parts, table_made, section_within}
 use Rattle.frame.specs.Open.{known_of, bytes_at, inside, options_inside, record_within, keys_from, offsets_check, starts_check, fences_good, content_check, file_check, framing, opening, open_of}
 use Rattle.frame.specs.Open.Laws.{FramesBy, Frames}

@@ -1,11 +1,6 @@
 -- `full_check::check` meets its contract.
-use mathlib.Core.Path.{◌≡◌, sym, ◌∙◌}
+use mathlib.Core.Path.{sym, ◌∙◌}
 use Rattle.full_check.specs.Checked.{checked_refused, checked_fine}
-use native.Mathlib.Omega.{arith}
-use borrow.Author.Rules.{rules}
-use Rattle.full_check.proofs.check.Reads as reads
-use Rattle.full_check.proofs.check.Lts as lts
-use Rattle.full_check.proofs.checked.Reads as checked_reads
 use Rattle.full_check.proofs.check.Goals as goal
 
 pub returns-in-Refused : goal.returns-in-Refused

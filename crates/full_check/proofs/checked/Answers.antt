@@ -1,12 +1,6 @@
 -- `full_check::checked` meets its contract.
-use mathlib.Core.Path.{◌≡◌, sym, ◌∙◌}
+use mathlib.Core.Path.{sym, ◌∙◌}
 use Rattle.full_check.specs.Checked.{full_unopened, full_opened, checked_good, checked_bad}
-use native.Mathlib.Omega.{arith}
-use borrow.Author.Rules.{rules}
-use Rattle.full_check.proofs.checked.Reads as reads
-use Rattle.full_check.proofs.checked.Lts as lts
-use Rattle.full_check.proofs.sections_check.Reads as sections_check_reads
-use Rattle.reader.proofs.open.open.Reads as open_reads
 use Rattle.full_check.proofs.checked.Goals as goal
 
 pub sections_check-requires : goal.sections_check-requires

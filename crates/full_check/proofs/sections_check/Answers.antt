@@ -1,13 +1,7 @@
 -- `full_check::sections_check` meets its contract.
-use mathlib.Core.Path.{◌≡◌, sym, ◌∙◌}
+use mathlib.Core.Path.{sym, ◌∙◌}
 use Rattle.refusal.proofs.Laws.Check.{bad_then, fine_then}
 use Rattle.frame.proofs.Laws.Open.{opens_parts}
-use native.Mathlib.Omega.{arith}
-use borrow.Author.Rules.{rules}
-use Rattle.full_check.proofs.sections_check.Reads as reads
-use Rattle.full_check.proofs.sections_check.Lts as lts
-use Rattle.full_check.proofs.data.edges_check.Reads as edges_check_reads
-use Rattle.full_check.proofs.sums.sums_check.Reads as sums_check_reads
 use Rattle.full_check.proofs.sections_check.Goals as goal
 
 pub sums_check-requires : goal.sums_check-requires

@@ -1,26 +1,24 @@
 -- What a good group says: of its degree and its partners, of its length, and that its bytes are what is written for them.
-use Rattle.std.specs.Prelude.{◌≡◌, refl, ℕ, zero, suc, ◌+◌, ◌-◌, ◌*◌, ◌/◌, ◌%◌, ◌^◌, ◌≤◌, ◌<◌, Bool, true, false, length, get_or}
+use Rattle.std.specs.Prelude.{◌≡◌, refl, ℕ, zero, suc, ◌+◌, ◌-◌, ◌*◌, ◌≤◌, Bool, true, false, length}
 use Rattle.std.proofs.Math.Path.{sym, ap, ap₂}
-use Rattle.std.proofs.Common.{subst, ◌∙◌, add-zero, add-one, take-append-drop, length-drop, drop_of_length-le, drop-drop}
+use Rattle.std.proofs.Common.{subst, ◌∙◌, add-one, length-drop, drop_of_length-le}
 use native.Mathlib.Omega.{arith}
 use mathlib.Core.List.{List, ◌∷◌, ◌++◌, append_assoc}
 use Rattle.std.proofs.Math.ListN.{drop}
-use Rattle.std.proofs.Math.Seq.{append_snoc, drop-cons}
-use Rattle.std.proofs.Math.Arith.{digits_div, digits_mod}
+use Rattle.std.proofs.Math.Seq.{drop-cons}
 use Rattle.base.specs.Bytes.{Bytes}
 use Rattle.codes.specs.declared.ids.Id.{Id}
 use Rattle.codes.specs.declared.varint.Varint.TheVariants.{Value}
-use Rattle.codes.specs.Little.{le_at, le_bytes}
-use Rattle.codes.specs.Little.Laws.{le_at_low, le_at_lt}
-use Rattle.codes.specs.Ids.{be_at, be_bytes, id_number, id_bytes, halves_at}
+use Rattle.codes.specs.Little.{le_at}
+use Rattle.codes.specs.Little.Laws.{le_at_lt}
+use Rattle.codes.specs.Ids.{id_number, halves_at}
 use Rattle.codes.specs.Ids.Laws.{be_at_lt}
 use Rattle.codes.specs.Varint.{varint_at, var_bytes}
 use Rattle.codes.specs.Varint.Laws.{varint_next}
 use Rattle.codes.specs.Stood.{le_stood, id_stood, varint_stood}
-use Rattle.group.specs.declared.fault.Fault.{Fault}
 use Rattle.group.specs.declared.head.Head.{Head}
 use Rattle.group.specs.declared.split.Step.{Step}
-use Rattle.group.specs.Group.{Decoded, good, bad, split_step, step_at, walk_from, degree_of, head_of, group_of, is_good, partners_of, bytes_of}
+use Rattle.group.specs.Group.{good, bad, split_step, step_at, walk_from, degree_of, head_of, group_of, is_good, partners_of, bytes_of}
 use Rattle.group.specs.Group.Laws.{tag_of, Headed}
 use Rattle.group.proofs.Laws.Group.{SplitRead, split_read, split_varint, dense_read, step_split, step_dense, step_next, head_is, head_headed, group_walk, group_bad, good_turn, good_end, good_is, length_bytes_of}
 use Rattle.group.specs.Written.{Halves, Above, Rising, step_bytes, payload_of, written_as}

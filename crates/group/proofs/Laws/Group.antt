@@ -2,7 +2,7 @@
 use Rattle.std.specs.Prelude.{◌≡◌, refl, Bool, length, get_or, ltb, leb}
 use Rattle.std.proofs.Math.Path.{sym, ap}
 use Rattle.std.proofs.Common.{ap₂, ◌∙◌, zero-add, length-append}
-use Prim.Native.Nat.{ℕ, zero, suc, ◌+◌, ◌-◌, ◌*◌, ◌^◌, ◌≤◌, ◌<◌}
+use Prim.Native.Nat.{ℕ, suc, ◌+◌, ◌-◌, ◌*◌, ◌^◌, ◌≤◌, ◌<◌}
 use Rattle.std.proofs.Math.Nat.{sub-zero}
 use native.Mathlib.Omega.{arith}
 use Rattle.std.proofs.Math.Decide.{dec_le, dec_lt, ℕ_discrete}
@@ -25,7 +25,7 @@ use Rattle.group.specs.declared.head.Head.{Head}
 use Rattle.group.specs.declared.split.Step.{Step}
 use Rattle.group.specs.declared.GroupVerdict.{GroupVerdict}
 use Rattle.group.specs.Fault.{fault_at}
-use Rattle.group.specs.Group.{split_tag, dense_tag, Decoded, good, bad, onVarint, split_step, dense_step, step_at, on_step, cons, walk_from, floor_of, degree_of, head_of, on_head, group_of, is_good, partners_of, bytes_of, verdict_of}
+use Rattle.group.specs.Group.{Decoded, good, bad, onVarint, split_step, dense_step, step_at, on_step, cons, walk_from, floor_of, degree_of, head_of, on_head, group_of, is_good, partners_of, bytes_of, verdict_of}
 use Rattle.group.specs.Group.Laws.{tag_of, Headed}
 
 -- ---- a partner of a split group

@@ -2,7 +2,6 @@
 use Rattle.std.specs.Prelude.{◌≡◌, refl, ℕ, zero, suc, ◌+◌, ◌-◌, ◌*◌, ◌^◌, ◌≤◌, ◌<◌, List, [], ◌∷◌, ◌++◌, Bool, true, false, length, get_or}
 use Rattle.std.proofs.Common.{sym, ap, ◌∙◌, zero-add, arith, append-nil, append_assoc, length-append, le-leb}
 use Rattle.std.proofs.Math.Seq.{append_snoc, get_or-append_seam}
-use Rattle.base.specs.Pick.{pick}
 use Rattle.codes.specs.declared.ids.Id.{Id}
 use Rattle.codes.specs.declared.varint.Varint.TheVariants.{Value}
 use Rattle.codes.specs.Little.{le_at, le_bytes}
@@ -12,7 +11,7 @@ use Rattle.codes.specs.Ids.Laws.{length_id_bytes, halves_back}
 use Rattle.codes.specs.Varint.{varint_at, var_bytes}
 use Rattle.codes.specs.Varint.Laws.{read_back}
 use Rattle.group.specs.declared.split.Step.{Step}
-use Rattle.group.specs.Group.{split_tag, dense_tag, Decoded, good, split_step, step_at, cons, walk_from, group_of, bytes_of}
+use Rattle.group.specs.Group.{good, split_step, step_at, cons, walk_from, group_of, bytes_of}
 use Rattle.group.specs.Group.Laws.{tag_of}
 use Rattle.group.proofs.Laws.Group.{split_good, dense_good, step_split, step_dense, walk_end, walk_more, head_tagged, group_walk}
 use Rattle.group.specs.Written.{Halves, Above, Rising, split_from, split_bytes, dense_bytes, step_bytes, payload_of, written_as}

@@ -11,17 +11,16 @@ use Rattle.std.proofs.lemmas.Bool.{lt-leb}
 use Rattle.codes.specs.declared.ids.Id.{Id}
 use Rattle.codes.specs.declared.varint.Varint.{Varint}
 use Rattle.codes.specs.declared.varint.Varint.TheVariants.{Value}
-use Rattle.codes.specs.declared.varint.Unread.{Unread}
 use Rattle.codes.specs.Ids.{id_number}
 use Rattle.codes.specs.Varint.{varint_at}
 use Rattle.codes.specs.Varint.Laws.{varint_next}
-use Rattle.codes.specs.NoNumber.{NoNumber, no_number}
+use Rattle.codes.specs.NoNumber.{no_number}
 use Rattle.group.specs.declared.fault.Flaw.{Flaw}
 use Rattle.group.specs.declared.fault.Fault.{Fault}
 use Rattle.group.specs.declared.head.Head.{Head}
 use Rattle.group.specs.declared.split.Step.{Step}
 use Rattle.group.specs.Fault.{fault_at}
-use Rattle.group.specs.Group.{Decoded, good, bad, dense_size, lower_size, split_tag, dense_tag, split_step, step_at, cons, walk_from, degree_of, head_of, group_of}
+use Rattle.group.specs.Group.{Decoded, good, bad, split_tag, dense_tag, split_step, step_at, cons, walk_from, degree_of, head_of, group_of}
 use Rattle.group.specs.Group.Laws.{Headed}
 use Rattle.group.proofs.Laws.Group.{split_unread, split_over, split_short, split_good, dense_short, dense_good, step_split, step_dense, step_next, head_unread, head_none, head_short, head_split, head_dense, head_tag, head_is, head_tagged, head_headed, group_walk, group_bad, walk_end, walk_over, walk_bad, walk_low, walk_more}
 use Rattle.group.specs.Wrong.{PartnersRise, ReadSoFar, NextPartner, Wrong}

@@ -5,12 +5,9 @@ use native.Mathlib.Omega.{arith}
 use mathlib.Core.List.{List}
 use mathlib.Core.Bool.{true, false}
 use Rattle.base.specs.Over.{over}
-use Rattle.base.specs.Bytes.{Bytes}
 use Rattle.group.specs.Group.{Decoded, partners_of, bytes_of}
 use Rattle.group.proofs.Laws.Group.{group_bad, not_bad}
-use Rattle.group.specs.Good.{Fill}
 use Rattle.group.proofs.Laws.Good.{fill, fill_length}
-use borrow.Author.Rules.{rules}
 use Rattle.group.proofs.fill_group.Goals as goal
 
 pub fill_split-requires : goal.fill_split-requires

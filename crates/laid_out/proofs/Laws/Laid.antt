@@ -1,7 +1,7 @@
 -- A file that was laid out: its frame is good, and its entries, counts and sections are what they were laid out from.
-use Rattle.std.specs.Prelude.{◌≡◌, refl, ℕ, zero, suc, ◌+◌, ◌-◌, ◌*◌, ◌^◌, ◌≤◌, ◌<◌, Bool, true, false, not, get_or, take, drop, ltb, leb, eqb}
+use Rattle.std.specs.Prelude.{◌≡◌, refl, ℕ, ◌+◌, ◌-◌, ◌^◌, ◌≤◌, ◌<◌, get_or, take}
 use Rattle.std.proofs.Math.Path.{sym}
-use Rattle.std.proofs.Common.{ap, ap₂, ◌∙◌, arith, length-append, drop_at, lit<}
+use Rattle.std.proofs.Common.{ap, ◌∙◌, arith, length-append, drop_at, lit<}
 use mathlib.Core.List.{List, [], ◌∷◌, ◌++◌, append_assoc}
 use Rattle.std.proofs.Math.ListN.{length, get_or-append}
 use Rattle.std.proofs.Math.Seq.{take_at}
@@ -15,7 +15,7 @@ use Rattle.refusal.specs.declared.Check.{Check}
 use Rattle.refusal.proofs.Laws.Check.{fine_both, good_fine}
 use Rattle.frame.specs.Kind as kind
 use Rattle.frame.specs.Frame.{rows_of, ranges, foot_len, body_of, size_check, tail_check, sum_check}
-use Rattle.frame.specs.Layout.{Section, Layout, payload, entries, body_bytes, trailer, lay_out}
+use Rattle.frame.specs.Layout.{Section, Layout, payload, body_bytes, trailer, lay_out}
 use Rattle.laid_out.proofs.Laws.Sum.{xxh3_lt}
 use Rattle.laid_out.specs.Rows.{rows_in, Small}
 use Rattle.laid_out.proofs.Laws.Rows.{le_at_at, ranges_back, length_body, body_rows}

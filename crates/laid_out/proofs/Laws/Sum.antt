@@ -2,7 +2,7 @@
 use Rattle.std.specs.Prelude.{ℕ, ◌*◌, ◌/◌, ◌%◌, ◌^◌, ◌<◌, List, Bool, true, false, length, ltb, leb, cond}
 use Rattle.std.proofs.Common.{div-le_self, arith}
 use Rattle.std.proofs.lemmas.Nat.{xor_lt}
-use Rattle.xxh3_spec.specs.Xxh3.{mul, xorshift, rrmxmx, of1to3, of4to8, of9to16, small, of17to128, of129to240, merge, finish, large, secret, xxh3}
+use Rattle.xxh3_spec.specs.Xxh3.{mul, xorshift, rrmxmx, of1to3, of4to8, of9to16, small, of17to128, of129to240, merge, finish, large, xxh3}
 
 -- every sum ends with a product of 64 bits and a shift
 shifted_lt : (k a b : ℕ) → xorshift k (mul a b) < 2 ^ 64

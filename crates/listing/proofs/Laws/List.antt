@@ -1,5 +1,5 @@
 -- The laws of the section list.
-use Rattle.std.specs.Prelude.{◌≡◌, refl, ◌↔◌, ℕ, zero, suc, ◌-◌, ◌≤◌, ◌<◌, List, Bool, true, false, length, ltb}
+use Rattle.std.specs.Prelude.{◌≡◌, refl, ◌↔◌, ℕ, zero, suc, ◌≤◌, ◌<◌, List, Bool, true, false, length, ltb}
 use Rattle.std.proofs.Common.{sym, ◌∙◌, arith, length-set, lt-ltb, le-ltb, ltb-false}
 use Rattle.std.proofs.Math.Path.{ap}
 use Rattle.refusal.specs.declared.Refusal.{Refusal}

@@ -1,5 +1,5 @@
 -- The rows that are written have room, and one more is written in each turn.
-use Rattle.std.proofs.Common.{◌≤◌, length, add-one, ap, refl, arith}
+use Rattle.std.proofs.Common.{length, add-one, ap, refl, arith}
 use Rattle.listing.specs.declared.ListPlan.{ListPlan}
 use Rattle.listing.specs.List.{listed}
 use Rattle.listing.proofs.Laws.List.{plan_fits}

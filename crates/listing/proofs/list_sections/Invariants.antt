@@ -1,5 +1,5 @@
 -- The table after i turns: its first i rows are written.
-use Rattle.std.proofs.Common.{◌≡◌, ℕ, ◌-◌, ◌≤◌}
+use Rattle.std.proofs.Common.{◌≡◌, ◌-◌, ◌≤◌}
 use Rattle.listing.specs.List.{listed}
 use Rattle.listing.proofs.list_sections.Given as goal
 

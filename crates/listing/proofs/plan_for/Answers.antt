@@ -7,12 +7,6 @@ use Rattle.frame.proofs.Laws.Open.{opens_parts}
 use Rattle.listing.specs.List.{refused_plan}
 use Rattle.listing.proofs.Laws.List.{plan_unopened, plan_short, plan_good}
 use native.Mathlib.Omega.{arith}
-use borrow.Author.Rules.{rules}
-use Rattle.listing.proofs.plan_for.Reads as reads
-use Rattle.listing.proofs.plan_for.Lts as lts
-use Rattle.listing.proofs.count_of.Reads as count_of_reads
-use Rattle.listing.proofs.refused.Reads as refused_reads
-use Rattle.reader.proofs.open.open.Reads as open_reads
 use Rattle.listing.proofs.plan_for.Goals as goal
 
 pub count_of-n-requires : goal.count_of-n-requires

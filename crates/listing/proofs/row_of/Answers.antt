@@ -2,10 +2,6 @@
 use mathlib.Core.Path.{sym, ◌∙◌}
 use Rattle.listing.specs.List.{row_is}
 use Rattle.listing.proofs.Laws.List.{entry_there, entry_none}
-use borrow.Author.Rules.{rules}
-use Rattle.listing.proofs.row_of.Reads as reads
-use Rattle.listing.proofs.row_of.Lts as lts
-use Rattle.reader.proofs.rows.section_at.Reads as section_at_reads
 use Rattle.listing.proofs.row_of.Goals as goal
 
 pub returns-in-Entry : goal.returns-in-Entry

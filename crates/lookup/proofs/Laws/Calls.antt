@@ -1,5 +1,5 @@
 -- Lookups by their ways out, as the code goes through them: f the file, o the record.
-use Rattle.std.specs.Prelude.{◌≡◌, ℕ, ◌+◌, ◌*◌, ◌/◌, ◌≤◌, ◌<◌, Bool, not, ◌||◌, length, ltb, leb}
+use Rattle.std.specs.Prelude.{◌≡◌, ℕ, ◌+◌, ◌*◌, ◌≤◌, ◌<◌, Bool, not, ◌||◌, length, ltb, leb}
 use Rattle.std.proofs.Math.Path.{refl, ap, ap₂}
 use Rattle.std.proofs.Common.{sym, ◌∙◌, arith, true≢false}
 use Rattle.std.proofs.Math.Decide.{dec_le}
@@ -14,7 +14,7 @@ use Rattle.refusal.specs.declared.Check.{Check}
 use Rattle.refusal.specs.Check.{◌⊳◌, refuse}
 use Rattle.refusal.proofs.Laws.Check.{bad_then, fine_then}
 use Rattle.frame.specs.declared.Opened.{Opened}
-use Rattle.frame.specs.Open.{Known, known_of, bytes_at, offset_at}
+use Rattle.frame.specs.Open.{Known, known_of, bytes_at}
 use Rattle.index.specs.declared.keys.Found.{Found}
 use Rattle.index.specs.Find.{find_in}
 use Rattle.degrees.specs.declared.Sum.{Sum}
@@ -23,7 +23,6 @@ use Rattle.group.specs.Group.{bytes_of}
 use Rattle.lookup.specs.declared.Looked.{Looked}
 use Rattle.lookup.specs.declared.groups.GroupSeen.{GroupSeen}
 use Rattle.lookup.specs.Lookup.{Outcome, found, absent, refused, outcome, Rooms, logs_from, marks_from, within, first_of, short, partners_at, before, look_check, look_group, on_found, look_in, looked_of, partners_left, logs_left, marks_left}
-use Rattle.lookup.specs.Groups.{group_seen}
 use Rattle.lookup.proofs.Laws.Groups.{seen_fault, seen_degree, seen_refusal}
 use Rattle.lookup.specs.Calls.{alone, Alone, begins, ends, group, Whole}
 

@@ -17,11 +17,11 @@ use Rattle.frame.specs.Open.{Known, offset_at}
 use Rattle.index.specs.declared.keys.Found.{Found}
 use Rattle.index.specs.Find.{find_in}
 use Rattle.degrees.specs.Degrees.{misplaced}
-use Rattle.group.specs.Group.{Decoded, good, bad, is_good, group_of, partners_of}
+use Rattle.group.specs.Group.{Decoded, good, bad, is_good, group_of}
 use Rattle.group.specs.declared.fault.Fault.{Fault}
 use Rattle.group.specs.Fault.{refusal_of}
 use Rattle.group.proofs.Laws.Fault.{fault_numbers, fault_listed, fault_once, fault_apart}
-use Rattle.lookup.specs.Lookup.{Outcome, found, refused, outcome, Rooms, group_check, group_fault, within, short, partners_at, before, look_check, look_group, on_found, look_in}
+use Rattle.lookup.specs.Lookup.{Outcome, refused, outcome, Rooms, group_check, group_fault, within, short, partners_at, before, look_check, look_group, on_found, look_in}
 use Rattle.lookup.specs.Given.{look_numbers, FaultIn, UnplacedIn, MisplacedIn}
 
 -- ---- a group's faults

@@ -1,11 +1,11 @@
 -- The group asked for, as its own call sees it.
-use Rattle.std.specs.Prelude.{◌≡◌, refl, ℕ, ◌*◌, ◌≤◌, ◌<◌, List, Bool, true, false, ◌||◌, length, ltb}
-use Rattle.std.proofs.Common.{sym, ap, ◌∙◌, arith}
+use Rattle.std.specs.Prelude.{◌≡◌, refl, ℕ, ◌*◌, ◌≤◌, ◌<◌, List, Bool, true, length, ltb}
+use Rattle.std.proofs.Common.{◌∙◌, arith}
 use borrow.Author.Tests.{lt-ltb, le-ltb, ltb-false}
 use Rattle.base.specs.Over.{part}
 use Rattle.refusal.specs.declared.Refusal.{Refusal}
 use Rattle.refusal.specs.declared.Check.{Check}
-use Rattle.refusal.specs.Check.{◌⊳◌, refuse}
+use Rattle.refusal.specs.Check.{refuse}
 use Rattle.refusal.proofs.Laws.Check.{fine_parts, either_parts}
 use Rattle.degrees.specs.Degrees.{misplaced}
 use Rattle.codes.specs.declared.ids.Id.{Id}

@@ -1,6 +1,6 @@
 -- The laws of lookups.
-use Rattle.std.specs.Prelude.{◌≡◌, refl, List, [], ◌∷◌, length, get_or, set}
-use Rattle.std.proofs.Common.{sym, ap₂, ◌∙◌, add-one}
+use Rattle.std.specs.Prelude.{◌≡◌, refl, List, [], length, get_or, set}
+use Rattle.std.proofs.Common.{sym, ◌∙◌, add-one}
 use Rattle.std.proofs.Math.Path.{ap}
 use Prim.Native.Nat.{ℕ, zero, suc, ◌+◌, ◌-◌, ◌*◌, ◌/◌, ◌%◌, ◌^◌, ◌≤◌, ◌<◌}
 use Rattle.std.proofs.Math.Nat.{zero-div}

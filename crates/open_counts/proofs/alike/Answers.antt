@@ -1,7 +1,6 @@
 -- `counts::alike` meets its contract.
 use mathlib.Core.Path.{◌≡◌, refl}
 use mathlib.Core.Bool.{Bool, true, false, beq}
-use borrow.Author.Rules.{rules}
 use Rattle.open_counts.proofs.alike.Goals as goal
 
 beq_true : (b : Bool) → b ≡ beq true b

@@ -1,8 +1,6 @@
 -- `counts::counts_good` meets its contract.
-use mathlib.Core.Path.{◌≡◌, sym, ◌∙◌}
-use borrow.Author.Tests.{not-true, not-false}
+use mathlib.Core.Path.{sym, ◌∙◌}
 use Rattle.frame.specs.Frame.{counts_good}
-use borrow.Author.Rules.{rules}
 use Rattle.open_counts.proofs.counts_good.Goals as goal
 
 pub returns-then-not-width_good : goal.returns-then-not-width_good

@@ -7,10 +7,6 @@ use borrow.Author.Tests.{le-leb, lt-leb, eq-eqb, ne_eqb}
 use Rattle.frame.specs.declared.Opened.{Opened}
 use Rattle.frame.specs.Kind as kind
 use Rattle.frame.specs.Frame.{sizes_good}
-use Rattle.frame.proofs.kind.Keys.bytes.Reads as kind_keys_bytes_reads
-use Rattle.frame.proofs.kind.Logs.bytes.Reads as kind_logs_bytes_reads
-use Rattle.frame.proofs.kind.Offsets.bytes.Reads as kind_offsets_bytes_reads
-use borrow.Author.Rules.{rules}
 use native.Mathlib.Omega.{arith}
 use Rattle.open_counts.proofs.sizes_good.Goals as goal
 

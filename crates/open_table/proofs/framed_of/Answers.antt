@@ -1,6 +1,5 @@
 -- `table::framed_of` meets its contract.
 use Rattle.open_table.specs.Pass.{framed_seen}
-use borrow.Author.Rules.{rules}
 use Rattle.open_table.proofs.framed_of.Goals as goal
 
 pub returns : goal.returns

@@ -1,9 +1,7 @@
 -- `table::judged` meets its contract.
 use mathlib.Core.Path.{sym, ap, ◌∙◌}
-use borrow.Author.Tests.{not-true, not-false}
 use Rattle.frame.specs.declared.Framing.{Framing}
 use Rattle.open_table.specs.Pass.Laws.{judged_missing, judged_reserved, judged_codec, judged_range, judged_good}
-use borrow.Author.Rules.{rules}
 use native.Mathlib.Omega.{arith}
 use Rattle.open_table.proofs.judged.Goals as goal
 

@@ -1,9 +1,7 @@
 -- `table::needed_met` meets its contract.
-use borrow.Author.Tests.{not-true, not-false}
 use mathlib.Core.Path.{◌≡◌, refl, sym}
 use mathlib.Core.Bool.{Bool, true, false, ◌&&◌}
 use Rattle.open_table.specs.Pass.{met_at, needed_from}
-use borrow.Author.Rules.{rules}
 use Rattle.open_table.proofs.needed_met.Goals as goal
 
 and_true : (b : Bool) → (b && true) ≡ b

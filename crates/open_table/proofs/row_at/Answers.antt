@@ -1,6 +1,5 @@
 -- `table::row_at` meets its contract.
 use Rattle.open_table.specs.Pass.Laws.{row_is}
-use borrow.Author.Rules.{rules}
 use Rattle.open_table.proofs.row_at.Goals as goal
 
 pub returns : goal.returns

@@ -1,10 +1,10 @@
 -- Demand 2, of the calls: for a lawful batch and given room the writer answers with the file's size and writes it, the read-out
 -- of that file gives the batch back, and its lookups answer and leave what was written. These are of what the contracts cite;
 -- proofs/Calls says them of the contracts.
-use Rattle.std.specs.Prelude.{◌≡◌, ℕ, suc, ◌+◌, ◌*◌, ◌^◌, ◌≤◌, ◌<◌, true, false, get_or, take, drop, ltb}
+use Rattle.std.specs.Prelude.{◌≡◌, ℕ, suc, ◌+◌, ◌*◌, ◌^◌, ◌≤◌, true, false, take, drop, ltb}
 use Rattle.std.proofs.Math.Path.{refl, sym, ap}
-use Rattle.std.proofs.Common.{ap₂, ◌∙◌, arith, take_at, ltb-false}
-use mathlib.Core.List.{List, [], ◌∷◌, ◌++◌}
+use Rattle.std.proofs.Common.{◌∙◌, arith, take_at, ltb-false}
+use mathlib.Core.List.{List, [], ◌∷◌}
 use Rattle.std.proofs.Math.ListN.{length, length-append}
 use Rattle.base.specs.Over.{over}
 use Rattle.base.specs.Bytes.{Bytes}

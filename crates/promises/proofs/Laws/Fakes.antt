@@ -1,11 +1,9 @@
 -- The four fakes, each with the promise that stops it: no reader or writer that does so keeps its promise. Ours keep each of them.
-use Rattle.std.specs.Prelude.{◌≡◌, refl, ℕ, zero, suc, ◌+◌, ◌-◌, ◌*◌, ◌^◌, ◌≤◌, List, [], ◌∷◌, ◌++◌, Bool, true, false, length, get_or}
+use Rattle.std.specs.Prelude.{◌≡◌, refl, ℕ, zero, suc, ◌+◌, ◌-◌, ◌^◌, ◌≤◌, List, [], ◌∷◌, Bool, true, false, length, get_or}
 use Rattle.std.proofs.Common.{sym, ap, ◌∙◌, arith}
-use Rattle.base.specs.Pick.{pick}
 use Rattle.base.specs.Over.{over}
-use Rattle.codes.specs.declared.ids.Id.{Id}
 use Rattle.codes.specs.Little.{le_at}
-use Rattle.codes.specs.Ids.{be_at, halves_at, id_number}
+use Rattle.codes.specs.Ids.{be_at, halves_at}
 use Rattle.refusal.specs.declared.Refusal.{Refusal}
 use Rattle.refusal.specs.declared.Check.{Check}
 use Rattle.frame.specs.Frame.{record_of}

@@ -1,5 +1,5 @@
 -- Refusals by document 01's numbers and places, and that a refusal of opening is every call's on the file.
-use Rattle.std.specs.Prelude.{◌≡◌, refl, ◌↔◌, ℕ, List, Bool, true, false}
+use Rattle.std.specs.Prelude.{◌≡◌, refl, ◌↔◌, ℕ, List, true, false}
 use Rattle.std.proofs.Common.{sym, ap, ◌∙◌, arith}
 use Rattle.std.proofs.Math.Logic.Iff.{trans as iff_trans}
 use Rattle.refusal.specs.declared.Refusal.{Refusal}
@@ -11,7 +11,7 @@ use Rattle.refusal.proofs.Laws.Check.{listed}
 use Rattle.frame.specs.Open.{file_check, open_of}
 use Rattle.frame.specs.Given.{opening_numbers}
 use Rattle.frame.proofs.Laws.Open.{opens_refused}
-use Rattle.lookup.specs.Lookup.{Rooms, refused, look_of}
+use Rattle.lookup.specs.Lookup.{refused, look_of}
 use Rattle.lookup.specs.Given.{look_numbers}
 use Rattle.reader.specs.declared.header.HeaderRead.{HeaderRead}
 use Rattle.reader.specs.Header.{header_of}
@@ -23,8 +23,7 @@ use Rattle.full_check.specs.Given.{full_opening}
 use Rattle.readout.specs.declared.ReadOut.{ReadOut}
 use Rattle.readout.specs.ReadOut.{read_out_of}
 use Rattle.readout.specs.ReadOut.Laws.{read_full}
-use Rattle.summary.specs.declared.Summarised.{Summarised}
-use Rattle.summary.specs.Summary.{nothing, summarised_of}
+use Rattle.summary.specs.Summary.{summarised_of}
 use Rattle.summary.proofs.Laws.Promise.{summary_refuses}
 use Rattle.listing.specs.declared.Listed.{Listed}
 use Rattle.listing.specs.List.{listed_of}

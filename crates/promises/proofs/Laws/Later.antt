@@ -1,16 +1,13 @@
 -- Demand 3, what is not skipped: another major version, an unassigned flag bit, a section of a reserved kind and an unknown tag are
 -- refused by their own numbers, by every call that looks at them, exactly where they are the first fault in the order of checks.
-use Rattle.std.specs.Prelude.{◌≡◌, refl, ◌⊎◌, ℕ, List, true, false}
+use Rattle.std.specs.Prelude.{◌≡◌, refl, ℕ, List, true, false}
 use Rattle.std.proofs.Common.{ap, ⊎_elim, arith}
 use Rattle.base.specs.Bytes.{Bytes}
 use Rattle.refusal.specs.declared.Refusal.{Refusal}
-use Rattle.refusal.specs.Refusal.{number_of, place_of, beside_of}
+use Rattle.refusal.specs.Refusal.{number_of}
 use Rattle.refusal.proofs.Laws.Check.{listed, none_listed, all_listed}
-use Rattle.frame.specs.declared.Opened.{Opened}
-use Rattle.frame.specs.declared.Opening.{Opening}
 use Rattle.frame.specs.Frame.{rows_of, body_of}
 use Rattle.frame.specs.Frame.Laws.{ReservedKind}
-use Rattle.frame.specs.Open.{open_of}
 use Rattle.frame.proofs.Laws.Open.{opens_refused}
 use Rattle.frame.specs.Given.{early_numbers, opening_numbers}
 use Rattle.frame.specs.Header.{OtherMajor, UnassignedFlag}

@@ -1,5 +1,5 @@
 -- Headers by computation: of the two files that the second program made, and of damaged ones.
-use Rattle.std.specs.Prelude.{◌≡◌, refl, ℕ, set}
+use Rattle.std.specs.Prelude.{◌≡◌, refl, set}
 use Rattle.std.proofs.Common.{ap, ◌∙◌}
 use Rattle.codes.specs.Little.{le_at}
 use Rattle.refusal.specs.declared.Refusal.{Refusal}

@@ -11,8 +11,7 @@ use Rattle.frame.specs.Open.{Known, known_of, record_good, open_of}
 use Rattle.index.specs.declared.keys.Found.{Found}
 use Rattle.index.specs.Find.{find_in, compared_of}
 use Rattle.index.specs.Find.Laws.{find_bound}
-use Rattle.lookup.specs.Lookup.{Outcome, found, absent, refused, outcome, Rooms, look_group, on_found, look_in, look_with, look_of}
-use Rattle.lookup.specs.Record.{Holds}
+use Rattle.lookup.specs.Lookup.{Outcome, outcome, Rooms, look_group, on_found, look_in, look_with, look_of}
 use Rattle.lookup.proofs.Laws.Record.{holds}
 use Rattle.reader.proofs.Laws.Look.{with_bad, with_good, of_refused, of_good, opened_holds}
 use Rattle.reader.specs.Compared.{compared_in}

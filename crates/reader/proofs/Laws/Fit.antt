@@ -1,5 +1,5 @@
 -- What rules 1 to 12 and 36 give rules 13 to 15 and 37: sections that lie within the file, and lengths that fit the counts.
-use Rattle.std.specs.Prelude.{◌≡◌, ℕ, ◌+◌, ◌-◌, ◌/◌, ◌≤◌, List, Bool, true, false, not, ◌&&◌, length}
+use Rattle.std.specs.Prelude.{◌≡◌, ℕ, ◌-◌, ◌/◌, List, Bool, true, false, not, ◌&&◌, length}
 use Rattle.std.proofs.Math.Path.{refl, ap}
 use Rattle.std.proofs.Common.{sym, ◌∙◌, arith}
 use Rattle.refusal.specs.declared.Refusal.{Refusal}

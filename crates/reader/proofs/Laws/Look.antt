@@ -1,5 +1,5 @@
 -- The lookups: from a record, from a file, and that for the record that opening gave the two are one.
-use Rattle.std.specs.Prelude.{◌≡◌, refl, ℕ, List, Bool, true, false, not}
+use Rattle.std.specs.Prelude.{◌≡◌, ℕ, List, Bool, true, false, not}
 use Rattle.std.proofs.Common.{sym, ap, ◌∙◌}
 use Rattle.codes.specs.declared.ids.Id.{Id}
 use Rattle.codes.specs.Ids.{id_at, id_number, halves_at}
@@ -9,7 +9,7 @@ use Rattle.refusal.specs.Check.{refuse}
 use Rattle.frame.specs.declared.Opened.{Opened}
 use Rattle.frame.specs.declared.Opening.{Opening}
 use Rattle.frame.specs.Open.{Known, known_of, record_good, open_of}
-use Rattle.lookup.specs.Lookup.{Outcome, refused, outcome, Rooms, look_in, look_with, on_opening, look_of}
+use Rattle.lookup.specs.Lookup.{refused, outcome, Rooms, look_in, look_with, on_opening, look_of}
 use Rattle.lookup.specs.Record.{Holds}
 use Rattle.lookup.proofs.Laws.Record.{holds}
 use Rattle.reader.proofs.Laws.Opened.{opened_good}

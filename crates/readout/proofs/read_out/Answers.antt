@@ -1,20 +1,15 @@
 -- `readout::read_out` meets its contract: one law for each way out.
-use mathlib.Core.Path.{◌≡◌, sym, ap, ◌∙◌}
-use Prim.Native.Nat.{ℕ, ◌+◌, ◌*◌, ◌≤◌}
+use mathlib.Core.Path.{sym, ap, ◌∙◌}
+use Prim.Native.Nat.{ℕ}
 use mathlib.Core.List.{List}
-use lib.ListN.{length}
 use lib.Seq.{sets, length-sets}
-use Rattle.frame.specs.declared.Opening.{Opening}
 use Rattle.frame.specs.Open.{known_of}
 use Rattle.batch.specs.Batch.{heading_bytes, records_of}
-use Rattle.full_check.specs.Full.{checked_of}
 use Rattle.full_check.specs.Checked.{checked_refused}
-use Rattle.readout.specs.declared.ReadOut.{ReadOut}
 use Rattle.readout.specs.Edges.{edges_in}
 use Rattle.readout.specs.ReadOut.{heading_in}
 use Rattle.readout.specs.ReadOut.Laws.{checked_records, checked_size, checked_few, batch_written, reads_bad, reads_short, reads_all}
 use native.Mathlib.Omega.{arith}
-use borrow.Author.Rules.{rules}
 use Rattle.readout.proofs.read_out.Goals as goal
 
 pub overflow_mul-needed : goal.overflow_mul-needed

@@ -1,8 +1,8 @@
 -- Edges written one after the other: of a group, of all groups.
-use Rattle.std.specs.Prelude.{◌≡◌, Bool, true, false, eqb}
+use Rattle.std.specs.Prelude.{◌≡◌, Bool, true}
 use Rattle.std.proofs.Math.Path.{refl, ap, ap₂}
 use Rattle.std.proofs.Common.{sym, ◌∙◌, add-zero, zero-add}
-use Prim.Native.Nat.{ℕ, zero, suc, ◌+◌, ◌-◌, ◌*◌, ◌^◌, ◌≤◌, ◌<◌}
+use Prim.Native.Nat.{ℕ, zero, suc, ◌+◌, ◌-◌, ◌*◌, ◌≤◌, ◌<◌}
 use Rattle.std.proofs.Math.Nat.{sub-zero}
 use native.Mathlib.Omega.{arith}
 use Rattle.std.proofs.Math.Decide.{ℕ_discrete}
@@ -12,18 +12,16 @@ use Rattle.std.proofs.Math.Seq.{sets}
 use Rattle.base.specs.Over.{part}
 use Rattle.base.specs.Put.{Put, Left, start, is, put, room, end}
 use Rattle.codes.specs.declared.ids.Id.{Id}
-use Rattle.codes.specs.Little.{le_at}
 use Rattle.codes.specs.Ids.{id_number, halves_at}
 use Rattle.frame.specs.Open.{offset_at}
 use Rattle.index.specs.Order.{OffsetsRise}
 use Rattle.group.specs.declared.fault.Fault.{Fault}
 use Rattle.group.specs.declared.split.Step.{Step}
 use Rattle.group.specs.Group.{Decoded, good, step_at, walk_from, group_of, is_good, partners_of}
-use Rattle.group.proofs.Laws.Group.{walk_end, walk_over, walk_bad, Turn, good_turn, good_is, good_good, partners_good, not_bad}
-use Rattle.lookup.specs.Lookup.{mark_at}
+use Rattle.group.proofs.Laws.Group.{walk_end, walk_over, walk_bad, good_turn, good_is, good_good, partners_good, not_bad}
 use Rattle.batch.specs.declared.Edge.{Edge}
 use Rattle.batch.specs.Batch.{place, edge_bytes, records_of}
-use Rattle.batch.specs.Batch.Laws.{length_edge, length_records, records_none, records_cons, records_append}
+use Rattle.batch.specs.Batch.Laws.{length_edge, length_records, records_append}
 use Rattle.refusal.specs.declared.Check.{Check}
 use Rattle.refusal.proofs.Laws.Check.{fine_parts}
 use Rattle.lookup.specs.Lookup.{group_check}

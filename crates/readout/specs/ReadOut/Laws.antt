@@ -1,12 +1,12 @@
 -- The read-out by its ways out.
-use Rattle.std.specs.Prelude.{◌≡◌, refl, ◌↔◌, ℕ, suc, ◌+◌, ◌-◌, ◌*◌, ◌/◌, ◌≤◌, ◌<◌, List, [], ◌++◌, Bool, true, not, ◌&&◌, length, get_or, set, drop, eqb, ltb}
+use Rattle.std.specs.Prelude.{◌≡◌, refl, ◌↔◌, ℕ, suc, ◌+◌, ◌*◌, ◌/◌, ◌≤◌, ◌<◌, List, [], ◌++◌, Bool, true, not, ◌&&◌, length, get_or, set, drop, eqb, ltb}
 use Rattle.std.proofs.Math.Path.{sym, ap}
 use Rattle.std.proofs.Common.{ap₂, ◌∙◌, arith, length-append, drop_of_length-le, add-one, drop-cons, eqb-true, lt-ltb, le-ltb, ltb-false}
 use Rattle.std.proofs.Math.Bool.{false}
 use Rattle.std.specs.Bool.{beq}
 use Rattle.std.proofs.lemmas.List.Edits.{sets}
 use Rattle.base.specs.Pick.{pick}
-use Rattle.base.specs.Over.{part, over, length_part, sets_append, sets_over}
+use Rattle.base.specs.Over.{over, length_part, sets_append, sets_over}
 use Rattle.refusal.specs.declared.Refusal.{Refusal}
 use Rattle.refusal.specs.declared.Check.{Check}
 use Rattle.refusal.specs.Refusal.{number_of}

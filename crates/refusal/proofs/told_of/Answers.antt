@@ -3,7 +3,6 @@ use mathlib.Core.Path.{◌≡◌}
 use Prim.Native.Nat.{ℕ}
 use Rattle.refusal.specs.declared.Refusal.{Refusal}
 use Rattle.refusal.specs.Refusal.{number_of, place_of, beside_of}
-use borrow.Author.Rules.{rules}
 use Rattle.refusal.proofs.told_of.Goals as goal
 
 -- what is told of a case is told of a refusal that is that case

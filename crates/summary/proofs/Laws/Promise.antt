@@ -1,5 +1,5 @@
 -- What the query planner may rely on.
-use Rattle.std.specs.Prelude.{◌≡◌, ℕ, suc, ◌+◌, ◌-◌, ◌^◌, ◌<◌, ◌≤◌, Bool, true, false, ◌⊎◌, ◌↔◌, List, [], ◌∷◌, length, ◌≢◌, nat_lt, slice_index}
+use Rattle.std.specs.Prelude.{◌≡◌, ℕ, ◌+◌, ◌^◌, ◌<◌, ◌≤◌, Bool, true, false, ◌↔◌, List, [], ◌∷◌, length, nat_lt, slice_index}
 use Rattle.std.proofs.Math.Path.{refl, ap}
 use Rattle.std.proofs.Common.{sym, ◌∙◌, inl, inr, zero-add, arith}
 use Rattle.std.proofs.lemmas.Bool.{false≢true}
@@ -21,12 +21,10 @@ use Rattle.readout.specs.ReadOut.Laws.{length_edges_in, checked_few}
 use Rattle.agreement.specs.SameEdges.{of_key, mark_bytes_in, edges_of_file}
 use Rattle.agreement.specs.OutBytes.{EdgesFit}
 use Rattle.agreement.proofs.Laws.OutBytes.{fits, out_edges}
-use Rattle.summary.specs.declared.figures.Extremes.{Extremes}
-use Rattle.summary.specs.declared.figures.Summary.{Summary}
 use Rattle.summary.specs.declared.Summarised.{Summarised}
 use Rattle.summary.specs.Summary.{smallest, largest, smallest_key, largest_key, extremes_of, degrees_of, in_bucket, bucket, buckets_of, dead_in, nothing, summary_of, summarised, summarised_of}
 use Rattle.summary.proofs.Laws.Checked.{keys_are, degrees_by_key}
-use Rattle.summary.specs.Summary.Laws.{Smallest, Largest, total}
+use Rattle.summary.specs.Summary.Laws.{total}
 use Rattle.summary.proofs.Laws.Summary.{smallest_is, largest_is, in_bucket_lem, bucket_bounds, bucket_at, length_buckets, buckets_total, bucket_none, length_degrees, degrees_total, degrees_some}
 use Rattle.summary.specs.Promise.{key_numbers, Ends, ExtremesFit, Counts, Summed, EndsThere}
 

@@ -17,7 +17,6 @@ use Rattle.frame.specs.Open.{offset_at}
 use Rattle.index.specs.Order.{OffsetsRise}
 use Rattle.degrees.specs.Degrees.{group_at}
 use Rattle.group.specs.Group.{degree_of}
-use Rattle.summary.specs.declared.tally.Tally.{Tally}
 use Rattle.summary.specs.Summary.{largest, in_bucket, bucket, buckets_of}
 use Rattle.summary.proofs.Laws.Summary.{bucket_once, bucket_at, length_buckets}
 use Rattle.summary.specs.Tally.{degree_told, tally_of, degrees_at}

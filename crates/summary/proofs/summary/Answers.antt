@@ -1,5 +1,5 @@
 -- `summary::summary` meets its contract.
-use Rattle.std.proofs.Common.{sym, ◌∙◌, rules}
+use Rattle.std.proofs.Common.{sym, ◌∙◌}
 use Rattle.summary.proofs.Laws.Checked.{summarised_fine, summarised_bad}
 use Rattle.summary.proofs.summary.Goals as goal
 

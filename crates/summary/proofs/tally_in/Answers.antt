@@ -1,6 +1,5 @@
 -- `summary::tally_in` meets its contract.
 use Rattle.summary.proofs.Laws.Checked.{checked_holds, tally_asks, tally_gives}
-use Rattle.std.proofs.Common.{rules}
 use Rattle.summary.proofs.tally_in.Goals as goal
 
 pub bytes_of-requires : goal.bytes_of-requires

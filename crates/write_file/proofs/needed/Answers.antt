@@ -1,7 +1,6 @@
 use mathlib.Core.Path.{sym, ◌∙◌}
 use Rattle.batch_faults.specs.Tally.Laws.{fine_is, bad_is}
 use Rattle.write_file.specs.Written.Laws.{needed_bad}
-use borrow.Author.Rules.{rules}
 use Rattle.write_file.proofs.needed.Goals as goal
 
 pub needed_fine-requires : goal.needed_fine-requires

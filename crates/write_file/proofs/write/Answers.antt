@@ -1,7 +1,6 @@
 use mathlib.Core.Path.{sym, ◌∙◌}
 use Rattle.batch_faults.specs.Tally.Laws.{fine_is, bad_is}
 use Rattle.write_file.specs.Written.Laws.{needed_bad, wrote_refused}
-use borrow.Author.Rules.{rules}
 use Rattle.write_file.proofs.write.Goals as goal
 
 pub write_fine-requires : goal.write_fine-requires

@@ -6,7 +6,6 @@ use Rattle.write_source.specs.Source.{source_edges}
 use Rattle.write_plan.specs.Bounds.{Measured}
 use Rattle.write_file.specs.Written.Laws.{needed_many, wrote_refused}
 use Rattle.write_file.specs.Fine.{ready, batch_many, batch_fits, in_groups}
-use borrow.Author.Rules.{rules}
 use Rattle.write_file.proofs.write_fine.Goals as goal
 
 pub overflow_sub-n : goal.overflow_sub-n

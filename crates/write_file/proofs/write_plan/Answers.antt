@@ -18,7 +18,6 @@ use Rattle.write_plan.specs.Bounds.{PlanFits, few}
 use Rattle.write_file.specs.declared.Written.{Written}
 use Rattle.write_file.specs.Written.{file_in, needed_of, Wrote}
 use Rattle.write_file.specs.Written.Laws.{needed_done, wrote_short, wrote_all}
-use borrow.Author.Rules.{rules}
 use Rattle.write_file.proofs.write_plan.Goals as goal
 
 module _ (s : List ℕ) (f : batch_check s ≡ Check.Fine) (p : Plan) (fits : PlanFits (edges_of s) p) where

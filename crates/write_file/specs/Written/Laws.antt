@@ -1,13 +1,11 @@
 -- One law for each way out of the writer.
-use Rattle.std.specs.Prelude.{◌≡◌, refl, ℕ, ◌≤◌, ◌<◌, List, Bool, true, false, length, leb}
+use Rattle.std.specs.Prelude.{◌≡◌, ℕ, ◌≤◌, ◌<◌, List, true, false, length}
 use Rattle.std.proofs.Math.Path.{sym, ap}
-use Rattle.std.proofs.Common.{subst, ◌∙◌, arith, le-leb}
+use Rattle.std.proofs.Common.{◌∙◌, le-leb}
 use Rattle.std.proofs.lemmas.Bool.{lt-leb}
-use Rattle.base.specs.Pick.{pick}
 use Rattle.base.specs.Over.{over}
 use Rattle.refusal.specs.declared.Refusal.{Refusal}
 use Rattle.refusal.specs.declared.Check.{Check}
-use Rattle.refusal.specs.Check.{◌⊳◌, refuse}
 use Rattle.batch.specs.Batch.{heading_of, edges_of, batch_check}
 use Rattle.write_plan.specs.Bounds.{too_many}
 use Rattle.write_file.specs.declared.Written.{Written}

@@ -1,6 +1,5 @@
 use native.Mathlib.Omega.{arith}
 use Rattle.write_frame.specs.Runs.{count_parts}
-use borrow.Author.Rules.{rules}
 use Rattle.write_frame.proofs.put_counts.Goals as goal
 
 pub returns : goal.returns

@@ -10,7 +10,6 @@ use Rattle.frame.specs.declared.Row.{Row}
 use Rattle.frame.specs.Frame.{raw_row}
 use Rattle.write_frame.specs.Standing.{entry_in}
 use Rattle.write_frame.specs.Runs.{row_bytes, entry_row}
-use borrow.Author.Rules.{rules}
 use Rattle.write_frame.proofs.put_entry.Goals as goal
 
 written : (o o₁ : List ℕ) (at r kind start len sum : ℕ) (row : Row) → start + len ≤ length o → sum ≡ xxh3 (part o start (start + len)) → row ≡ raw_row kind start len sum

@@ -1,6 +1,5 @@
 use native.Mathlib.Omega.{arith}
 use Rattle.write_frame.specs.Runs.{head_parts}
-use borrow.Author.Rules.{rules}
 use Rattle.write_frame.proofs.put_header.Goals as goal
 
 pub returns : goal.returns

@@ -1,6 +1,5 @@
 use native.Mathlib.Omega.{arith}
 use Rattle.write_frame.specs.Runs.{row_parts}
-use borrow.Author.Rules.{rules}
 use Rattle.write_frame.proofs.put_row.Goals as goal
 
 pub overflow_add-at-4 : goal.overflow_add-at-4

@@ -10,7 +10,6 @@ use Rattle.codes.specs.Little.{le_bytes}
 use Rattle.xxh3_spec.specs.Xxh3.{xxh3}
 use Rattle.frame.specs.Layout.{trailer}
 use Rattle.write_frame.specs.Runs.{tail_parts}
-use borrow.Author.Rules.{rules}
 use Rattle.write_frame.proofs.put_trailer.Goals as goal
 
 written : (o : List ℕ) (body at sum len : ℕ) → body ≤ at → at ≤ length o → sum ≡ xxh3 (part o body at) → len ≡ at - body + 20 → {o₁ o₂ o₃ : List ℕ}

@@ -1,15 +1,8 @@
-use mathlib.Core.Path.{◌≡◌, refl, sym, ap, subst, ◌∙◌}
-use Prim.Native.Nat.{ℕ, ◌+◌, ◌-◌, ◌%◌, ◌^◌, ◌≤◌, ◌<◌}
-use native.Mathlib.Nat.{add-zero}
-use native.Mathlib.Omega.{arith}
-use mathlib.Core.List.{List, ◌++◌}
-use lib.ListN.{length, get_or, drop}
-use lib.Seq.{sets, drop-length}
-use Rattle.codes.specs.Stood.{le_stood}
-use Rattle.base.specs.Put as P
-use Rattle.base.specs.Put.{Put, Left}
-use Rattle.codes.specs.Little.{le_at, le_bytes}
-use Rattle.codes.specs.Little.Laws.{length_le_bytes}
+use mathlib.Core.Path.{◌≡◌}
+use Prim.Native.Nat.{ℕ, ◌+◌, ◌-◌, ◌%◌, ◌≤◌}
+use mathlib.Core.List.{List}
+use lib.ListN.{length, drop}
+use Rattle.base.specs.Put.{Left}
 use Rattle.write_frame.proofs.put_words.Given as goal
 
 pub record Head (s o : List ℕ) (at : ℕ) (out : List ℕ) (k : ℕ) : Type 0 where

@@ -3,13 +3,11 @@ use Prim.Native.Nat.{ℕ, ◌+◌, ◌*◌, ◌≤◌}
 use native.Mathlib.Omega.{arith}
 use mathlib.Core.Bool.{Bool, true, false}
 use lib.ListN.{length}
-use Rattle.batch.specs.Batch.{partners_in}
 use Rattle.base.specs.Pick.{pick}
 use Rattle.codes.specs.Varint.{var_bytes}
 use Rattle.codes.specs.Varint.Laws.{var_bytes_length}
 use Rattle.write_image.specs.Image.{dense_by}
 use Rattle.write_group.specs.Span.{group_size}
-use borrow.Author.Rules.{rules}
 use Rattle.write_group.proofs.block_size.Goals as goal
 
 module _ (degree cost keys n : ℕ) (v : n ≡ length (var_bytes degree)) where

@@ -3,7 +3,6 @@ use Prim.Native.Nat.{ℕ, ◌*◌, ◌≤◌}
 use native.Mathlib.Omega.{arith}
 use native.Mathlib.Nat.{mul-le-mul}
 use Rattle.write_image.specs.Image.Laws.{dense_dear, dense_small, dense_large}
-use borrow.Author.Rules.{rules}
 use Rattle.write_group.proofs.dense_by.Goals as goal
 
 square : (d : ℕ) → d ≤ 67108864 → d * d ≤ 67108864 * 67108864

@@ -1,6 +1,5 @@
 use native.Mathlib.Omega.{arith}
 use Rattle.codes.specs.Varint.Laws.{var_bytes_length}
-use borrow.Author.Rules.{rules}
 use Rattle.write_group.proofs.partner_cost.Goals as goal
 
 pub overflow_add-result : goal.overflow_add-result

@@ -17,7 +17,6 @@ use Rattle.group.specs.Written.{payload_of, written_as}
 use Rattle.group.proofs.Laws.Written.{written_is}
 use Rattle.write_image.specs.Image.Laws.{length_partners_in}
 use Rattle.write_source.specs.Source.{source_edges}
-use borrow.Author.Rules.{rules}
 use Rattle.write_group.proofs.put_block.Goals as goal
 
 module _ (es : List Edge) (i j : ℕ) (dense : Bool) (m : j ≤ length es) where

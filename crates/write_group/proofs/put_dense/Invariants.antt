@@ -1,19 +1,10 @@
-use mathlib.Core.Path.{◌≡◌, sym, ap, ◌∙◌}
-use Prim.Native.Nat.{ℕ, ◌+◌, ◌-◌, ◌≤◌, ◌<◌}
-use native.Mathlib.Omega.{arith}
-use mathlib.Core.List.{List, ◌++◌}
-use lib.ListN.{length, get_or}
-use lib.Seq.{sets}
+use Prim.Native.Nat.{ℕ, ◌-◌, ◌≤◌}
+use mathlib.Core.List.{List}
 use Rattle.batch.specs.Batch.{partners_in}
 use Rattle.base.specs.Over.{part}
-use Rattle.base.specs.Put as P
-use Rattle.base.specs.Put.{Put, Left}
-use Rattle.codes.specs.Ids.{id_bytes}
-use Rattle.codes.specs.Ids.Laws.{length_id_bytes}
+use Rattle.base.specs.Put.{Left}
 use Rattle.batch.specs.declared.Edge.{Edge}
 use Rattle.group.specs.Group.{bytes_of}
-use Rattle.batch_groups.specs.Groups.{none}
-use Rattle.write_image.specs.Image.Laws.{partner_first, partners_out, dense_none, dense_on}
 use Rattle.write_source.specs.Source.{source_edges}
 use Rattle.write_group.proofs.put_dense.Given as goal
 

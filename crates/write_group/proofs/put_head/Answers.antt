@@ -6,7 +6,6 @@ use lib.ListN.{set, length-append}
 use lib.Seq.{length-sets}
 use Rattle.base.specs.Over.{sets_append}
 use Rattle.base.specs.Put.{Put}
-use borrow.Author.Rules.{rules}
 use Rattle.write_group.proofs.put_head.Goals as goal
 
 both : (o o₁ : List ℕ) (at mid : ℕ) (xs : List ℕ) (y : ℕ) → Put o o₁ at mid xs → Put o (set o₁ mid y) at (mid + 1) (xs ++ (y ∷ []))

@@ -8,7 +8,6 @@ use Rattle.base.specs.Over.{sets_append}
 use Rattle.base.specs.Put.{Put}
 use Rattle.codes.specs.Little.{le_bytes}
 use Rattle.codes.specs.Little.Laws.{length_le_bytes}
-use borrow.Author.Rules.{rules}
 use Rattle.write_group.proofs.put_partner.Goals as goal
 
 module _ (o o₁ : List ℕ) (at mid : ℕ) (xs : List ℕ) (lo : ℕ) (p : Put o o₁ at mid xs) where

@@ -1,19 +1,11 @@
-use mathlib.Core.Path.{◌≡◌, sym, ap, ◌∙◌}
-use Prim.Native.Nat.{ℕ, ◌+◌, ◌-◌, ◌≤◌, ◌<◌}
-use native.Mathlib.Omega.{arith}
-use mathlib.Core.List.{List, ◌++◌, append_assoc}
-use lib.ListN.{length, get_or, length-append}
+use Prim.Native.Nat.{ℕ, ◌-◌, ◌≤◌}
+use mathlib.Core.List.{List}
 use Rattle.batch.specs.Batch.{partners_in}
 use Rattle.base.specs.Over.{part}
-use Rattle.base.specs.Put as P
-use Rattle.base.specs.Put.{Put, Left}
-use Rattle.codes.specs.Little.{le_bytes}
-use Rattle.codes.specs.Little.Laws.{length_le_bytes}
-use Rattle.codes.specs.Varint.{var_bytes}
+use Rattle.base.specs.Put.{Left}
 use Rattle.batch.specs.declared.Edge.{Edge}
 use Rattle.group.specs.Written.{split_from}
-use Rattle.batch_groups.specs.Groups.{none}
-use Rattle.write_image.specs.Image.Laws.{Rise, partner_first, rise_first, partners_out, split_none, split_on}
+use Rattle.write_image.specs.Image.Laws.{Rise}
 use Rattle.write_source.specs.Source.{source_edges}
 use Rattle.write_group.proofs.put_split.Given as goal
 

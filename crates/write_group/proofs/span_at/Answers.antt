@@ -1,12 +1,8 @@
-use mathlib.Core.Path.{◌≡◌, sym, ap, ◌∙◌}
-use Prim.Native.Nat.{◌-◌, ◌<◌}
+use mathlib.Core.Path.{sym, ap, ◌∙◌}
 use native.Mathlib.Omega.{arith}
-use lib.ListN.{get_or}
-use borrow.Author.Tests.{not-true, not-false}
 use Rattle.batch.specs.declared.Edge.{Edge}
-use Rattle.batch_groups.specs.Groups.{none}
 use Rattle.write_source.specs.Source.{source_edges}
-use Rattle.write_group.specs.Span.{Going, going_first, going_most, going_up, going_on, going_other, going_end}
+use Rattle.write_group.specs.Span.{going_first, going_most, going_up, going_on, going_other, going_end}
 use Rattle.write_group.proofs.span_at.Goals as goal
 
 pub loop-j-init : goal.loop-j-init

@@ -1,12 +1,9 @@
-use mathlib.Core.Path.{◌≡◌, sym, ap, ◌∙◌}
+use mathlib.Core.Path.{◌≡◌}
 use Prim.Native.Nat.{◌-◌, ◌<◌}
-use native.Mathlib.Omega.{arith}
 use lib.ListN.{get_or}
-use borrow.Author.Tests.{not-true, not-false}
-use Rattle.batch.specs.declared.Edge.{Edge}
 use Rattle.batch_groups.specs.Groups.{none}
 use Rattle.write_source.specs.Source.{source_edges}
-use Rattle.write_group.specs.Span.{Going, going_first, going_most, going_up, going_on, going_other, going_end}
+use Rattle.write_group.specs.Span.{Going}
 use Rattle.write_group.proofs.span_at.Given as goal
 
 abbrev pub invariant-loop-j : goal.invariant-loop-j

@@ -1,5 +1,5 @@
 -- The laws of the writer's sections: each an edge or a group further, at its end, and its length.
-use Rattle.std.specs.Prelude.{◌≡◌, ℕ, zero, suc, ◌+◌, ◌-◌, ◌*◌, ◌/◌, ◌^◌, ◌≤◌, ◌<◌, Bool, true, false, ◌||◌, get_or, take, drop, ltb, leb}
+use Rattle.std.specs.Prelude.{◌≡◌, ℕ, zero, suc, ◌+◌, ◌-◌, ◌*◌, ◌/◌, ◌^◌, ◌≤◌, ◌<◌, Bool, true, false, ◌||◌, get_or, take, drop, ltb}
 use Rattle.std.proofs.Math.Path.{refl, sym, ap, ap₂}
 use Rattle.std.proofs.Common.{subst, ◌∙◌, zero-add, add-zero, add_assoc, pow-suc, lt_of_lt_of_le, zero-lt-suc, add-one, length-drop, take-append-drop, take-suc, drop-cons, drop-drop, get_or-drop, take_all, length-take-le}
 use native.Mathlib.Omega.{arith}

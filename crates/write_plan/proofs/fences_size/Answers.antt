@@ -4,7 +4,6 @@ use native.Mathlib.Omega.{arith}
 use Rattle.base.specs.Pick.{pick}
 use Rattle.frame.specs.Kind as kind
 use Rattle.write_image.specs.Image.{fenced}
-use borrow.Author.Rules.{rules}
 use Rattle.write_plan.proofs.fences_size.Goals as goal
 
 pub returns : goal.returns

@@ -2,7 +2,6 @@ use Prim.Native.Nat.{ℕ, ◌+◌, ◌*◌, ◌≤◌}
 use native.Mathlib.Omega.{arith}
 use native.Mathlib.Nat.{mul-le-mul}
 use Rattle.write_plan.specs.Size.{sections_size, file_size}
-use borrow.Author.Rules.{rules}
 use Rattle.write_plan.proofs.file_size.Goals as goal
 
 product : (keys w : ℕ) → keys ≤ 67108864 → w ≤ 4 → (keys + 1) * w ≤ 268435460

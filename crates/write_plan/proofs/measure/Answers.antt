@@ -11,8 +11,7 @@ use Rattle.write_source.specs.Source.{source_edges}
 use Rattle.write_plan.specs.declared.Counted.{Counted}
 use Rattle.write_plan.specs.Size.{file_size, Tallied, Fitting}
 use Rattle.write_plan.specs.Parts.{length_file}
-use Rattle.write_plan.specs.Bounds.{many_keys, many_edges, many_bytes, PlanFits, Measured, measured_many, measured_fits}
-use borrow.Author.Rules.{rules}
+use Rattle.write_plan.specs.Bounds.{many_keys, many_edges, many_bytes, Measured, measured_many, measured_fits}
 use Rattle.write_plan.proofs.measure.Goals as goal
 
 module _ (es : List Edge) (n keys : ℕ) (dead : Bool) (t : Tallied es n keys dead) where

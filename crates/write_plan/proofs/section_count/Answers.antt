@@ -3,7 +3,6 @@ use native.Mathlib.Omega.{arith}
 use mathlib.Core.Bool.{Bool, true, false}
 use Rattle.base.specs.Pick.{pick}
 use Rattle.write_image.specs.Image.{bit, fenced, indexed}
-use borrow.Author.Rules.{rules}
 use Rattle.write_plan.proofs.section_count.Goals as goal
 
 one : (b : Bool) → pick b 1 0 ≡ bit b

@@ -3,7 +3,6 @@ use Prim.Native.Nat.{ℕ}
 use native.Mathlib.Omega.{arith}
 use Rattle.base.specs.Pick.{pick}
 use Rattle.write_image.specs.Image.{indexed}
-use borrow.Author.Rules.{rules}
 use Rattle.write_plan.proofs.starts_size.Goals as goal
 
 pub returns : goal.returns

@@ -2,7 +2,6 @@ use mathlib.Core.Path.{ap, ◌∙◌}
 use Prim.Native.Nat.{ℕ}
 use native.Mathlib.Omega.{arith}
 use Rattle.base.specs.Pick.{pick}
-use borrow.Author.Rules.{rules}
 use Rattle.write_plan.proofs.tomb_size.Goals as goal
 
 pub returns : goal.returns

@@ -1,4 +1,3 @@
-use borrow.Author.Rules.{rules}
 use Rattle.xxh3.specs.Told.{told_fine, told_bad_lem}
 use Rattle.xxh3.proofs.number_told.Goals as goal
 

@@ -1,4 +1,3 @@
-use borrow.Author.Rules.{rules}
 use mathlib.Core.Path.{ap, ◌∙◌}
 use Rattle.xxh3.specs.Told.{number_told}
 use Rattle.xxh3.proofs.saffron_xxh3_feed.Goals as goal

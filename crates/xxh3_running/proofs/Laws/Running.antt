@@ -8,7 +8,7 @@ use Rattle.std.proofs.Math.Seq.{length-sets}
 use Rattle.std.proofs.lemmas.Bool.{lt-leb}
 use Rattle.refusal.specs.declared.Check.{Check}
 use Rattle.refusal.specs.declared.Refusal.{Refusal}
-use Rattle.base.specs.Over.{part, sets_over}
+use Rattle.base.specs.Over.{sets_over}
 use Rattle.xxh3_spec.specs.Xxh3.{run_on, secret}
 use Rattle.xxh3_spec.specs.Xxh3.Laws.{run_none, run_same, run_add}
 use Rattle.xxh3_running.specs.declared.State.{State}

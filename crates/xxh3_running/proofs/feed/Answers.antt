@@ -1,4 +1,3 @@
-use borrow.Author.Rules.{rules}
 use Rattle.xxh3_running.proofs.Steps.{fed_whole}
 use Rattle.xxh3_running.proofs.feed.Goals as goal
 

@@ -1,18 +1,7 @@
 -- The laws by which a chunk is fed in larger pieces than bytes: up to the buffer's end, over it, and buffer by buffer.
-use Rattle.std.specs.Prelude.{◌≡◌, refl, ℕ, zero, suc, ◌+◌, ◌-◌, ◌*◌, ◌/◌, ◌%◌, ◌≤◌, ◌<◌, Bool, true, false, ◌&&◌, List, [], ◌∷◌, ◌++◌, ltb, length, take, drop, set, get_or}
-use Rattle.std.proofs.Common.{sym, ap, ap₂, ◌∙◌, add-zero, zero-add, arith, append-nil, length-append, length-drop, take-append-drop, drop_of_length-le, length-take-le, get_or-take, get_or-drop, get_or-append-add, drop-drop, lt-ltb, le-leb, eq-eqb, ne_eqb}
-use Rattle.std.proofs.Math.Decide.{dec_lt}
-use Rattle.std.proofs.Math.ListN.{get_or-append}
+use Rattle.std.specs.Prelude.{◌≡◌, ℕ, zero, suc, ◌+◌, ◌-◌, ◌*◌, ◌/◌, ◌%◌, ◌≤◌, ◌<◌, List, length, drop}
 use Rattle.std.proofs.lemmas.List.Edits.{sets}
-use Rattle.std.proofs.Math.Seq.{length-sets}
-use Rattle.std.proofs.lemmas.Bool.{lt-leb}
-use Rattle.refusal.specs.declared.Check.{Check}
-use Rattle.refusal.specs.declared.Refusal.{Refusal}
-use Rattle.base.specs.Over.{part, sets_over}
-use Rattle.xxh3_spec.specs.Xxh3.{run_on, secret}
-use Rattle.xxh3_spec.specs.Xxh3.Laws.{run_none, run_same, run_add}
-use Rattle.xxh3_running.specs.declared.State.{State}
-use Rattle.xxh3_running.specs.Running.{most_fed, state_of, is_full, emptied, byte_more, bytes_more, feed_of, last_bytes}
+use Rattle.base.specs.Over.{part}
 
 -- what the buffer held before the last bytes of s came, of which k whole buffers come first: the last of those, or b where there is none
 abbrev pub buffer_before : List ℕ → List ℕ → ℕ → List ℕ

@@ -1,4 +1,3 @@
-use borrow.Author.Rules.{rules}
 use borrow.Author.Tests.{le-leb, lt-leb}
 use Rattle.xxh3_spec.specs.Xxh3.{xxh3}
 use Rattle.xxh3_whole.proofs.xxh3.Goals as goal

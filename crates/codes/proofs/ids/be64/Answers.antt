@@ -1,6 +1,4 @@
 -- `codes::ids::be64` meets its contract, by the law of the other order.
-use borrow.Author.Rules.{rules}
-use mathlib.Core.Path.{◌≡◌}
 use Rattle.codes.specs.Ids.Laws.{turned_le}
 use Rattle.codes.proofs.ids.be64.Goals as goal
 

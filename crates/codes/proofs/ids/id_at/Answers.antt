@@ -1,5 +1,4 @@
 -- `codes::ids::id_at` meets its contract.
-use borrow.Author.Rules.{rules}
 use Rattle.codes.specs.Ids.Laws.{halves_is}
 use Rattle.codes.proofs.ids.id_at.Goals as goal
 

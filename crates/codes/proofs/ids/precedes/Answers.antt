@@ -4,7 +4,6 @@ use native.Mathlib.Omega.{arith}
 use lib.Dec.{ltb}
 use Rattle.codes.specs.Ids.{be_at}
 use Rattle.codes.specs.Ids.Laws.{before_upper, before_under, before_lower}
-use borrow.Author.Rules.{rules}
 use Rattle.codes.proofs.ids.precedes.Goals as goal
 
 pub returns-then-a-b : goal.returns-then-a-b

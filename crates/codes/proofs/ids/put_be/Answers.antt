@@ -1,10 +1,7 @@
 -- `codes::ids::put_be` meets its contract. Invariant: what is still to be written, written over what is there, is the whole.
-use mathlib.Core.Path.{◌≡◌, ◌∙◌, ap, sym, refl}
-use Prim.Native.Nat.{ℕ, ◌+◌, ◌-◌, ◌*◌, ◌^◌, ◌≤◌, ◌<◌}
+use mathlib.Core.Path.{◌≡◌, ◌∙◌, sym, refl}
 use native.Mathlib.Omega.{arith}
-use lib.ListN.{length, length-set}
-use lib.Seq.{sets}
-use Rattle.codes.specs.Ids.{be_bytes}
+use lib.ListN.{length-set}
 use Rattle.codes.specs.Ids.Laws.{be_bytes_zero, put_down}
 use Rattle.codes.proofs.ids.put_be.Goals as goal
 

@@ -1,11 +1,9 @@
 -- `codes::ids::put_be` meets its contract. Invariant: what is still to be written, written over what is there, is the whole.
-use mathlib.Core.Path.{◌≡◌, ◌∙◌, ap, sym, refl}
-use Prim.Native.Nat.{ℕ, ◌+◌, ◌-◌, ◌*◌, ◌^◌, ◌≤◌, ◌<◌}
-use native.Mathlib.Omega.{arith}
-use lib.ListN.{length, length-set}
+use mathlib.Core.Path.{◌≡◌}
+use Prim.Native.Nat.{◌≤◌}
+use lib.ListN.{length}
 use lib.Seq.{sets}
 use Rattle.codes.specs.Ids.{be_bytes}
-use Rattle.codes.specs.Ids.Laws.{be_bytes_zero, put_down}
 use Rattle.codes.proofs.ids.put_be.Given as goal
 
 abbrev pub invariant-loop-k : goal.invariant-loop-k

@@ -1,6 +1,4 @@
 -- `codes::ids::put_be64` meets its contract, by the law of the other order.
-use borrow.Author.Rules.{rules}
-use mathlib.Core.Path.{◌≡◌}
 use Rattle.codes.specs.Ids.Laws.{turned_put}
 use Rattle.codes.proofs.ids.put_be64.Goals as goal
 

@@ -1,5 +1,4 @@
 -- `codes::ids::put_id` meets its contract.
-use borrow.Author.Rules.{rules}
 use Rattle.codes.specs.Ids.Laws.{put_halves}
 use Rattle.codes.proofs.ids.put_id.Goals as goal
 

@@ -1,5 +1,4 @@
 -- `codes::little::byte` meets its contract.
-use borrow.Author.Rules.{rules}
 use mathlib.Core.Path.{refl}
 use native.Mathlib.Omega.{arith}
 use Rattle.codes.proofs.little.byte.Goals as goal

@@ -1,9 +1,6 @@
 -- `codes::little::more` meets its contract, by the laws over the width.
-use borrow.Author.Rules.{rules}
-use mathlib.Core.Path.{◌≡◌}
 use Prim.Native.Nat.{ℕ, ◌+◌, ◌^◌, ◌<◌}
 use lib.ListN.{get_or}
-use Rattle.codes.specs.Little.{le_at}
 use Rattle.codes.specs.Little.Laws.{le_at_more, le_at_lt}
 use Rattle.codes.proofs.little.more.Goals as goal
 

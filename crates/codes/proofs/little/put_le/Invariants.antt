@@ -1,12 +1,9 @@
 -- `codes::little::put_le` meets its contract. Invariant: what is still to be written, written over what is there, is the whole.
-use mathlib.Core.Path.{◌≡◌, ◌∙◌, ap, sym}
-use Prim.Native.Nat.{ℕ, ◌+◌, ◌-◌, ◌*◌, ◌^◌, ◌≤◌, ◌<◌}
-use native.Mathlib.Omega.{arith}
-use native.Mathlib.Nat.{sub_self, add-zero, sub-zero}
-use lib.ListN.{length, length-set}
+use mathlib.Core.Path.{◌≡◌}
+use Prim.Native.Nat.{◌+◌, ◌-◌, ◌≤◌}
+use lib.ListN.{length}
 use lib.Seq.{sets}
 use Rattle.codes.specs.Little.{le_bytes}
-use Rattle.codes.specs.Little.Laws.{le_bytes_zero, le_bytes_put}
 use Rattle.codes.proofs.little.put_le.Given as goal
 
 abbrev pub invariant-loop-k : goal.invariant-loop-k

@@ -2,7 +2,6 @@
 use mathlib.Core.Path.{◌≡◌, ◌∙◌, ap, sym}
 use Prim.Native.Nat.{ℕ, ◌+◌, ◌*◌, ◌^◌, ◌≤◌, ◌<◌}
 use native.Mathlib.Omega.{arith}
-use borrow.Author.Rules.{rules}
 use Rattle.codes.specs.declared.varint.Varint.TheVariants.{Value}
 use Rattle.codes.specs.Varint.Laws.{last_long, last_zero, last_value, last_large, digit_lt, weight_le}
 use Rattle.codes.proofs.varint.last_byte.Goals as goal

@@ -1,13 +1,8 @@
 -- `codes::varint::more_at` meets its contract. Invariant: the rest, read from byte k on over x with the weight m, is the whole.
-use mathlib.Core.Path.{◌≡◌, ◌∙◌, ap, sym, refl}
-use Prim.Native.Nat.{ℕ, suc, ◌+◌, ◌-◌, ◌*◌, ◌%◌, ◌^◌, ◌≤◌, ◌<◌}
-use native.Mathlib.Nat.{pow-suc}
-use native.Mathlib.Numerals.{add-one}
-use native.Mathlib.Omega.{arith}
+use mathlib.Core.Path.{◌≡◌}
+use Prim.Native.Nat.{ℕ, ◌+◌, ◌-◌, ◌^◌, ◌≤◌, ◌<◌}
 use mathlib.Core.List.{List}
-use lib.ListN.{length, get_or}
 use Rattle.codes.specs.Varint.{var_from}
-use Rattle.codes.specs.Varint.Laws.{from_none, from_cut, from_more, from_last, digit_lt, weight_le}
 use Rattle.codes.proofs.varint.more_at.Given as goal
 
 abbrev pub Head : (s : List ℕ) (at low x m k : ℕ) → Type 0

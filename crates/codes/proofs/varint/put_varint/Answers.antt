@@ -1,13 +1,9 @@
 -- `codes::varint::put_varint` meets its contract. Invariant: what is still to be written, written over what is there, is the whole.
-use mathlib.Core.Path.{◌≡◌, ◌∙◌, ap, sym, refl}
-use Prim.Native.Nat.{ℕ, suc, ◌+◌, ◌-◌, ◌*◌, ◌/◌, ◌%◌, ◌^◌, ◌≤◌, ◌<◌}
-use native.Mathlib.Nat.{sub_self}
+use mathlib.Core.Path.{◌≡◌, refl}
+use Prim.Native.Nat.{suc, ◌+◌, ◌-◌}
 use native.Mathlib.Numerals.{add-one}
 use native.Mathlib.Omega.{arith}
-use mathlib.Core.List.{List}
-use lib.ListN.{length, length-set, set}
-use lib.Seq.{sets}
-use Rattle.codes.specs.Varint.{bytes_from, var_bytes}
+use lib.ListN.{length-set}
 use Rattle.codes.specs.Varint.Laws.{bytes_from_lem, bytes_last, bytes_more_lem, bytes_left, length_more, length_last}
 use Rattle.codes.proofs.varint.put_varint.Goals as goal
 

@@ -3,7 +3,6 @@ use mathlib.Core.Path.{sym, ◌∙◌}
 use Prim.Native.Nat.{◌+◌}
 use native.Mathlib.Omega.{arith}
 use Rattle.codes.specs.Varint.Laws.{varint_cut, varint_one, varint_two, varint_more}
-use borrow.Author.Rules.{rules}
 use Rattle.codes.proofs.varint.short_at.Goals as goal
 
 pub returns-then-s-at : goal.returns-then-s-at

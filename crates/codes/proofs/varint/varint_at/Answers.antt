@@ -1,9 +1,7 @@
 -- `codes::varint::varint_at` meets its contract: the first byte is the whole number, or the others go on from it.
 use mathlib.Core.Path.{sym, ◌∙◌}
-use Prim.Native.Nat.{◌+◌}
 use native.Mathlib.Omega.{arith}
 use Rattle.codes.specs.Varint.Laws.{varint_cut, varint_one, varint_more}
-use borrow.Author.Rules.{rules}
 use Rattle.codes.proofs.varint.varint_at.Goals as goal
 
 pub returns-then-s-at : goal.returns-then-s-at

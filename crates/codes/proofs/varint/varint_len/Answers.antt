@@ -2,14 +2,13 @@
 use mathlib.Core.Path.{◌≡◌, ◌∙◌, ap}
 use native.Mathlib.Nat.{pow-suc}
 use native.Mathlib.Decide.{dec_le}
-use Prim.Native.Nat.{ℕ, zero, suc, ◌+◌, ◌-◌, ◌*◌, ◌/◌, ◌%◌, ◌^◌, ◌≤◌, ◌<◌}
+use Prim.Native.Nat.{ℕ, zero, suc, ◌+◌, ◌-◌, ◌*◌, ◌/◌, ◌^◌, ◌≤◌, ◌<◌}
 use native.Mathlib.Omega.{arith}
 use lib.ListN.{length}
 use lib.Pow.{pow_mono, pow-add}
 use lib.Count.{count_leading_zeros, leading_le, leading_top}
 use Rattle.codes.specs.Varint.{bytes_from, var_bytes}
 use Rattle.codes.specs.Varint.Laws.{bytes_from_lem, length_more, length_last}
-use borrow.Author.Rules.{rules}
 use Rattle.codes.proofs.varint.varint_len.Goals as goal
 
 bits : (f x j : ℕ) → 2 ^ j ≤ x → x < 2 ^ suc j → j < 7 * suc f → length (bytes_from f x) ≡ j / 7 + 1

@@ -1,4 +1,3 @@
-use borrow.Author.Rules.{rules}
 use mathlib.Core.Path.{ap, ◌∙◌}
 use Rattle.edge_sst_c.specs.Desk.{check_told}
 use Rattle.edge_sst_c.proofs.desk.edge_sst_check.Goals as goal

@@ -2,7 +2,6 @@
 use mathlib.Core.Path.{ap}
 use Rattle.edge_sst_c.specs.declared.figures.ExtremesTold.{ExtremesTold}
 use Rattle.edge_sst_c.specs.Summary.{figures_told}
-use borrow.Author.Rules.{rules}
 use Rattle.edge_sst_c.proofs.figures.figures_told.Goals as goal
 
 pub returns : goal.returns

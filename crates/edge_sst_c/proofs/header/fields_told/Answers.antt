@@ -1,6 +1,4 @@
 -- `edge_sst_c::header::fields_told` meets its contract.
-use Rattle.edge_sst_c.specs.Header.{fields_told}
-use borrow.Author.Rules.{rules}
 use Rattle.edge_sst_c.proofs.header.fields_told.Goals as goal
 
 pub returns : goal.returns

@@ -1,6 +1,5 @@
 -- `edge_sst_c::header::no_fields` meets its contract.
 use Rattle.edge_sst_c.specs.Header.{without_fields}
-use borrow.Author.Rules.{rules}
 use Rattle.edge_sst_c.proofs.header.no_fields.Goals as goal
 
 pub returns : goal.returns

@@ -2,7 +2,6 @@
 use mathlib.Core.Path.{sym}
 use native.Mathlib.Omega.{arith}
 use Rattle.edge_sst_c.proofs.Laws.Look.{byte_small, byte_large}
-use borrow.Author.Rules.{rules}
 use Rattle.edge_sst_c.proofs.look.byte_or.Goals as goal
 
 pub returns-then-x-lt256 : goal.returns-then-x-lt256

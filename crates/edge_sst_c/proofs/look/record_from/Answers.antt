@@ -1,7 +1,6 @@
 -- `edge_sst_c::look::record_from` meets its contract.
 use mathlib.Core.Path.{ap}
 use Rattle.edge_sst_c.specs.Look.{record_with_bits}
-use borrow.Author.Rules.{rules}
 use Rattle.edge_sst_c.proofs.look.record_from.Goals as goal
 
 pub returns : goal.returns

@@ -1,7 +1,5 @@
 -- `edge_sst_c::look::refused_told` meets its contract.
-use mathlib.Core.Path.{ap₂}
 use Rattle.edge_sst_c.specs.Look.{refused_told}
-use borrow.Author.Rules.{rules}
 use Rattle.edge_sst_c.proofs.look.refused_told.Goals as goal
 
 pub returns : goal.returns

@@ -4,12 +4,6 @@ use lib.ListN.{length}
 use Rattle.listing.specs.declared.ListPlan.{ListPlan}
 use Rattle.edge_sst_c.specs.SectionList.{listed_told, numbered}
 use Rattle.edge_sst_c.proofs.Laws.SectionList.{numbers_fit}
-use borrow.Author.Rules.{rules}
-use Rattle.edge_sst_c.proofs.section_list.edge_sst_sections.Reads as reads
-use Rattle.edge_sst_c.proofs.section_list.edge_sst_sections.Lts as lts
-use Rattle.edge_sst_c.proofs.section_list.listed_told.Reads as listed_told_reads
-use Rattle.edge_sst_c.proofs.section_list.tell_rows.Reads as put_rows_reads
-use Rattle.listing.proofs.plan_for.Reads as plan_for_reads
 use Rattle.edge_sst_c.proofs.section_list.edge_sst_sections.Goals as goal
 
 pub tell_rows-requires : goal.tell_rows-requires

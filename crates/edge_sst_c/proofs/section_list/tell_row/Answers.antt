@@ -2,9 +2,6 @@
 use lib.ListN.{length-set}
 use Rattle.edge_sst_c.proofs.Laws.SectionList.{seven}
 use native.Mathlib.Omega.{arith}
-use borrow.Author.Rules.{rules}
-use Rattle.edge_sst_c.proofs.section_list.tell_row.Reads as reads
-use Rattle.edge_sst_c.proofs.section_list.tell_row.Lts as lts
 use Rattle.edge_sst_c.proofs.section_list.tell_row.Goals as goal
 
 pub bounds-out-at-2 : goal.bounds-out-at-2

@@ -1,5 +1,4 @@
 use Rattle.frame.specs.Frame.{body_of}
-use borrow.Author.Rules.{rules}
 use Rattle.frame.proofs.ends.body_of.Goals as goal
 
 pub returns : goal.returns

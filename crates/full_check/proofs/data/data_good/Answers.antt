@@ -1,13 +1,8 @@
 -- `full_check::data::data_good` meets its contract.
 use mathlib.Core.Path.{sym, ap, ◌∙◌}
-use mathlib.Core.Bool.{Bool, true, false, beq}
-use borrow.Author.Tests.{eq-eqb, ne_eqb, not-true, not-false}
+use mathlib.Core.Bool.{Bool, beq}
+use borrow.Author.Tests.{eq-eqb, ne_eqb}
 use native.Mathlib.Omega.{arith}
-use borrow.Author.Rules.{rules}
-use Rattle.full_check.proofs.data.data_good.Reads as reads
-use Rattle.full_check.proofs.data.data_good.Lts as lts
-use Rattle.open_counts.proofs.alike.Reads as alike_reads
-use Rattle.open_counts.proofs.flag_of.Reads as flag_of_reads
 use Rattle.full_check.proofs.data.data_good.Goals as goal
 
 pub returns-then-sum-count : goal.returns-then-sum-count

@@ -5,13 +5,6 @@ use Rattle.frame.specs.Frame.{flags_of}
 use Rattle.frame.proofs.Laws.Open.{opens_parts, size_parts}
 use Rattle.full_check.specs.Checked.{tombstones, data_is, edges_refused, edges_good, edges_bad}
 use native.Mathlib.Omega.{arith}
-use borrow.Author.Rules.{rules}
-use Rattle.full_check.proofs.data.edges_check.Reads as reads
-use Rattle.full_check.proofs.data.edges_check.Lts as lts
-use Rattle.codes.proofs.little.le32.Reads as le32_reads
-use Rattle.full_check.proofs.data.data_good.Reads as data_good_reads
-use Rattle.full_check.proofs.data.groups_in.Reads as groups_in_reads
-use Rattle.full_check.proofs.data.marks_in.Reads as marks_in_reads
 use Rattle.full_check.proofs.data.edges_check.Goals as goal
 
 pub le32-requires : goal.le32-requires

@@ -5,7 +5,6 @@ use Rattle.reader.proofs.Laws.Opened.{opened_offsets}
 use Rattle.reader.proofs.Laws.Look.{opened_holds}
 use Rattle.full_check.specs.Full.{groups_seen}
 use native.Mathlib.Omega.{arith}
-use borrow.Author.Rules.{rules}
 use Rattle.full_check.proofs.data.groups_in.Goals as goal
 
 pub bytes_of-requires : goal.bytes_of-requires

@@ -1,5 +1,5 @@
 -- `full_check::data::marks_in` meets its contract.
-use mathlib.Core.Path.{◌≡◌, sym, ap, ◌∙◌}
+use mathlib.Core.Path.{ap, ◌∙◌}
 use Prim.Native.Nat.{ℕ}
 use mathlib.Core.List.{List}
 use lib.ListN.{length}
@@ -7,12 +7,6 @@ use Rattle.frame.specs.Open.{bytes_at}
 use Rattle.reader.proofs.Laws.Look.{opened_holds}
 use Rattle.full_check.specs.Full.{marks_of}
 use Rattle.full_check.specs.Checked.{marks_there, marks_none}
-use borrow.Author.Rules.{rules}
-use native.Mathlib.Omega.{arith}
-use Rattle.full_check.proofs.data.marks_in.Reads as reads
-use Rattle.full_check.proofs.data.marks_in.Lts as lts
-use Rattle.frame.proofs.bytes_of.Reads as bytes_of_reads
-use Rattle.full_check.proofs.marks.marks_of.Reads as marks_of_reads
 use Rattle.full_check.proofs.data.marks_in.Goals as goal
 
 pub bytes_of-requires : goal.bytes_of-requires

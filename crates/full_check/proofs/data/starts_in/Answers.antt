@@ -1,7 +1,6 @@
 -- `full_check::data::starts_in` meets its contract.
 use mathlib.Core.Path.{refl}
 use Rattle.reader.proofs.Laws.Look.{opened_holds}
-use borrow.Author.Rules.{rules}
 use Rattle.full_check.proofs.data.starts_in.Goals as goal
 
 pub bytes_of-requires : goal.bytes_of-requires

@@ -1,10 +1,10 @@
 -- `full_check::groups::groups_of` meets its contract. Invariant: `Walk`, of the groups that are passed.
 use mathlib.Core.Path.{sym, ap, ◌∙◌}
 use mathlib.Core.Bool.{Bool, ◌||◌}
-use Prim.Native.Nat.{◌+◌, ◌-◌, ◌*◌, ◌≤◌}
+use Prim.Native.Nat.{◌+◌, ◌*◌, ◌≤◌}
 use native.Mathlib.Nat.{mul-le-mul_right}
 use Rattle.full_check.specs.declared.groups.Groups.{Groups}
-use Rattle.full_check.specs.Full.Laws.{Walk, walk_start, walk_rises, walk_bad, walk_few, walk_on, walk_end}
+use Rattle.full_check.specs.Full.Laws.{walk_start, walk_rises, walk_bad, walk_few, walk_on, walk_end}
 use borrow.Author.Rules.{rules}
 use native.Mathlib.Omega.{arith}
 use Rattle.full_check.proofs.groups.groups_of.Goals as goal

@@ -1,13 +1,10 @@
 -- `full_check::marks::bytes_dead` meets its contract. Invariant: one of the edges left is dead exactly if one of all is.
-use mathlib.Core.Path.{◌≡◌, refl, ap}
-use Prim.Native.Nat.{ℕ, ◌-◌, ◌*◌, ◌≤◌}
+use mathlib.Core.Path.{refl, ap}
+use Prim.Native.Nat.{ℕ, ◌*◌}
 use native.Mathlib.Nat.{sub-zero}
 use Rattle.full_check.specs.Full.{dead_from}
 use Rattle.full_check.specs.Marks.{bytes_some, bytes_on, bytes_end}
-use borrow.Author.Rules.{rules}
 use native.Mathlib.Omega.{arith}
-use Rattle.full_check.proofs.marks.bytes_dead.Reads as reads
-use Rattle.full_check.proofs.marks.bytes_dead.Lts as lts
 use Rattle.full_check.proofs.marks.bytes_dead.Goals as goal
 
 pub loop-b-init : goal.loop-b-init

@@ -2,7 +2,6 @@
 use mathlib.Core.Path.{ap, ◌∙◌}
 use Prim.Native.Nat.{ℕ}
 use mathlib.Core.List.{List}
-use lib.ListN.{length}
 use Rattle.frame.specs.Frame.{rows_of}
 use Rattle.frame.proofs.Laws.Open.{footed}
 use Rattle.full_check.specs.Full.{sums_from}

@@ -1,14 +1,9 @@
 -- `full_check::sums::sums_in` meets its contract.
-use mathlib.Core.Path.{◌≡◌, refl, sym, ap, ◌∙◌}
+use mathlib.Core.Path.{ap, ◌∙◌}
 use Prim.Native.Nat.{ℕ}
 use Rattle.frame.specs.Frame.{rows_from, rows_of, end_of}
 use Rattle.full_check.specs.Full.{sums_from}
 use native.Mathlib.Omega.{arith}
-use borrow.Author.Rules.{rules}
-use Rattle.full_check.proofs.sums.sums_in.Reads as reads
-use Rattle.full_check.proofs.sums.sums_in.Lts as lts
-use Rattle.codes.proofs.little.le16.Reads as le16_reads
-use Rattle.full_check.proofs.sums.sums_from.Reads as sums_from_reads
 use Rattle.full_check.proofs.sums.sums_in.Goals as goal
 
 pub sums_from-requires : goal.sums_from-requires

@@ -1,21 +1,11 @@
 -- `group::dense::check_dense` meets its contract. Invariant: `last` is the upper half of the partner before i, so many partners were good, and what is left gives the whole answer.
-use mathlib.Core.Path.{◌≡◌, refl, sym, ap₂, ◌∙◌}
-use Prim.Native.Nat.{ℕ, suc, ◌+◌, ◌-◌, ◌*◌, ◌≤◌, ◌<◌}
+use mathlib.Core.Path.{sym, ◌∙◌}
+use Prim.Native.Nat.{◌+◌}
 use native.Mathlib.Omega.{arith}
-use mathlib.Core.Bool.{Bool, true, false}
-use mathlib.Core.List.{List}
-use lib.ListN.{length}
-use lib.Dec.{ltb}
-use borrow.Author.Tests.{not-true, not-false, le-leb}
-use Rattle.codes.specs.Ids.{be_at, id_at, halves_at, id_number}
-use Rattle.codes.specs.Ids.Laws.{number_halves}
-use Rattle.group.specs.declared.GroupVerdict.{GroupVerdict}
-use Rattle.group.specs.declared.fault.Flaw.{Flaw}
-use Rattle.group.specs.Fault.{fault_at}
-use Rattle.group.proofs.Laws.Group.{answered, Checked, check_start, check_end, check_over, check_bad, check_low, check_more, step_dense, dense_short, dense_at}
-use borrow.Author.Rules.{rules}
+use mathlib.Core.Bool.{true}
+use Rattle.group.proofs.Laws.Group.{check_start, check_end, check_over}
 use Rattle.group.proofs.dense.check_dense.Goals as goal
-use Rattle.group.proofs.dense.check_dense.Invariants.{Left, Passed, first, passed_first, compared, passed_low, next, passed_on, cut}
+use Rattle.group.proofs.dense.check_dense.Invariants.{passed_first, passed_low, passed_on, cut}
 
 pub returns-then-count-eq0 : goal.returns-then-count-eq0
 returns-then-count-eq0 c =

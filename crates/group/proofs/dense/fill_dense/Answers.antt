@@ -1,13 +1,13 @@
 -- `group::dense::fill_dense` meets its contract. Invariant: what is still to be copied, copied over what is there, is the whole.
 use mathlib.Core.Path.{◌≡◌, ◌∙◌, ap, ap₂, sym, refl}
-use Prim.Native.Nat.{ℕ, suc, ◌+◌, ◌-◌, ◌≤◌, ◌<◌}
+use Prim.Native.Nat.{ℕ, suc, ◌+◌, ◌≤◌, ◌<◌}
 use native.Mathlib.Nat.{add-zero}
 use native.Mathlib.Numerals.{add-one}
 use native.Mathlib.Omega.{arith}
 use mathlib.Core.List.{List, []}
 use lib.ListN.{length, drop, get_or, set, length-set, length-drop, drop_of_length-le}
 use lib.Seq.{sets, drop-cons}
-use Rattle.base.specs.Over.{over, sets_over}
+use Rattle.base.specs.Over.{sets_over}
 use Rattle.group.proofs.dense.fill_dense.Goals as goal
 
 -- one byte more

@@ -1,7 +1,6 @@
 -- `group::fault::refusal_of` meets its contract, flaw by flaw.
 use mathlib.Core.Path.{sym, ap, ◌∙◌}
 use Rattle.group.specs.Fault.{flaw_of}
-use borrow.Author.Rules.{rules}
 use Rattle.group.proofs.fault.refusal_of.Goals as goal
 
 pub returns-in-Tag : goal.returns-in-Tag

@@ -1,7 +1,6 @@
 -- `group::fault::unread_of` meets its contract, case by case.
 use mathlib.Core.Path.{sym, ap}
 use Rattle.group.specs.Fault.{unread_of}
-use borrow.Author.Rules.{rules}
 use Rattle.group.proofs.fault.unread_of.Goals as goal
 
 pub returns-in-Cut : goal.returns-in-Cut

@@ -1,9 +1,6 @@
 -- `group::head::head_of` meets its contract: each way out is a case of headOf.
-use mathlib.Core.Path.{◌≡◌, sym, ◌∙◌}
-use Rattle.codes.specs.declared.varint.Varint.TheVariants.{Value}
-use Rattle.codes.specs.Varint.{varint_at}
+use mathlib.Core.Path.{sym, ◌∙◌}
 use Rattle.group.proofs.Laws.Group.{head_unread, head_none, head_short, head_split, head_dense, head_tag}
-use borrow.Author.Rules.{rules}
 use Rattle.group.proofs.head.head_of.Goals as goal
 
 pub returns-then-value-eq0 : goal.returns-then-value-eq0

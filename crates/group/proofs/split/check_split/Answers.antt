@@ -1,12 +1,10 @@
 -- `group::split::check_split` meets its contract. Invariant: k partners were good, and what is left gives the whole answer.
 use mathlib.Core.Path.{sym, refl, ◌∙◌}
-use Prim.Native.Nat.{◌+◌, ◌-◌, ◌≤◌}
+use Prim.Native.Nat.{◌+◌}
 use native.Mathlib.Omega.{arith}
 use mathlib.Core.Bool.{false}
-use borrow.Author.Tests.{not-true, not-false}
 use Rattle.group.specs.Group.{floor_of}
-use Rattle.group.proofs.Laws.Group.{Checked, check_start, check_end, check_over, check_bad, check_low, check_more, step_split, floor_first, floor_next}
-use borrow.Author.Rules.{rules}
+use Rattle.group.proofs.Laws.Group.{check_start, check_end, check_over, check_bad, check_low, check_more, step_split, floor_first, floor_next}
 use Rattle.group.proofs.split.check_split.Goals as goal
 
 pub loop-k-init : goal.loop-k-init

@@ -1,19 +1,18 @@
 -- `group::split::fill_split` meets its contract. Invariant: the rest is good, and written over what is there it is the whole.
 use mathlib.Core.Path.{◌≡◌, sym, ap, ◌∙◌}
-use Prim.Native.Nat.{ℕ, suc, ◌+◌, ◌-◌, ◌*◌, ◌≤◌}
+use Prim.Native.Nat.{ℕ, suc, ◌+◌, ◌-◌}
 use native.Mathlib.Nat.{sub-zero}
 use native.Mathlib.Omega.{arith}
 use mathlib.Core.List.{List}
-use mathlib.Core.Bool.{true, false}
+use mathlib.Core.Bool.{false}
 use lib.Seq.{sets}
-use Rattle.base.specs.Over.{over, sets_over}
-use Rattle.base.specs.Put.{Put, Left, start, is, put, end}
+use Rattle.base.specs.Over.{sets_over}
+use Rattle.base.specs.Put.{Put, start, is, put, end}
 use Rattle.codes.specs.declared.ids.Id.{Id}
 use Rattle.codes.specs.Ids.{be_bytes, id_bytes, id_number}
 use Rattle.codes.specs.Ids.Laws.{put_halves, length_id_bytes}
-use Rattle.group.specs.Group.{walk_from, is_good, partners_of, bytes_of}
-use Rattle.group.proofs.Laws.Group.{Filled, fill_turn, fill_read, fill_end}
-use borrow.Author.Rules.{rules}
+use Rattle.group.specs.Group.{walk_from, partners_of, bytes_of}
+use Rattle.group.proofs.Laws.Group.{fill_turn, fill_read, fill_end}
 use Rattle.group.proofs.split.fill_split.Goals as goal
 
 -- the two halves are written one after the other

@@ -2,7 +2,6 @@
 use mathlib.Core.Path.{sym, ◌∙◌}
 use native.Mathlib.Omega.{arith}
 use Rattle.group.proofs.Laws.Group.{above_first, above_next}
-use borrow.Author.Rules.{rules}
 use Rattle.group.proofs.split.in_order.Goals as goal
 
 pub returns-then-k-eq0 : goal.returns-then-k-eq0

@@ -1,13 +1,10 @@
 -- `group::split::split_step` meets its contract: each way out is a case of split_step.
-use mathlib.Core.Path.{◌≡◌, sym, ap, ◌∙◌}
+use mathlib.Core.Path.{sym, ap, ◌∙◌}
 use Prim.Native.Nat.{ℕ, ◌+◌, ◌-◌, ◌^◌, ◌≤◌, ◌<◌}
 use native.Mathlib.Omega.{arith}
-use Rattle.codes.specs.declared.varint.Varint.TheVariants.{Value}
-use Rattle.codes.specs.Varint.{varint_at}
 use Rattle.codes.specs.Varint.Laws.{varint_next}
 use Rattle.group.specs.declared.split.Step.{Step}
 use Rattle.group.proofs.Laws.Group.{split_unread, split_over, split_short, split_good}
-use borrow.Author.Rules.{rules}
 use Rattle.group.proofs.split.split_step.Goals as goal
 
 -- whether a sum fits

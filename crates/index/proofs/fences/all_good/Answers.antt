@@ -1,10 +1,8 @@
 -- `index::fences::all_good` meets its contract. Invariant: what is left to check from i on gives the whole.
-use mathlib.Core.Path.{◌≡◌, ◌∙◌, sym}
-use Prim.Native.Nat.{◌+◌, ◌-◌, ◌*◌, ◌≤◌}
+use mathlib.Core.Path.{◌∙◌, sym}
+use Prim.Native.Nat.{◌+◌, ◌*◌, ◌≤◌}
 use native.Mathlib.Nat.{sub-zero, mul-le-mul_right}
 use native.Mathlib.Omega.{arith}
-use borrow.Author.Tests.{not-true, not-false}
-use Rattle.frame.specs.Open.{fences_from}
 use Rattle.index.specs.Cases.{fences_bad, fences_on, fences_none}
 use Rattle.index.proofs.fences.all_good.Goals as goal
 

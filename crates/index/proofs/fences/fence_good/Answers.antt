@@ -1,13 +1,9 @@
 -- `index::fences::fence_good` meets its contract.
-use mathlib.Core.Path.{◌≡◌, ap}
+use mathlib.Core.Path.{ap}
 use Prim.Native.Nat.{ℕ, ◌+◌, ◌*◌}
-use mathlib.Core.Bool.{Bool, true, false}
 use lib.Dec.{eqb}
-use borrow.Author.Tests.{not-true, not-false}
-use Rattle.codes.specs.Ids.{id_at}
-use Rattle.frame.specs.Open.{key_at, fence_good}
+use Rattle.frame.specs.Open.{fence_good}
 use Rattle.index.specs.Compare.{eqb_read}
-use borrow.Author.Rules.{rules}
 use Rattle.index.proofs.fences.fence_good.Goals as goal
 
 pub returns-then-not-same_id : goal.returns-then-not-same_id

@@ -2,7 +2,6 @@
 use mathlib.Core.Path.{sym}
 use native.Mathlib.Omega.{arith}
 use Rattle.index.specs.Cases.{fences_short, fences_stride, fences_count, fences_length, fences_walked, rounded_up}
-use borrow.Author.Rules.{rules}
 use Rattle.index.proofs.fences.fences_good.Goals as goal
 
 pub returns-then-x-head : goal.returns-then-x-head

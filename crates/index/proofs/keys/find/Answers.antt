@@ -1,14 +1,11 @@
 -- `index::keys::find` meets its contract. Invariant: the turns that are left give the whole answer.
-use mathlib.Core.Path.{◌≡◌}
-use Prim.Native.Nat.{◌+◌, ◌-◌, ◌*◌, ◌≤◌}
+use Prim.Native.Nat.{◌*◌}
 use native.Mathlib.Omega.{arith}
 use Rattle.codes.specs.declared.ids.Order.{Order}
-use Rattle.codes.specs.Ids.{id_number, order}
-use Rattle.frame.specs.Open.{key_at}
+use Rattle.codes.specs.Ids.{id_number}
 use Rattle.index.specs.Compare.{order_read}
 use Rattle.index.specs.Find.{middle}
-use Rattle.index.specs.Find.Laws.{Between, search_start, search_end, search_above, search_here, search_below}
-use borrow.Author.Rules.{rules}
+use Rattle.index.specs.Find.Laws.{search_start, search_end, search_above, search_here, search_below}
 use Rattle.index.proofs.keys.find.Goals as goal
 
 pub loop-low-init : goal.loop-low-init

@@ -2,14 +2,12 @@
 use mathlib.Core.Path.{◌≡◌, ◌∙◌, sym, ap, refl}
 use Prim.Native.Nat.{ℕ, ◌+◌, ◌-◌, ◌*◌, ◌≤◌}
 use native.Mathlib.Omega.{arith}
-use mathlib.Core.Bool.{Bool, true, false}
+use mathlib.Core.Bool.{Bool}
 use mathlib.Core.List.{List}
 use lib.Dec.{ltb}
-use borrow.Author.Tests.{not-true, not-false}
 use Rattle.codes.specs.Ids.{be_at, id_at}
-use Rattle.frame.specs.Open.{key_at, keys_from}
+use Rattle.frame.specs.Open.{key_at}
 use Rattle.index.specs.Cases.{keys_bad, keys_on, keys_none}
-use borrow.Author.Rules.{rules}
 use Rattle.index.proofs.keys.keys_check.Goals as goal
 
 -- the place of the key before k

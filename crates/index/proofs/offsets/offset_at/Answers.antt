@@ -2,7 +2,6 @@
 use mathlib.Core.Path.{◌≡◌, ◌∙◌}
 use native.Mathlib.Omega.{arith}
 use Rattle.index.specs.Cases.{of_width}
-use borrow.Author.Rules.{rules}
 use Rattle.index.proofs.offsets.offset_at.Goals as goal
 
 pub returns-then-w-le3 : goal.returns-then-w-le3

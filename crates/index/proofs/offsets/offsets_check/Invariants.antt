@@ -1,14 +1,10 @@
 -- `index::offsets::offsets_check` meets its contract. Invariant: `last` is offset i, it rises, and what is left to check from i on gives the whole.
-use mathlib.Core.Path.{◌≡◌, ◌∙◌, sym}
-use Prim.Native.Nat.{◌+◌, ◌-◌, ◌*◌, ◌≤◌}
-use native.Mathlib.Nat.{sub-zero, mul-le-mul_right}
-use native.Mathlib.Omega.{arith}
-use mathlib.Core.Bool.{true, false}
-use borrow.Author.Tests.{eq-eqb, ne_eqb}
+use mathlib.Core.Path.{◌≡◌}
+use Prim.Native.Nat.{◌+◌, ◌-◌, ◌≤◌}
+use mathlib.Core.Bool.{true}
 use Rattle.refusal.specs.declared.Refusal.{Refusal}
 use Rattle.frame.specs.Open.{offset_at, rising_from}
-use Rattle.index.specs.Cases.{rising_keys, first_rises, next_rises, rising_first, rising_on, rising_bad, rising_end}
-use borrow.Author.Rules.{rules}
+use Rattle.index.specs.Cases.{rising_keys}
 use Rattle.index.proofs.offsets.offsets_check.Given as goal
 
 abbrev pub invariant-loop-i : goal.invariant-loop-i

@@ -1,15 +1,12 @@
 -- `index::starts::starts_check` meets its contract. Invariant: `last` is entry i, it rises, and what is left to check from i on gives the whole.
-use mathlib.Core.Path.{◌≡◌, ◌∙◌, sym}
-use Prim.Native.Nat.{◌+◌, ◌-◌, ◌≤◌}
+use mathlib.Core.Path.{◌∙◌, sym}
 use native.Mathlib.Nat.{sub-zero}
 use native.Mathlib.Omega.{arith}
 use mathlib.Core.Bool.{true, false}
 use borrow.Author.Tests.{eq-eqb, ne_eqb}
 use Rattle.refusal.specs.declared.Refusal.{Refusal}
 use Rattle.frame.specs.Kind.{start_size}
-use Rattle.frame.specs.Open.{start_at, rising_from}
-use Rattle.index.specs.Cases.{rising_keys, first_rises, next_rises, rising_first, rising_on, rising_bad, rising_end}
-use borrow.Author.Rules.{rules}
+use Rattle.index.specs.Cases.{first_rises, next_rises, rising_first, rising_on, rising_bad, rising_end}
 use Rattle.index.proofs.starts.starts_check.Goals as goal
 
 pub returns-then-last-ne0 : goal.returns-then-last-ne0

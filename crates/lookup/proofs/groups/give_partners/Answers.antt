@@ -1,11 +1,8 @@
 -- `lookup::groups::give_partners` meets its contract.
-use mathlib.Core.Path.{◌≡◌, refl, sym, ap, ap₂, ◌∙◌}
-use Prim.Native.Nat.{ℕ, ◌+◌, ◌-◌, ◌*◌, ◌/◌, ◌≤◌, ◌<◌}
-use lib.ListN.{length}
+use mathlib.Core.Path.{◌∙◌}
 use Rattle.base.specs.Over.{part, over}
 use Rattle.group.specs.Group.{group_of, partners_of, bytes_of}
 use Rattle.lookup.proofs.Laws.Groups.{fills_at}
-use borrow.Author.Rules.{rules}
 use Rattle.lookup.proofs.groups.give_partners.Goals as goal
 
 pub fill_part-requires : goal.fill_part-requires

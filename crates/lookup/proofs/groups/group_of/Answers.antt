@@ -1,8 +1,6 @@
 -- `lookup::groups::group_of` meets its contract.
-use mathlib.Core.Path.{◌≡◌, refl, sym, ap, ap₂, ◌∙◌}
-use Prim.Native.Nat.{ℕ, ◌+◌, ◌-◌, ◌*◌, ◌/◌, ◌≤◌, ◌<◌}
+use mathlib.Core.Path.{◌∙◌}
 use Rattle.lookup.specs.Groups.{group_seen}
-use borrow.Author.Rules.{rules}
 use Rattle.lookup.proofs.groups.group_of.Goals as goal
 
 pub returns : goal.returns

@@ -11,7 +11,6 @@ use Rattle.degrees.specs.declared.Sum.{Sum}
 use Rattle.degrees.specs.Degrees.{edges_before, start_of, capped}
 use Rattle.lookup.specs.Lookup.{before}
 use native.Mathlib.Omega.{arith}
-use borrow.Author.Rules.{rules}
 use Rattle.lookup.proofs.known.edges_of.Goals as goal
 
 module _ (f : List ℕ) (o : Opened) (i d : ℕ) where

@@ -1,14 +1,9 @@
 -- `lookup::known::fill_logs` meets its contract. Invariant: what is still to be written, written over what is there, is the whole.
-use mathlib.Core.Path.{◌≡◌, refl, sym, ap, ap₂, ◌∙◌}
-use Prim.Native.Nat.{ℕ, ◌+◌, ◌-◌, ◌*◌, ◌/◌, ◌≤◌, ◌<◌}
-use native.Mathlib.Nat.{add-zero, sub-zero}
-use lib.ListN.{length, length-set}
+use mathlib.Core.Path.{◌≡◌}
+use Prim.Native.Nat.{◌+◌, ◌-◌, ◌≤◌}
+use lib.ListN.{length}
 use lib.Seq.{sets}
-use Rattle.base.specs.Over.{sets_over}
 use Rattle.lookup.specs.Lookup.{logs_from}
-use Rattle.lookup.proofs.Laws.Lookup.{logs_on, logs_none, length_logs}
-use borrow.Author.Rules.{rules}
-use native.Mathlib.Omega.{arith}
 use Rattle.lookup.proofs.known.fill_logs.Given as goal
 
 abbrev pub invariant-loop-j : goal.invariant-loop-j

@@ -1,13 +1,10 @@
 -- `lookup::known::fill_marks` meets its contract. Invariant: what is still to be written, written over what is there, is the whole.
-use mathlib.Core.Path.{◌≡◌, refl, sym, ap, ap₂, ◌∙◌}
-use Prim.Native.Nat.{ℕ, ◌+◌, ◌-◌, ◌*◌, ◌/◌, ◌≤◌, ◌<◌}
+use mathlib.Core.Path.{refl, sym, ◌∙◌}
 use native.Mathlib.Nat.{add-zero, sub-zero}
-use lib.ListN.{length, length-set}
-use lib.Seq.{sets}
+use lib.ListN.{length-set}
 use Rattle.base.specs.Over.{sets_over}
 use Rattle.lookup.specs.Lookup.{marks_from}
 use Rattle.lookup.proofs.Laws.Lookup.{marks_on, marks_none, length_marks}
-use borrow.Author.Rules.{rules}
 use native.Mathlib.Omega.{arith}
 use Rattle.lookup.proofs.known.fill_marks.Goals as goal
 

@@ -1,7 +1,6 @@
 -- `lookup::known::mark_at` meets its contract.
 use mathlib.Core.Path.{sym}
 use Rattle.lookup.proofs.Laws.Lookup.{mark_none}
-use borrow.Author.Rules.{rules}
 use Rattle.lookup.proofs.known.mark_at.Goals as goal
 
 pub returns-then-s-at : goal.returns-then-s-at

@@ -1,13 +1,12 @@
 -- `lookup::whole::edges_of_key` meets its contract.
-use mathlib.Core.Path.{◌≡◌, refl, sym, ap, ◌∙◌}
+use mathlib.Core.Path.{sym, ◌∙◌}
 use lib.ListN.{length}
 use mathlib.Core.Bool.{true}
 use Rattle.codes.specs.Ids.{id_number}
-use Rattle.frame.specs.Open.{known_of, bytes_at}
+use Rattle.frame.specs.Open.{bytes_at}
 use Rattle.index.specs.Find.Laws.{find_sound}
 use Rattle.lookup.specs.Calls.{lent}
 use Rattle.lookup.proofs.Laws.Calls.{whole_absent, whole_refused, whole_as, look_absent, look_at, look_fault}
-use borrow.Author.Rules.{rules}
 use Rattle.lookup.proofs.whole.edges_of_key.Goals as goal
 
 pub group_of-requires : goal.group_of-requires

@@ -1,12 +1,11 @@
 -- `lookup::whole::give_logs` meets its contract.
-use mathlib.Core.Path.{◌≡◌, refl, sym, ap, ◌∙◌}
-use Prim.Native.Nat.{ℕ, ◌+◌, ◌*◌, ◌≤◌}
+use mathlib.Core.Path.{ap, ◌∙◌}
+use Prim.Native.Nat.{ℕ}
 use mathlib.Core.List.{List}
 use lib.ListN.{length}
 use Rattle.base.specs.Over.{over}
 use Rattle.lookup.specs.Lookup.{logs_from}
 use native.Mathlib.Omega.{arith}
-use borrow.Author.Rules.{rules}
 use Rattle.lookup.proofs.whole.give_logs.Goals as goal
 
 pub fill_logs-requires : goal.fill_logs-requires

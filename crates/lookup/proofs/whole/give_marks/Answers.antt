@@ -1,11 +1,10 @@
 -- `lookup::whole::give_marks` meets its contract.
-use mathlib.Core.Path.{◌≡◌, refl, sym, ap, ◌∙◌}
-use Prim.Native.Nat.{ℕ, ◌+◌, ◌*◌, ◌≤◌}
+use mathlib.Core.Path.{ap, ◌∙◌}
+use Prim.Native.Nat.{ℕ}
 use mathlib.Core.List.{List}
 use Rattle.base.specs.Over.{over}
 use Rattle.lookup.specs.Lookup.{marks_from}
 use native.Mathlib.Omega.{arith}
-use borrow.Author.Rules.{rules}
 use Rattle.lookup.proofs.whole.give_marks.Goals as goal
 
 pub fill_marks-requires : goal.fill_marks-requires

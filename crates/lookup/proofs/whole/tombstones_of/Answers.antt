@@ -1,6 +1,5 @@
 -- `lookup::whole::tombstones_of` meets its contract.
-use mathlib.Core.Path.{◌≡◌, refl, sym, ap, ◌∙◌}
-use borrow.Author.Rules.{rules}
+use mathlib.Core.Path.{refl}
 use Rattle.lookup.proofs.whole.tombstones_of.Goals as goal
 
 pub bytes_of-requires : goal.bytes_of-requires

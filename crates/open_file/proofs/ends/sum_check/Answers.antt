@@ -1,5 +1,5 @@
 -- `opening::ends::sum_check` meets its contract.
-use mathlib.Core.Path.{◌≡◌, refl, sym, ap, ◌∙◌}
+use mathlib.Core.Path.{◌≡◌, sym, ap, ◌∙◌}
 use Prim.Native.Nat.{ℕ, ◌-◌}
 use mathlib.Core.List.{List}
 use lib.ListN.{length}
@@ -9,7 +9,6 @@ use Rattle.xxh3_spec.specs.Xxh3.{xxh3}
 use Rattle.refusal.specs.declared.Refusal.{Refusal}
 use Rattle.refusal.specs.declared.Check.{Check}
 use Rattle.frame.specs.Frame.{body_of, sum_check}
-use borrow.Author.Rules.{rules}
 use Rattle.open_file.proofs.ends.sum_check.Goals as goal
 
 module _ (t b : List ℕ) (s v : ℕ) (f : b ≡ body_of t) (e : s ≡ xxh3 b) (w : v ≡ le_at t (length t - 20) 8) where

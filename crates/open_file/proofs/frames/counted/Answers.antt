@@ -1,9 +1,7 @@
 -- `opening::frames::counted` meets its contract.
-use mathlib.Core.Path.{◌≡◌, refl, sym, ap, ◌∙◌}
-use borrow.Author.Tests.{not-true, not-false}
+use mathlib.Core.Path.{sym, ◌∙◌}
 use Rattle.refusal.specs.declared.Refusal.{Refusal}
 use Rattle.frame.proofs.Laws.Open.{framing_last, framing_lost}
-use borrow.Author.Rules.{rules}
 use Rattle.open_file.proofs.frames.counted.Goals as goal
 
 pub returns-then-not-counts_good : goal.returns-then-not-counts_good

@@ -1,5 +1,5 @@
 -- `opening::frames::footer_framing` meets its contract.
-use mathlib.Core.Path.{◌≡◌, refl, sym, ap, ◌∙◌}
+use mathlib.Core.Path.{◌≡◌, sym, ap, ◌∙◌}
 use Prim.Native.Nat.{ℕ}
 use mathlib.Core.List.{List}
 use Rattle.refusal.specs.declared.Refusal.{Refusal}
@@ -9,7 +9,6 @@ use Rattle.frame.specs.declared.Framing.{Framing}
 use Rattle.frame.specs.Frame.{framed_of, footer_check, counts_check}
 use Rattle.frame.specs.Open.{framing}
 use Rattle.frame.proofs.Laws.Open.{framing_bad, framing_on, good_framing, refused_framing}
-use borrow.Author.Rules.{rules}
 use Rattle.open_file.proofs.frames.footer_framing.Goals as goal
 
 module _ (size flags : ℕ) (t : List ℕ) where

@@ -1,5 +1,5 @@
 -- `opening::frames::frame_of` meets its contract.
-use mathlib.Core.Path.{◌≡◌, refl, sym, ap, ◌∙◌}
+use mathlib.Core.Path.{◌≡◌, sym, ap, ◌∙◌}
 use Prim.Native.Nat.{ℕ}
 use mathlib.Core.List.{List}
 use lib.ListN.{length}
@@ -10,7 +10,6 @@ use Rattle.frame.specs.declared.Framing.{Framing}
 use Rattle.frame.specs.Frame.{flags_of, framed_of, size_check, ends_check, footer_check, counts_check, frame_check}
 use Rattle.frame.specs.Open.{framing}
 use Rattle.frame.proofs.Laws.Open.{size_parts, tail_parts, frame_chain, ends_parts, framing_bad, framing_on}
-use borrow.Author.Rules.{rules}
 use native.Mathlib.Omega.{arith}
 use Rattle.open_file.proofs.frames.frame_of.Goals as goal
 

@@ -1,6 +1,5 @@
 -- `table::Seen::coded` meets its contract.
 use Rattle.open_table.specs.Pass.{coded}
-use borrow.Author.Rules.{rules}
 use Rattle.open_table.proofs.Seen.coded.Goals as goal
 
 pub returns : goal.returns

@@ -2,7 +2,6 @@
 use mathlib.Core.Path.{sym, ◌∙◌}
 use Rattle.open_table.specs.Pass.{first_bad, ranged}
 use Rattle.open_table.specs.Pass.Laws.{range_fits}
-use borrow.Author.Rules.{rules}
 use native.Mathlib.Omega.{arith}
 use Rattle.open_table.proofs.Seen.ranged.Goals as goal
 

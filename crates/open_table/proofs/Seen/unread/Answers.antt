@@ -1,7 +1,6 @@
 -- `table::Seen::unread` meets its contract.
 use mathlib.Core.Path.{sym, ◌∙◌}
 use Rattle.open_table.specs.Pass.Laws.{unread_reserved, unread_other}
-use borrow.Author.Rules.{rules}
 use Rattle.open_table.proofs.Seen.unread.Goals as goal
 
 pub returns-then-holds : goal.returns-then-holds

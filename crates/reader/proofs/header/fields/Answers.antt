@@ -1,6 +1,5 @@
 -- `reader::header::fields` meets its contract.
 use Rattle.frame.specs.Frame.{direction_of, header_in}
-use borrow.Author.Rules.{rules}
 use Rattle.reader.proofs.header.fields.Goals as goal
 
 pub returns : goal.returns

@@ -1,9 +1,7 @@
 -- `reader::header::header` meets its contract.
 use mathlib.Core.Path.{sym, ap, ◌∙◌}
-use native.Mathlib.Omega.{arith}
 use Rattle.reader.specs.declared.header.HeaderRead.{HeaderRead}
 use Rattle.reader.proofs.Laws.Header.{header_refused, header_good, header_there}
-use borrow.Author.Rules.{rules}
 use Rattle.reader.proofs.header.header.Goals as goal
 
 pub fields-requires : goal.fields-requires

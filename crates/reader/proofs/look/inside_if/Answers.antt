@@ -1,6 +1,4 @@
 -- `reader::look::inside_if` meets its contract.
-use borrow.Author.Tests.{not-true, not-false}
-use borrow.Author.Rules.{rules}
 use Rattle.reader.proofs.look.inside_if.Goals as goal
 
 pub returns-then-not-there : goal.returns-then-not-there

@@ -1,17 +1,13 @@
 -- `reader::look::lookup` meets its contract.
-use mathlib.Core.Path.{◌≡◌, sym, ap, ◌∙◌}
-use Prim.Native.Nat.{ℕ}
+use mathlib.Core.Path.{sym, ap, ◌∙◌}
 use lib.ListN.{length}
-use mathlib.Core.Bool.{true, false}
-use borrow.Author.Tests.{not-true, not-false}
+use mathlib.Core.Bool.{true}
 use Rattle.codes.specs.Ids.{id_at}
 use Rattle.frame.specs.Open.{known_of}
 use Rattle.lookup.specs.Lookup.{look_in}
-use Rattle.lookup.proofs.Laws.Record.{holds}
 use Rattle.lookup.specs.Calls.{lent}
 use Rattle.lookup.proofs.Laws.Calls.{whole_as, whole_refused}
 use Rattle.reader.proofs.Laws.Look.{of_refused, of_good, opened_holds, key_number}
-use borrow.Author.Rules.{rules}
 use Rattle.reader.proofs.look.lookup.Goals as goal
 
 pub edges_of_key-requires : goal.edges_of_key-requires

@@ -1,7 +1,5 @@
 -- `reader::look::options_inside` meets its contract.
 use mathlib.Core.Path.{sym, ◌∙◌}
-use borrow.Author.Tests.{not-true, not-false}
-use borrow.Author.Rules.{rules}
 use Rattle.reader.proofs.look.options_inside.Goals as goal
 
 pub returns-then-not-inside_if : goal.returns-then-not-inside_if

@@ -1,17 +1,13 @@
 -- `reader::look::partners` meets its contract.
-use mathlib.Core.Path.{◌≡◌, sym, ap, ◌∙◌}
-use Prim.Native.Nat.{ℕ}
+use mathlib.Core.Path.{sym, ap, ◌∙◌}
 use lib.ListN.{length}
-use mathlib.Core.Bool.{true, false}
-use borrow.Author.Tests.{not-true, not-false}
+use mathlib.Core.Bool.{false}
 use Rattle.codes.specs.Ids.{id_at}
 use Rattle.frame.specs.Open.{known_of}
 use Rattle.lookup.specs.Lookup.{look_in}
-use Rattle.lookup.proofs.Laws.Record.{holds}
 use Rattle.lookup.specs.Calls.{alone}
 use Rattle.lookup.proofs.Laws.Calls.{alone_as, alone_refused}
 use Rattle.reader.proofs.Laws.Look.{of_refused, of_good, opened_holds, key_number}
-use borrow.Author.Rules.{rules}
 use Rattle.reader.proofs.look.partners.Goals as goal
 
 pub partners_of-requires : goal.partners_of-requires

@@ -1,9 +1,7 @@
 -- `reader::look::partners_with` meets its contract.
-use mathlib.Core.Path.{◌≡◌, sym, ap, ◌∙◌}
-use Prim.Native.Nat.{ℕ}
+use mathlib.Core.Path.{sym, ap, ◌∙◌}
 use lib.ListN.{length}
-use mathlib.Core.Bool.{true, false}
-use borrow.Author.Tests.{not-true, not-false}
+use mathlib.Core.Bool.{false}
 use Rattle.codes.specs.Ids.{id_at}
 use Rattle.frame.specs.Open.{known_of}
 use Rattle.lookup.specs.Lookup.{look_in}
@@ -11,7 +9,6 @@ use Rattle.lookup.proofs.Laws.Record.{holds}
 use Rattle.lookup.specs.Calls.{alone}
 use Rattle.lookup.proofs.Laws.Calls.{alone_as, alone_refused}
 use Rattle.reader.proofs.Laws.Look.{with_bad, with_good, key_number}
-use borrow.Author.Rules.{rules}
 use Rattle.reader.proofs.look.partners_with.Goals as goal
 
 pub returns-then-not-record_good : goal.returns-then-not-record_good

@@ -2,12 +2,11 @@
 use mathlib.Core.Path.{◌≡◌, sym, ◌∙◌}
 use Prim.Native.Nat.{ℕ, ◌≤◌, ◌<◌}
 use mathlib.Core.Bool.{true, false}
-use borrow.Author.Tests.{le-leb, lt-leb, not-true, not-false}
+use borrow.Author.Tests.{le-leb, lt-leb}
 use Rattle.frame.specs.declared.Opened.{Opened}
 use Rattle.frame.specs.Kind as kind
 use Rattle.frame.specs.Frame.{width_good, sizes_good}
 use Rattle.frame.specs.Open.{inside, options_inside, record_within}
-use borrow.Author.Rules.{rules}
 use native.Mathlib.Omega.{arith}
 use Rattle.reader.proofs.look.record_good.Goals as goal
 

@@ -3,14 +3,12 @@ use mathlib.Core.Path.{◌≡◌, sym, ◌∙◌}
 use Prim.Native.Nat.{ℕ, ◌-◌}
 use mathlib.Core.List.{List}
 use mathlib.Core.Bool.{Bool, true, false, not, ◌&&◌}
-use borrow.Author.Tests.{not-true, not-false}
 use Rattle.refusal.specs.declared.Refusal.{Refusal}
 use Rattle.refusal.specs.declared.Check.{Check}
 use Rattle.refusal.specs.Check.{◌⊳◌, refuse}
 use Rattle.refusal.proofs.Laws.Check.{bad_then, fine_then}
 use Rattle.frame.specs.Open.{keys_from, offsets_check, fences_good}
 use Rattle.reader.proofs.Laws.Fit.{without_fences, with_fences}
-use borrow.Author.Rules.{rules}
 use Rattle.reader.proofs.open.content_check.Goals as goal
 
 module _ (keys offsets fences : List ℕ) (n w len : ℕ) where

@@ -5,7 +5,6 @@ use Rattle.base.specs.Over.{length_part}
 use Rattle.refusal.proofs.Laws.Check.{bad_then, fine_then}
 use Rattle.reader.proofs.Laws.Fit.{content_is}
 use native.Mathlib.Omega.{arith}
-use borrow.Author.Rules.{rules}
 use Rattle.reader.proofs.open.content_of.Goals as goal
 
 pub content_check-requires : goal.content_check-requires

@@ -1,9 +1,8 @@
 -- `reader::open::fence_check` meets its contract.
-use mathlib.Core.Path.{◌≡◌, refl, sym, ap, ◌∙◌}
+use mathlib.Core.Path.{sym, ap, ◌∙◌}
 use mathlib.Core.Bool.{Bool, not}
 use Rattle.refusal.specs.declared.Refusal.{Refusal}
 use Rattle.refusal.specs.Check.{refuse}
-use borrow.Author.Rules.{rules}
 use Rattle.reader.proofs.open.fence_check.Goals as goal
 
 pub returns-then-fences_good : goal.returns-then-fences_good

@@ -2,7 +2,6 @@
 use mathlib.Core.Path.{sym, ◌∙◌}
 use Rattle.refusal.proofs.Laws.Check.{bad_then, fine_then}
 use Rattle.frame.specs.Open.{offsets_check}
-use borrow.Author.Rules.{rules}
 use Rattle.reader.proofs.open.index_check.Goals as goal
 
 pub returns-in-Bad : goal.returns-in-Bad

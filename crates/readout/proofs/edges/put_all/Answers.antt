@@ -1,15 +1,8 @@
 -- `readout::edges::put_all` meets its contract. Invariant: `Reading`, of the groups whose edges are still to be written.
-use mathlib.Core.Path.{◌≡◌, sym, ◌∙◌}
-use Prim.Native.Nat.{◌+◌, ◌-◌, ◌*◌, ◌≤◌}
+use Prim.Native.Nat.{◌+◌, ◌*◌, ◌≤◌}
 use native.Mathlib.Nat.{mul-le-mul_right}
-use Rattle.readout.specs.Edges.Laws.{Reading, reading_start, reading_good, reading_few, reading_room, reading_on, reading_end}
-use borrow.Author.Rules.{rules}
+use Rattle.readout.specs.Edges.Laws.{reading_start, reading_good, reading_few, reading_room, reading_on, reading_end}
 use native.Mathlib.Omega.{arith}
-use Rattle.readout.proofs.edges.put_all.Reads as reads
-use Rattle.readout.proofs.edges.put_all.Lts as lts
-use Rattle.index.proofs.keys.key_at.Reads as key_at_reads
-use Rattle.index.proofs.offsets.offset_at.Reads as offset_at_reads
-use Rattle.readout.proofs.group_edges.put_group_edges.Reads as put_group_edges_reads
 use Rattle.readout.proofs.edges.put_all.Goals as goal
 
 pub loop-i-init : goal.loop-i-init

@@ -1,14 +1,8 @@
 -- `readout::edges::put_bytes` meets its contract. Invariant: the bytes that are left, written from here, make the whole.
-use mathlib.Core.Path.{◌≡◌, refl, ap, ◌∙◌}
-use Prim.Native.Nat.{ℕ, ◌+◌, ◌-◌, ◌≤◌}
-use native.Mathlib.Nat.{add-zero}
-use lib.ListN.{length, drop, length-set}
+use mathlib.Core.Path.{◌≡◌}
+use Prim.Native.Nat.{◌+◌, ◌-◌, ◌≤◌}
+use lib.ListN.{length, drop}
 use lib.Seq.{sets}
-use Rattle.readout.specs.ReadOut.Laws.{bytes_on, bytes_end}
-use borrow.Author.Rules.{rules}
-use native.Mathlib.Omega.{arith}
-use Rattle.readout.proofs.edges.put_bytes.Reads as reads
-use Rattle.readout.proofs.edges.put_bytes.Lts as lts
 use Rattle.readout.proofs.edges.put_bytes.Given as goal
 
 abbrev pub invariant-loop-k : goal.invariant-loop-k

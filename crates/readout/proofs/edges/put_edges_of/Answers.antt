@@ -1,21 +1,12 @@
 -- `readout::edges::put_edges_of` meets its contract: the sections of the record are lent.
-use mathlib.Core.Path.{◌≡◌, sym, ap, ◌∙◌}
-use Prim.Native.Nat.{ℕ, ◌+◌, ◌≤◌}
+use mathlib.Core.Path.{ap, ◌∙◌}
 use mathlib.Core.List.{List}
-use lib.ListN.{length}
 use lib.Seq.{sets}
 use Rattle.batch.specs.declared.Edge.{Edge}
 use Rattle.batch.specs.Batch.{records_of}
 use Rattle.reader.proofs.Laws.Look.{opened_holds}
 use Rattle.full_check.specs.Checked.{checked_opened}
 use Rattle.readout.specs.ReadOut.Laws.{checked_readable, readable_at, edges_at_lem}
-use native.Mathlib.Omega.{arith}
-use borrow.Author.Rules.{rules}
-use Rattle.readout.proofs.edges.put_edges_of.Reads as reads
-use Rattle.readout.proofs.edges.put_edges_of.Lts as lts
-use Rattle.frame.proofs.bytes_of.Reads as bytes_of_reads
-use Rattle.lookup.proofs.whole.tombstones_of.Reads as dead_of_reads
-use Rattle.readout.proofs.edges.put_all.Reads as put_all_reads
 use Rattle.readout.proofs.edges.put_edges_of.Goals as goal
 
 pub bytes_of-requires : goal.bytes_of-requires

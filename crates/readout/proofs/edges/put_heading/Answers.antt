@@ -1,17 +1,12 @@
 -- `readout::edges::put_heading` meets its contract.
-use mathlib.Core.Path.{◌≡◌, sym, ap, ◌∙◌}
+use mathlib.Core.Path.{ap, ◌∙◌}
 use Prim.Native.Nat.{ℕ, ◌/◌, ◌%◌}
-use lib.ListN.{set, length-set, length-take, length-drop}
+use lib.ListN.{set, length-set}
 use lib.Seq.{sets, length-sets}
 use Rattle.base.specs.Over.{part, length_part}
 use Rattle.batch.specs.Batch.{heading_bytes}
 use Rattle.readout.specs.ReadOut.{heading_in}
 use native.Mathlib.Omega.{arith}
-use borrow.Author.Rules.{rules}
-use Rattle.readout.proofs.edges.put_heading.Reads as reads
-use Rattle.readout.proofs.edges.put_heading.Lts as lts
-use Rattle.codes.proofs.little.le32.Reads as le32_reads
-use Rattle.readout.proofs.edges.put_bytes.Reads as put_bytes_reads
 use Rattle.readout.proofs.edges.put_heading.Goals as goal
 
 pub bounds-out-1 : goal.bounds-out-1

@@ -5,7 +5,6 @@ use Rattle.codes.specs.declared.ids.Id.{Id}
 use Rattle.group.specs.declared.split.Step.{Step}
 use Rattle.group.proofs.Laws.Group.{dense_short, dense_good}
 use native.Mathlib.Omega.{arith}
-use borrow.Author.Rules.{rules}
 use Rattle.readout.proofs.group_edges.dense_step.Goals as goal
 
 pub returns-then-g-lt-DENSE : goal.returns-then-g-lt-DENSE

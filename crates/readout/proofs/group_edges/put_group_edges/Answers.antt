@@ -1,17 +1,14 @@
 -- `readout::group_edges::put_group_edges` meets its contract: the head of a good group says how its payload is read.
-use mathlib.Core.Path.{◌≡◌, sym, ap, ◌∙◌}
+use mathlib.Core.Path.{sym, ap, ◌∙◌}
 use Prim.Native.Nat.{ℕ, ◌+◌}
-use mathlib.Core.List.{List}
 use mathlib.Core.Bool.{true, false}
 use lib.Seq.{sets}
 use Rattle.batch.specs.Batch.{place, records_of}
 use Rattle.group.specs.Group.{Decoded, partners_of}
 use Rattle.group.proofs.Laws.Group.{group_bad, not_bad}
-use Rattle.group.specs.Good.{Fill}
 use Rattle.group.proofs.Laws.Good.{fill}
 use Rattle.readout.specs.Edges.{edges_from}
 use native.Mathlib.Omega.{arith}
-use borrow.Author.Rules.{rules}
 use Rattle.readout.proofs.group_edges.put_group_edges.Goals as goal
 
 pub put_edges-requires : goal.put_edges-requires

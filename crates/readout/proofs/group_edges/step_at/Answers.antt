@@ -1,14 +1,8 @@
 -- `readout::group_edges::step_at` meets its contract.
-use mathlib.Core.Path.{◌≡◌, sym, ap, ◌∙◌}
+use mathlib.Core.Path.{sym, ap, ◌∙◌}
 use mathlib.Core.Bool.{Bool}
 use Rattle.group.specs.Group.{step_at}
 use Rattle.group.proofs.Laws.Group.{step_dense, step_split}
-use native.Mathlib.Omega.{arith}
-use borrow.Author.Rules.{rules}
-use Rattle.readout.proofs.group_edges.step_at.Reads as reads
-use Rattle.readout.proofs.group_edges.step_at.Lts as lts
-use Rattle.group.proofs.split.split_step.Reads as split_step_reads
-use Rattle.readout.proofs.group_edges.dense_step.Reads as dense_step_reads
 use Rattle.readout.proofs.group_edges.step_at.Goals as goal
 
 pub returns-then-dense : goal.returns-then-dense

@@ -1,5 +1,5 @@
 -- `summary::logs::narrow_sign` meets its contract.
-use Rattle.std.proofs.Common.{arith, rules}
+use Rattle.std.proofs.Common.{arith}
 use Rattle.summary.proofs.Laws.Logs.{narrow_sure}
 use Rattle.summary.proofs.logs.narrow_sign.Goals as goal
 

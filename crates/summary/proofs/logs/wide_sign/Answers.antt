@@ -1,5 +1,5 @@
 -- `summary::logs::wide_sign` meets its contract.
-use Rattle.std.proofs.Common.{arith, rules}
+use Rattle.std.proofs.Common.{arith}
 use Rattle.summary.proofs.Laws.Logs.{wide_sure}
 use Rattle.summary.proofs.logs.wide_sign.Goals as goal
 

@@ -1,6 +1,5 @@
 -- `summary::logs::wide_within` meets its contract.
-use Rattle.std.proofs.Common.{◌-◌, ◌^◌, arith, rules, ltb-true}
-use Rattle.summary.specs.Logs.{Signs}
+use Rattle.std.proofs.Common.{◌^◌, arith, ltb-true}
 use Rattle.summary.proofs.Laws.Logs.{signs_start, signs_on, signs_end}
 use Rattle.summary.proofs.logs.wide_within.Goals as goal
 

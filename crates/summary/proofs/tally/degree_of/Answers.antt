@@ -1,5 +1,5 @@
 -- `summary::tally::degree_of` meets its contract.
-use Rattle.std.proofs.Common.{sym, ◌∙◌, rules}
+use Rattle.std.proofs.Common.{sym, ◌∙◌}
 use Rattle.summary.proofs.Laws.Tally.{degree_is, degree_bad}
 use Rattle.summary.proofs.tally.degree_of.Goals as goal
 

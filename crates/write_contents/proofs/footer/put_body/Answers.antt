@@ -14,7 +14,6 @@ use Rattle.write_frame.specs.Runs.{count_bytes, length_counts}
 use Rattle.write_plan.specs.Size.{sections_size, section_count}
 use Rattle.write_plan.specs.Parts.{four, total_four, last_by, total_last}
 use Rattle.write_contents.specs.Footer.{body_in, body_run, length_four}
-use borrow.Author.Rules.{rules}
 use Rattle.write_contents.proofs.footer.put_body.Goals as goal
 
 module _ (o : List ℕ) (at keys w partners n : ℕ) (dead : Bool) (count : ℕ) (ec : count ≡ section_count keys dead) (most : at ≤ 1073741824) (below : 64 + sections_size keys w partners n dead ≤ at)

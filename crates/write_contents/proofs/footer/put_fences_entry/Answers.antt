@@ -1,11 +1,9 @@
-use mathlib.Core.Path.{refl, sym, ap, ◌∙◌}
-use Prim.Native.Nat.{ℕ, ◌+◌, ◌/◌}
-use native.Mathlib.Omega.{arith}
+use mathlib.Core.Path.{ap, ◌∙◌}
+use Prim.Native.Nat.{ℕ}
 use Rattle.frame.specs.Kind as kind
 use Rattle.frame.specs.Frame.{raw_row}
 use Rattle.write_image.specs.Image.{fenced}
 use Rattle.write_contents.specs.Footer.{named, asked, here_room, here_put, here_not}
-use borrow.Author.Rules.{rules}
 use borrow.Author.Tests.{lt-ltb, le-ltb}
 use Rattle.write_contents.proofs.footer.put_fences_entry.Goals as goal
 

@@ -9,7 +9,6 @@ use Rattle.frame.specs.Kind as kind
 use Rattle.write_frame.specs.Standing.{entry_in, entries_in}
 use Rattle.write_plan.specs.Parts.{four}
 use Rattle.write_contents.specs.Footer.{length_entry_in, named, asked, entry_put, four_entries}
-use borrow.Author.Rules.{rules}
 use Rattle.write_contents.proofs.footer.put_four.Goals as goal
 
 module _ (o : List ℕ) (at keys w partners n : ℕ) (below : 64 + (16 * keys + ((keys + 1) * w + (partners + 8 * n))) ≤ at) (room : at + 112 ≤ length o) (most : at ≤ 2147483648) where

@@ -14,7 +14,6 @@ use Rattle.write_frame.specs.Standing.{entry_in, entries_in, total, part_below}
 use Rattle.write_plan.specs.Size.{tomb_size, fences_size, starts_size}
 use Rattle.write_plan.specs.Parts.{last_by, total_last}
 use Rattle.write_contents.specs.Footer.{length_entry_in, last_entries}
-use borrow.Author.Rules.{rules}
 use Rattle.write_contents.proofs.footer.put_last.Goals as goal
 
 most_entry : (b : Bool) (s : List ℕ) (k start len : ℕ) → length (pick b (entry_in s k start len) []) ≤ 28

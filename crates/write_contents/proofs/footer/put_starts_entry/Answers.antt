@@ -1,7 +1,6 @@
 use Rattle.frame.specs.Kind as kind
 use Rattle.write_image.specs.Image.{indexed}
 use Rattle.write_contents.specs.Footer.{named, asked, here_room, here_put, here_not}
-use borrow.Author.Rules.{rules}
 use borrow.Author.Tests.{lt-ltb, le-ltb}
 use Rattle.write_contents.proofs.footer.put_starts_entry.Goals as goal
 

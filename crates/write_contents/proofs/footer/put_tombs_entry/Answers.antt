@@ -1,9 +1,6 @@
-use mathlib.Core.Path.{refl, sym, ap, ◌∙◌}
-use Prim.Native.Nat.{ℕ, ◌+◌, ◌/◌}
-use native.Mathlib.Omega.{arith}
+use Prim.Native.Nat.{◌+◌, ◌/◌}
 use Rattle.frame.specs.Kind as kind
 use Rattle.write_contents.specs.Footer.{named, asked, here_room, here_put, here_not}
-use borrow.Author.Rules.{rules}
 use Rattle.write_contents.proofs.footer.put_tombs_entry.Goals as goal
 
 pub put_entry-requires : goal.put_entry-requires

@@ -11,7 +11,6 @@ use Rattle.batch.specs.declared.Edge.{Edge}
 use Rattle.write_image.specs.Image.{log_bytes, tomb_bytes}
 use Rattle.write_image.specs.Image.Laws.{logs_rest}
 use Rattle.write_source.specs.Source.{source_edges}
-use borrow.Author.Rules.{rules}
 use Rattle.write_contents.proofs.payload.put_by_edge.Goals as goal
 
 module _ (es : List Edge) (dead : Bool) where

@@ -2,7 +2,6 @@ use native.Mathlib.Omega.{arith}
 use borrow.Author.Tests.{lt-ltb, le-ltb}
 use Rattle.write_image.specs.Image.{fenced}
 use Rattle.write_contents.specs.Payload.{room_if, put_if, left_out}
-use borrow.Author.Rules.{rules}
 use Rattle.write_contents.proofs.payload.put_fences_if.Goals as goal
 
 pub put_fences-requires : goal.put_fences-requires

@@ -17,7 +17,6 @@ use Rattle.write_sections.specs.Ids.{ids_at}
 use Rattle.write_source.specs.Source.{source_edges}
 use Rattle.write_plan.specs.Parts.{payload_parts}
 use Rattle.write_contents.specs.Payload.{keys_stand}
-use borrow.Author.Rules.{rules}
 use Rattle.write_contents.proofs.payload.put_payload.Goals as goal
 
 module _ (es : List Edge) (keys w : ℕ) (dead : Bool) (o : List ℕ) (at : ℕ) (ek : keys ≡ length (groups_of es)) (g : Grouped 0 (groups_of es))

@@ -3,7 +3,6 @@ use borrow.Author.Tests.{lt-ltb, le-ltb}
 use Rattle.frame.specs.Kind.{most_unindexed}
 use Rattle.write_image.specs.Image.{indexed}
 use Rattle.write_contents.specs.Payload.{room_if, put_if, left_out}
-use borrow.Author.Rules.{rules}
 use Rattle.write_contents.proofs.payload.put_starts_if.Goals as goal
 
 pub put_starts-requires : goal.put_starts-requires

@@ -19,9 +19,8 @@ use Rattle.write_frame.specs.Runs.{length_head, length_trailer}
 use Rattle.write_plan.specs.declared.Plan.{Plan}
 use Rattle.write_plan.specs.Size.{sections_size}
 use Rattle.write_plan.specs.Parts.{file_parts, file_is, length_file, length_payload}
-use Rattle.write_plan.specs.Bounds.{PlanFits, few}
+use Rattle.write_plan.specs.Bounds.{PlanFits}
 use Rattle.write_contents.specs.Footer.{body_in, body_standing}
-use borrow.Author.Rules.{rules}
 use Rattle.write_file.proofs.file.put_file.Goals as goal
 
 module _ (h : Heading) (es : List Edge) (p : Plan) (fits : PlanFits es p) (ids : length h.ids ≡ 48) (o : List ℕ) (enough : p.bytes ≤ length o) where

@@ -1,7 +1,6 @@
 use mathlib.Core.Path.{sym, ap, ◌∙◌}
 use native.Mathlib.Omega.{arith}
 use Rattle.write_image.specs.Image.{bit}
-use borrow.Author.Rules.{rules}
 use Rattle.write_sections.proofs.by_edge.mark_of.Goals as goal
 
 pub returns-then-dead_of : goal.returns-then-dead_of

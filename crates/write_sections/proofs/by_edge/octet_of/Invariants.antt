@@ -1,13 +1,10 @@
-use mathlib.Core.Path.{◌≡◌, sym, ap, ap₂, ◌∙◌}
-use Prim.Native.Nat.{ℕ, suc, ◌+◌, ◌-◌, ◌*◌, ◌^◌, ◌≤◌, ◌<◌}
-use native.Mathlib.Omega.{arith}
+use mathlib.Core.Path.{◌≡◌}
+use Prim.Native.Nat.{ℕ, ◌-◌, ◌≤◌}
 use mathlib.Core.List.{List}
-use lib.ListN.{length, get_or, drop}
+use lib.ListN.{drop}
 use Rattle.batch.specs.Batch.{marks_in}
 use Rattle.batch.specs.declared.Edge.{Edge}
-use Rattle.batch_groups.specs.Groups.{none}
-use Rattle.write_image.specs.Image.{bit, octet}
-use Rattle.write_image.specs.Image.Laws.{mark_here, octet_none, octet_byte}
+use Rattle.write_image.specs.Image.{octet}
 use Rattle.write_source.specs.Source.{source_edges}
 use Rattle.write_sections.proofs.by_edge.octet_of.Given as goal
 

@@ -1,18 +1,9 @@
-use mathlib.Core.Path.{◌≡◌, sym, ap, ◌∙◌}
-use Prim.Native.Nat.{ℕ, ◌+◌, ◌-◌, ◌≤◌, ◌<◌}
-use native.Mathlib.Omega.{arith}
-use mathlib.Core.List.{List, ◌++◌}
-use lib.ListN.{length, get_or}
-use lib.Seq.{sets}
+use Prim.Native.Nat.{ℕ, ◌-◌, ◌≤◌}
+use mathlib.Core.List.{List}
 use Rattle.base.specs.Over.{part}
-use Rattle.base.specs.Put as P
-use Rattle.base.specs.Put.{Put, Left}
-use Rattle.codes.specs.Little.{le_bytes}
-use Rattle.codes.specs.Little.Laws.{length_le_bytes}
+use Rattle.base.specs.Put.{Left}
 use Rattle.batch.specs.declared.Edge.{Edge}
-use Rattle.batch_groups.specs.Groups.{none}
 use Rattle.write_image.specs.Image.{log_bytes}
-use Rattle.write_image.specs.Image.Laws.{logs_on, logs_out}
 use Rattle.write_source.specs.Source.{source_edges}
 use Rattle.write_sections.proofs.by_edge.put_logs.Given as goal
 

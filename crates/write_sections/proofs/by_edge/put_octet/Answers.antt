@@ -2,7 +2,6 @@ use mathlib.Core.Path.{ap₂}
 use Prim.Native.Nat.{ℕ}
 use mathlib.Core.List.{List}
 use lib.ListN.{set}
-use borrow.Author.Rules.{rules}
 use Rattle.write_sections.proofs.by_edge.put_octet.Goals as goal
 
 pub returns : goal.returns

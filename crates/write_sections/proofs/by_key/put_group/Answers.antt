@@ -17,7 +17,6 @@ use Rattle.write_image.specs.Image.{is_dense, group_bytes}
 use Rattle.write_image.specs.Image.Laws.{group_is}
 use Rattle.write_source.specs.Source.{source_edges}
 use Rattle.write_group.specs.Span.{span_dense}
-use borrow.Author.Rules.{rules}
 use Rattle.write_sections.proofs.by_key.put_group.Goals as goal
 
 module _ (keys : ℕ) (ps : List Id) (dense : Bool) (e : dense ≡ is_dense keys ps) where

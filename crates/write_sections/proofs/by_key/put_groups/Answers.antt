@@ -1,21 +1,12 @@
 use mathlib.Core.Path.{◌≡◌, refl, sym, ap, ◌∙◌}
-use Prim.Native.Nat.{ℕ, ◌+◌, ◌-◌, ◌*◌, ◌≤◌}
+use Prim.Native.Nat.{ℕ, ◌+◌, ◌-◌, ◌*◌}
 use native.Mathlib.Omega.{arith}
-use mathlib.Core.List.{List, [], ◌++◌}
-use lib.ListN.{length, get_or, drop, length-append}
-use lib.Seq.{sets}
-use Rattle.batch.specs.Batch.{partners_in}
-use Rattle.base.specs.Over.{part}
-use Rattle.base.specs.Put.{Put}
-use Rattle.codes.specs.Little.{le_bytes}
-use Rattle.codes.specs.Little.Laws.{length_le_bytes}
-use Rattle.codes.specs.Ids.{id_bytes}
-use Rattle.codes.specs.Ids.Laws.{length_id_bytes}
+use mathlib.Core.List.{List, ◌++◌}
+use lib.ListN.{length, length-append}
 use Rattle.batch.specs.declared.Edge.{Edge}
-use Rattle.batch_groups.specs.Groups.{none, Group, groups_of, GroupEnd, Grouped}
-use Rattle.batch_groups.proofs.Laws.Groups.{grouped_step}
-use Rattle.write_image.specs.Image.{group_bytes, key_bytes, offset_bytes, partner_bytes}
-use Rattle.write_image.specs.Image.Laws.{rises, keys_step, keys_end, partners_step, partners_end, offsets_step, offsets_end, length_keys, length_offsets}
+use Rattle.batch_groups.specs.Groups.{groups_of, Grouped}
+use Rattle.write_image.specs.Image.{key_bytes, offset_bytes, partner_bytes}
+use Rattle.write_image.specs.Image.Laws.{rises, length_keys, length_offsets}
 use Rattle.write_source.specs.Source.{source_edges}
 use Rattle.write_sections.specs.Three as T
 use Rattle.write_sections.specs.Three.{Three}

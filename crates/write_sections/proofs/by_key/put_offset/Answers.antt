@@ -4,7 +4,6 @@ use native.Mathlib.Omega.{arith}
 use mathlib.Core.List.{List}
 use lib.Seq.{sets}
 use Rattle.codes.specs.Little.{le_bytes}
-use borrow.Author.Rules.{rules}
 use Rattle.write_sections.proofs.by_key.put_offset.Goals as goal
 
 by_width : (o : List ℕ) (at w v x : ℕ) → w ≡ v → {o₁ : List ℕ} → o₁ ≡ sets o at (le_bytes v x) → o₁ ≡ sets o at (le_bytes w x)

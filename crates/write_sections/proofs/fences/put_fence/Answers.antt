@@ -12,7 +12,6 @@ use Rattle.codes.specs.Ids.{id_bytes}
 use Rattle.codes.specs.Ids.Laws.{length_id_bytes}
 use Rattle.write_image.specs.Image.{fence_bytes}
 use Rattle.write_image.specs.Image.Laws.{fence_is, length_fence}
-use borrow.Author.Rules.{rules}
 use Rattle.write_sections.proofs.fences.put_fence.Goals as goal
 
 both : (o : List ℕ) (at : ℕ) (key : Id) (i : ℕ) {o₁ o₂ : List ℕ} → o₁ ≡ sets o at (id_bytes key) → o₂ ≡ sets o₁ (at + 16) (le_bytes 8 (16 * (i * 256))) → Put o o₂ at (at + 24) (fence_bytes key i)

@@ -13,7 +13,6 @@ use Rattle.frame.specs.Kind as kind
 use Rattle.write_image.specs.Image.{fence_keys_from, fences_of}
 use Rattle.write_image.specs.Image.Laws.{fences_are}
 use Rattle.write_sections.specs.Ids.{ids_at, length_ids, ids_below}
-use borrow.Author.Rules.{rules}
 use Rattle.write_sections.proofs.fences.put_fences.Goals as goal
 
 module _ (o : List ℕ) (first keys at m : ℕ) (em : m ≡ kind.fence_count keys) (below : first + 16 * keys ≤ at) where

@@ -1,17 +1,10 @@
-use mathlib.Core.Path.{◌≡◌, refl, sym, ap, ◌∙◌}
-use Prim.Native.Nat.{ℕ, ◌+◌, ◌-◌, ◌≤◌}
-use native.Mathlib.Omega.{arith}
-use mathlib.Core.List.{List, [], ◌++◌, append-nil}
+use Prim.Native.Nat.{ℕ, ◌-◌, ◌≤◌}
+use mathlib.Core.List.{List}
 use lib.ListN.{length, drop}
-use lib.Seq.{sets, length-sets}
-use Rattle.base.specs.Put as P
-use Rattle.base.specs.Put.{Put, Left}
-use Rattle.codes.specs.Little.{le_bytes}
-use Rattle.codes.specs.Little.Laws.{length_le_bytes}
+use Rattle.base.specs.Put.{Left}
 use Rattle.batch.specs.declared.Edge.{Edge}
-use Rattle.batch_groups.specs.Groups.{groups_of, GroupEnd}
+use Rattle.batch_groups.specs.Groups.{groups_of}
 use Rattle.write_image.specs.Image.{numbers, firsts_from, start_bytes}
-use Rattle.write_image.specs.Image.Laws.{firsts_step, firsts_end}
 use Rattle.write_source.specs.Source.{source_edges}
 use Rattle.write_sections.proofs.starts.put_starts.Given as goal
 

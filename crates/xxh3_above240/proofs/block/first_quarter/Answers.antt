@@ -1,4 +1,4 @@
-use Rattle.std.proofs.Common.{◌≡◌, refl, ◌∙◌, ⊎_elim, rules}
+use Rattle.std.proofs.Common.{◌≡◌, refl, ◌∙◌}
 use Rattle.xxh3_above240.specs.Block.{stripe_in, stripes_in}
 use Rattle.xxh3_above240.proofs.Stripes.{joins, skips, more, none}
 use Rattle.xxh3_above240.proofs.block.first_quarter.Goals as goal

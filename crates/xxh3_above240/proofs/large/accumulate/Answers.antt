@@ -1,4 +1,3 @@
-use Rattle.std.proofs.Common.{rules}
 use Rattle.xxh3_above240.proofs.State.{same8}
 use Rattle.xxh3_spec.specs.Xxh3.{accumulate}
 use Rattle.xxh3_above240.proofs.large.accumulate.Goals as goal

@@ -1,4 +1,4 @@
-use Rattle.std.proofs.Common.{arith, rules}
+use Rattle.std.proofs.Common.{arith}
 use Rattle.xxh3_above240.proofs.State.{ended}
 use Rattle.xxh3_above240.proofs.large.by_default.Goals as goal
 

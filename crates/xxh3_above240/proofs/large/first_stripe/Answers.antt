@@ -1,4 +1,3 @@
-use Rattle.std.proofs.Common.{rules}
 use Rattle.xxh3_spec.specs.Xxh3.{secret, start_lanes}
 use Rattle.xxh3_above240.proofs.large.first_stripe.Goals as goal
 

@@ -1,4 +1,4 @@
-use Rattle.std.proofs.Common.{ℕ, arith, rules}
+use Rattle.std.proofs.Common.{ℕ, arith}
 use lib.Bits.{bit_xor, xor_lt}
 use Rattle.xxh3_mix.proofs.Halves.{product_le, low_lt, high_lt}
 use Rattle.xxh3_spec.specs.Xxh3.{lane}

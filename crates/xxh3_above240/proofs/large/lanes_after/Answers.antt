@@ -1,7 +1,7 @@
-use Rattle.std.proofs.Common.{◌≡◌, ℕ, suc, ◌+◌, ◌-◌, ◌%◌, sym, refl, ap, ◌∙◌, arith, rules}
+use Rattle.std.proofs.Common.{◌≡◌, ℕ, suc, ◌+◌, ◌-◌, ◌%◌, sym, refl, ap, ◌∙◌, arith}
 use Rattle.xxh3_spec.specs.Xxh3.{run_on, secret}
 use Rattle.xxh3_spec.specs.Xxh3.Laws.{run_none}
-use Rattle.xxh3_above240.proofs.Stripes.{BlockAt, whole, ends}
+use Rattle.xxh3_above240.proofs.Stripes.{whole, ends}
 use Rattle.xxh3_above240.proofs.large.lanes_after.Goals as goal
 
 pub loop-end-init : goal.loop-end-init

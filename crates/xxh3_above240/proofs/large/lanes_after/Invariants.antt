@@ -1,7 +1,6 @@
-use Rattle.std.proofs.Common.{◌≡◌, ℕ, suc, ◌+◌, ◌-◌, ◌%◌, sym, refl, ap, ◌∙◌, arith, rules}
+use Rattle.std.proofs.Common.{◌≡◌, ℕ, ◌-◌}
 use Rattle.xxh3_spec.specs.Xxh3.{run_on, secret}
-use Rattle.xxh3_spec.specs.Xxh3.Laws.{run_none}
-use Rattle.xxh3_above240.proofs.Stripes.{BlockAt, whole, ends}
+use Rattle.xxh3_above240.proofs.Stripes.{BlockAt}
 use Rattle.xxh3_above240.proofs.large.lanes_after.Given as goal
 
 -- the block ends u stripes after the start of s; u - 16 of them were before it

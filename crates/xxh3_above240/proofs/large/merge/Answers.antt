@@ -1,4 +1,3 @@
-use Rattle.std.proofs.Common.{rules}
 use Rattle.xxh3_above240.proofs.State.{merged}
 use Rattle.xxh3_above240.proofs.large.merge.Goals as goal
 

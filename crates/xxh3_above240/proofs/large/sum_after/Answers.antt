@@ -1,4 +1,3 @@
-use Rattle.std.proofs.Common.{rules}
 use Rattle.xxh3_above240.proofs.State.{finished}
 use Rattle.xxh3_spec.specs.Xxh3.{secret}
 use Rattle.xxh3_above240.proofs.large.sum_after.Goals as goal

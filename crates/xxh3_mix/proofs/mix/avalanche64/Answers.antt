@@ -1,4 +1,3 @@
-use Rattle.std.proofs.Common.{rules}
 use Rattle.xxh3_mix.proofs.mix.avalanche64.Goals as goal
 
 pub returns : goal.returns

@@ -1,4 +1,3 @@
-use Rattle.std.proofs.Common.{rules}
 use Rattle.xxh3_spec.specs.Xxh3.{rrmxmx}
 use Rattle.xxh3_mix.proofs.mix.rrmxmx.Goals as goal
 

@@ -1,5 +1,5 @@
 -- `xxh3_mix::mix::swap` meets its contract.
-use Rattle.std.proofs.Common.{ℕ, ◌+◌, ◌*◌, ◌/◌, ◌%◌, ◌^◌, ◌<◌, refl, mod-lt, arith, pow_pos, shr_lt, rules}
+use Rattle.std.proofs.Common.{ℕ, ◌+◌, ◌*◌, ◌/◌, ◌%◌, ◌^◌, ◌<◌, refl, mod-lt, arith, pow_pos, shr_lt}
 use Rattle.xxh3_spec.specs.Xxh3.{swap}
 use Rattle.xxh3_mix.proofs.mix.swap.Goals as goal
 

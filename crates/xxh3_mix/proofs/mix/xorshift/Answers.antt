@@ -1,4 +1,4 @@
-use Rattle.std.proofs.Common.{refl, rules}
+use Rattle.std.proofs.Common.{refl}
 use Rattle.xxh3_spec.specs.Xxh3.{xorshift}
 use Rattle.xxh3_mix.proofs.mix.xorshift.Goals as goal
 

@@ -1,5 +1,5 @@
 -- `xxh3_mix::product::low` meets its contract.
-use Rattle.std.proofs.Common.{ℕ, ◌+◌, ◌*◌, ◌%◌, ◌^◌, ap, ◌∙◌, arith, rules}
+use Rattle.std.proofs.Common.{ℕ, ◌+◌, ◌*◌, ◌%◌, ◌^◌, ap, ◌∙◌, arith}
 use Rattle.xxh3_spec.specs.Xxh3.{mul}
 use Rattle.xxh3_mix.proofs.Halves.{lower_half, product_le, low_lt, high_lt}
 use Rattle.xxh3_mix.proofs.product.low.Goals as goal

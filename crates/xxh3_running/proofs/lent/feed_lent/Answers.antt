@@ -1,4 +1,3 @@
-use borrow.Author.Rules.{rules}
 use native.Mathlib.Omega.{arith}
 use Rattle.xxh3_running.proofs.Steps.{stays, takes_few, takes_more}
 use Rattle.xxh3_running.proofs.lent.feed_lent.Goals as goal

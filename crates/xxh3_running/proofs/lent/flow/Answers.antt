@@ -1,4 +1,3 @@
-use borrow.Author.Rules.{rules}
 use native.Mathlib.Omega.{arith}
 use Rattle.xxh3_running.specs.Running.Laws.{buffers_in}
 use Rattle.xxh3_running.proofs.Steps.{flow_few, flow_many}

@@ -1,8 +1,7 @@
 use borrow.Author.Rules.{rules}
-use Prim.Native.Nat.{◌-◌, ◌≤◌}
 use mathlib.Core.Path.{◌≡◌, refl, sym, ◌∙◌}
 use native.Mathlib.Omega.{arith}
-use lib.ListN.{length, take, length-set}
+use lib.ListN.{length, length-set}
 use Rattle.xxh3_running.proofs.Steps.{same_step, same_all}
 use Rattle.xxh3_running.specs.Running.{last_bytes}
 use Rattle.xxh3_running.proofs.Laws.Running.{last_at, length_last}

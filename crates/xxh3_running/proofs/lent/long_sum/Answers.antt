@@ -1,4 +1,3 @@
-use borrow.Author.Rules.{rules}
 use Rattle.xxh3_running.proofs.Steps.{long_of}
 use Rattle.xxh3_running.proofs.lent.long_sum.Goals as goal
 

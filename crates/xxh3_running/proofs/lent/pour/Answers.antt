@@ -1,4 +1,3 @@
-use borrow.Author.Rules.{rules}
 use Rattle.xxh3_running.proofs.Steps.{pour_all}
 use Rattle.xxh3_running.proofs.lent.pour.Goals as goal
 

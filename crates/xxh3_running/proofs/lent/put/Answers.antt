@@ -1,8 +1,8 @@
 use borrow.Author.Rules.{rules}
-use Prim.Native.Nat.{ℕ, ◌+◌, ◌-◌, ◌≤◌}
-use mathlib.Core.Path.{◌≡◌, refl, ap, ◌∙◌}
+use Prim.Native.Nat.{ℕ, ◌+◌}
+use mathlib.Core.Path.{refl, ap, ◌∙◌}
 use mathlib.Core.List.{List}
-use lib.ListN.{length, take, set, get_or}
+use lib.ListN.{set, get_or}
 use lib.Seq.{sets, take_all}
 use Rattle.xxh3_running.proofs.Steps.{put_step}
 use Rattle.xxh3_running.proofs.lent.put.Goals as goal

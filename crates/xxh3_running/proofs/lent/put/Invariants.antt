@@ -1,10 +1,7 @@
-use borrow.Author.Rules.{rules}
-use Prim.Native.Nat.{ℕ, ◌+◌, ◌-◌, ◌≤◌}
-use mathlib.Core.Path.{◌≡◌, refl, ap, ◌∙◌}
-use mathlib.Core.List.{List}
-use lib.ListN.{length, take, set, get_or}
-use lib.Seq.{sets, take_all}
-use Rattle.xxh3_running.proofs.Steps.{put_step}
+use Prim.Native.Nat.{◌-◌, ◌≤◌}
+use mathlib.Core.Path.{◌≡◌}
+use lib.ListN.{length, take}
+use lib.Seq.{sets}
 use Rattle.xxh3_running.proofs.lent.put.Given as goal
 
 abbrev pub invariant-loop-i : goal.invariant-loop-i

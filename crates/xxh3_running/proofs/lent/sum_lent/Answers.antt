@@ -1,4 +1,3 @@
-use borrow.Author.Rules.{rules}
 use Rattle.xxh3_running.proofs.Steps.{sum_short, sum_long}
 use Rattle.xxh3_running.proofs.lent.sum_lent.Goals as goal
 

@@ -1,4 +1,3 @@
-use Rattle.std.proofs.Common.{rules}
 use Rattle.xxh3_upto240.proofs.Keys.{words3}
 use Rattle.xxh3_spec.specs.Xxh3.{of129to240, mix_step}
 use Rattle.xxh3_upto240.proofs.medium.of129to240.Goals as goal

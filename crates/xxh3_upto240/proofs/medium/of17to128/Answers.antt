@@ -1,4 +1,4 @@
-use Rattle.std.proofs.Common.{arith, rules}
+use Rattle.std.proofs.Common.{arith}
 use Rattle.xxh3_upto240.proofs.Rounds.{in128}
 use Rattle.xxh3_upto240.proofs.medium.of17to128.Goals as goal
 

@@ -1,4 +1,3 @@
-use Rattle.std.proofs.Common.{rules}
 use Rattle.xxh3_spec.specs.Xxh3.{pair}
 use Rattle.xxh3_upto240.proofs.medium.pair.Goals as goal
 

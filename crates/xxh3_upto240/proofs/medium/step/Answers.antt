@@ -1,4 +1,3 @@
-use Rattle.std.proofs.Common.{rules}
 use Rattle.xxh3_upto240.proofs.Rounds.{stepped}
 use Rattle.xxh3_upto240.proofs.medium.step.Goals as goal
 

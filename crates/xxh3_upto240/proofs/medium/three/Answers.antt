@@ -1,5 +1,4 @@
-use Rattle.std.proofs.Common.{rules}
-use Rattle.xxh3_upto240.proofs.Rounds.{inward_suc, inward_zero}
+use Rattle.xxh3_upto240.proofs.Rounds.{inward_suc}
 use Rattle.xxh3_upto240.proofs.Keys.{words}
 use Rattle.xxh3_spec.specs.Xxh3.{secret, mix_step}
 use Rattle.xxh3_upto240.proofs.medium.three.Goals as goal

@@ -1,4 +1,3 @@
-use Rattle.std.proofs.Common.{rules}
 use Rattle.xxh3_upto240.proofs.Keys.{key3}
 use Rattle.xxh3_spec.specs.Xxh3.{of1to3}
 use Rattle.xxh3_upto240.proofs.small.of1to3.Goals as goal

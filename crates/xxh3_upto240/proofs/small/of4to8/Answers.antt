@@ -1,4 +1,3 @@
-use Rattle.std.proofs.Common.{arith, rules}
 use Rattle.xxh3_upto240.proofs.Keys.{key8}
 use Rattle.xxh3_spec.specs.Xxh3.{of4to8}
 use Rattle.xxh3_upto240.proofs.small.of4to8.Goals as goal

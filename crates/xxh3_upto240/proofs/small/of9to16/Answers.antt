@@ -1,4 +1,3 @@
-use Rattle.std.proofs.Common.{rules}
 use Rattle.xxh3_upto240.proofs.Keys.{key16, key16'}
 use Rattle.xxh3_spec.specs.Xxh3.{of9to16}
 use Rattle.xxh3_upto240.proofs.small.of9to16.Goals as goal

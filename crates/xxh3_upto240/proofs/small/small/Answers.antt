@@ -1,4 +1,4 @@
-use Rattle.std.proofs.Common.{rules, le-ltb, lt-ltb}
+use Rattle.std.proofs.Common.{le-ltb, lt-ltb}
 use Rattle.xxh3_upto240.proofs.Keys.{key0}
 use Rattle.xxh3_spec.specs.Xxh3.{small}
 use Rattle.xxh3_upto240.proofs.small.small.Goals as goal

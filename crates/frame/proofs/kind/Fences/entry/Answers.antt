@@ -1,6 +1,5 @@
-use mathlib.Core.Path.{◌≡◌, sym, ap, ◌∙◌}
+use mathlib.Core.Path.{ap, ◌∙◌}
 use Prim.Native.Nat.{ℕ}
-use borrow.Author.Rules.{rules}
 use Rattle.frame.specs.Kind as kind
 use Rattle.frame.specs.Frame.{raw_row}
 use Rattle.frame.proofs.kind.Fences.entry.Goals as goal
