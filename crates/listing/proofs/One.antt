@@ -1,6 +1,6 @@
--- Each public contract of the crate leaves one result and one content of lent memory. `list_sections` and `table_of` are
--- proved by hand, so they have no `Reads`: what their `ensures` says is written out here, and `says` shows by computation
--- that it is the same.
+-- Each public contract of the crate leaves one result and one content of lent memory. What the `ensures` of `list_sections`
+-- and `table_of` says is written out here, and `list_sections_says` and `table_of_says` show by computation that it is the
+-- same.
 use mathlib.Core.Path.{◌≡◌, refl, sym, ◌∙◌, ap}
 use mathlib.Core.List.{List}
 use lib.ListN.{length}

@@ -1,5 +1,5 @@
--- Each public contract of the crate leaves one result and one content of lent memory. `update` is proved by hand, so it has no `Reads`:
--- what its `ensures` says is written out here, and `update_says` shows by computation that it is the same.
+-- Each public contract of the crate leaves one result and one content of lent memory. What the `ensures` of `update` says is written
+-- out here, and `update_says` shows by computation that it is the same.
 use mathlib.Core.Path.{◌≡◌, refl, sym, ◌∙◌, ap}
 use seplogic.Ra.Ura.{Ura}
 use base.Logic.{SProp}

@@ -19,6 +19,7 @@ use Rattle.batch_faults.specs.Tally.{follow_at, tally_by}
 use Rattle.batch_faults.specs.Tally.Laws.{count_start, dead_start, dead_next, follows, tally_bad, tally_fine}
 use borrow.Author.Rules.{rules}
 use Rattle.batch_faults.proofs.tally_records.Goals as goal
+use Rattle.batch_faults.proofs.tally_records.Goals.{in-New, in-Same}
 use Rattle.batch_faults.proofs.tally_records.Invariants.{Head}
 
 module _ (s : List ℕ) (n e keys : ℕ) (dead : Bool) (h : Head s n e keys dead) where
@@ -71,13 +72,13 @@ returns-then-not-is_edge c =
     let a = c.args in
     let l = c.loop-e in
     c.batch_fault.ensures
-    ∙ stop_kind a.s.now a.n l.e l.keys l.dead l.invariant (omega arith) (sym c.is_edge.ensures ∙ not-true _ c.if-not-is_edge.true)
+    ∙ stop_kind a.s.now a.n l.e l.keys l.dead l.invariant (omega arith) (sym c.is_edge.ensures ∙ c.if-not-is_edge.true)
 
 pub returns-in-Wrong : goal.returns-in-Wrong
 returns-in-Wrong c =
     let a = c.args in
     let l = c.loop-e in
-    stop_order a.s.now a.n l.e l.keys l.dead l.invariant (omega arith) (sym c.is_edge.ensures ∙ not-false _ c.if-not-is_edge.false)
+    stop_order a.s.now a.n l.e l.keys l.dead l.invariant (omega arith) (sym c.is_edge.ensures ∙ c.if-not-is_edge.false)
     (sym c.in-Wrong.is ∙ c.follow_at.ensures)
 
 pub overflow_add-keys : goal.overflow_add-keys
@@ -90,12 +91,12 @@ pub loop-e-preserved : goal.loop-e-preserved
 loop-e-preserved c =
     let a = c.args in
     let l = c.loop-e in
-    let k = sym c.is_edge.ensures ∙ not-false _ c.if-not-is_edge.false in
+    let k = sym c.is_edge.ensures ∙ c.if-not-is_edge.false in
     let f = c.follow_at.ensures in
-    ⊎_elim
-    (λ w. rw w.2 (on_new a.s.now a.n l.e l.keys l.dead l.invariant (omega arith) k _ c.dead_too-dead.ensures (sym w.1.given.1 ∙ f)))
-    (λ w. rw w.2 (on_same a.s.now a.n l.e l.keys l.dead l.invariant (omega arith) k _ c.dead_too-dead.ensures (sym w.1.given.1 ∙ f)))
-    c.match-follow_at.branch
+    elim c.match-follow_at.branch as (λ _. Head a.s.now a.n (l.e + 1) c.match-follow_at.keys c.dead_too-dead.result) [
+      | in-New w ↦ rw w.keys-is (on_new a.s.now a.n l.e l.keys l.dead l.invariant (omega arith) k _ c.dead_too-dead.ensures (sym w.in-New.is ∙ f))
+      | in-Same w ↦ rw w.keys-is (on_same a.s.now a.n l.e l.keys l.dead l.invariant (omega arith) k _ c.dead_too-dead.ensures (sym w.in-Same.is ∙ f))
+    ]
 
 pub returns-then-end-s : goal.returns-then-end-s
 returns-then-end-s c =

@@ -12,27 +12,17 @@ use Rattle.group.specs.Good.{Fill, fill, fill_length}
 use borrow.Author.Rules.{rules}
 use Rattle.group.proofs.fill_group.Goals as goal
 
-split : (p : tie.After-known-told) → Fill p.before.before.before.before.before.before.args.g.now false p.before.degree.given.0.0 p.before.degree.given.0.1.0
-split p = fill p.before.before.before.before.before.before.args.g.now false _ _ (sym p.before.before.before.head_of.ensures ∙ p.before.degree.given.1) p.before.before.before.before.before.before.requires.0
-
-dense : (p : tie.After-known-told2) → Fill p.before.before.before.before.before.before.args.g.now true p.before.at.given.0.0 p.before.at.given.0.1.0
-dense p = fill p.before.before.before.before.before.before.args.g.now true _ _ (sym p.before.before.before.head_of.ensures ∙ p.before.at.given.1) p.before.before.before.before.before.before.requires.0
-
-bytes : (p : tie.After-known-told2) → Bytes p.before.before.before.before.before.before.args.g.now
-bytes p k = (p.before.before.before.before.before.shared-slice-known.given k).fits
-
 pub fill_split-requires : goal.fill_split-requires
 fill_split-requires c =
-    let f = split c in
+    let f = fill c.args.g.now false _ _ (sym c.head_of.ensures ∙ c.in-Split.is) c.requires.0 in
     let count = f.count in
     (f.rest, omega arith)
 
 pub fill_dense-requires : goal.fill_dense-requires
 fill_dense-requires c =
-    let p = c in
-    let f = dense p in
+    let f = fill c.args.g.now true _ _ (sym c.head_of.ensures ∙ c.in-Dense.is) c.requires.0 in
     let count = f.count in
-    let long = fill_length p.before.before.before.before.before.before.args.g.now _ _ (bytes p) f in
+    let long = fill_length c.args.g.now _ _ (λ k. (c.type_inv.g k).fits) f in
     (f.within, omega arith)
 
 pub returns-in-Bad : goal.returns-in-Bad
@@ -41,11 +31,10 @@ returns-in-Bad c = absurd (not_bad c.requires.0 (group_bad c.args.g.now _ (sym c
 pub returns-in-Split : goal.returns-in-Split
 returns-in-Split c =
     let a = c.args in
-    let f = split c in
+    let f = fill c.args.g.now false _ _ (sym c.head_of.ensures ∙ c.in-Split.is) c.requires.0 in
     c.fill_split.ensures ∙ ap (λ (w : Decoded). over (bytes_of (partners_of w)) a.out.now) (sym f.walk)
 
 pub returns-in-Dense : goal.returns-in-Dense
 returns-in-Dense c =
     let a = c.args in
-    let p = c in
-    c.fill_dense.ensures ∙ ap (λ (t : List ℕ). over t a.out.now) ((dense p).payload (bytes p))
+    c.fill_dense.ensures ∙ ap (λ (t : List ℕ). over t a.out.now) ((fill c.args.g.now true _ _ (sym c.head_of.ensures ∙ c.in-Dense.is) c.requires.0).payload (λ k. (c.type_inv.g k).fits))

@@ -8,11 +8,11 @@ use borrow.Author.Rules.{rules}
 use Rattle.open_counts.proofs.options_good.Goals as goal
 
 -- of two answers
-first_no : {a x : Bool} (b : Bool) → x ≡ a → not x ≡ true → false ≡ (a && b)
-first_no b e n = rw (sym e ∙ not-true _ n)
+first_no : {a x : Bool} (b : Bool) → x ≡ a → x ≡ false → false ≡ (a && b)
+first_no b e n = rw (sym e ∙ n)
 
-second_is : {a x b y : Bool} → x ≡ a → not x ≡ false → y ≡ b → y ≡ (a && b)
-second_is e n q = rw (sym e ∙ not-false _ n) q
+second_is : {a x b y : Bool} → x ≡ a → x ≡ true → y ≡ b → y ≡ (a && b)
+second_is e n q = rw (sym e ∙ n) q
 
 pub returns-then-not-implied : goal.returns-then-not-implied
 returns-then-not-implied c =

@@ -16,12 +16,12 @@ returns-then-not-met c = simp (c.if-not-met.true)
 
 pub returns-then-not-met-2 : goal.returns-then-not-met-2
 unfolding needed_from
-returns-then-not-met-2 c = let m = c.args.t1 in simp (c.if-not-met.false, c.if-not-met-2.true)
+returns-then-not-met-2 c = simp (c.if-not-met.false, c.if-not-met-2.true)
 
 pub returns-then-not-met-3 : goal.returns-then-not-met-3
 unfolding needed_from
-returns-then-not-met-3 c = let m = c.args.t1 in simp (c.if-not-met.false, c.if-not-met-2.false, c.if-not-met-3.true)
+returns-then-not-met-3 c = simp (c.if-not-met.false, c.if-not-met-2.false, c.if-not-met-3.true)
 
 pub returns : goal.returns
 unfolding needed_from
-returns c = let m = c.args.t1 in simp (c.if-not-met.false, c.if-not-met-2.false, c.if-not-met-3.false) (sym (and_true (met_at m 3)))
+returns c = simp (c.if-not-met.false, c.if-not-met-2.false, c.if-not-met-3.false) (sym (and_true (met_at c.args.met 3)))

@@ -1,12 +1,14 @@
 -- `table::rows_framing` meets its contract. Invariant: what is noted of the entries so far, with what is still to come, is what the whole table says.
 use mathlib.Core.Path.{sym, ◌∙◌}
-use Prim.Native.Nat.{◌-◌}
+use Prim.Native.Nat.{◌+◌, ◌-◌}
 use borrow.Author.Tests.{not-true, not-false}
 use mathlib.Core.Logic.{⊎_elim}
 use Rattle.open_table.specs.Pass.Laws.{Passing, pass_few, pass_many, passing_start, passing_cut, passing_long, passing_unread, passing_read, passing_stale, passing_unfilled, passing_ended}
 use borrow.Author.Rules.{rules}
 use native.Mathlib.Omega.{arith}
+use Prim.Native.Nat.{◌+◌}
 use Rattle.open_table.proofs.rows_framing.Goals as goal
+use Rattle.open_table.proofs.rows_framing.Goals.{then-slot-lt-READ+else-not-fresh, else-slot-lt-READ}
 
 pub returns-then-count-lt1 : goal.returns-then-count-lt1
 returns-then-count-lt1 c = let a = c.args in c.refused.ensures ∙ sym (pass_few a.b.now a.limit c.le16-count.result c.le16-count.ensures.0 (omega arith))
@@ -48,7 +50,12 @@ loop-k-preserved c =
     let m = c.le16-count.result in
     let h = c.le16-count.ensures.0 in
     let most = c.if-count-gt-SECTIONS.false in
-    ⊎_elim (λ w. rw (c.ranged-seen.ensures, w.5, w.6, w.7, w.4.ensures, w.3.ensures) (passing_read a.b.now a.limit m l.k l.i l.seen l.met l.places l.invariant (omega arith) (omega arith) c.row_at-r.result c.row_at-r.ensures (omega arith) c.slot-slot.result c.slot-slot.ensures (omega (arith, w.0.taken)) (sym w.1.ensures ∙ not-false _ w.2.left))) (λ w. rw (c.ranged-seen.ensures, w.2, w.3, w.4, w.1.ensures) (passing_unread a.b.now a.limit m l.k l.i l.seen l.met l.places l.invariant (omega arith) (omega arith) c.row_at-r.result c.row_at-r.ensures (omega arith) (omega arith))) c.if-slot-lt-READ.branch
+    elim c.if-slot-lt-READ.branch as (λ _. Passing a.b.now a.limit m (l.k + 1) (l.i + 28 + c.row_at-r.result.namelen) c.ranged-seen.result c.if-slot-lt-READ.met c.if-slot-lt-READ.places) [
+      | then-slot-lt-READ+else-not-fresh w ↦
+          rw (c.ranged-seen.ensures, w.met-is, w.places-is, w.seen-is, w.coded-seen.ensures, w.range_of.ensures) (passing_read a.b.now a.limit m l.k l.i l.seen l.met l.places l.invariant (omega arith) (omega arith) c.row_at-r.result c.row_at-r.ensures (omega arith) c.slot-slot.result c.slot-slot.ensures (omega (arith, w.if-slot-lt-READ.true)) (sym w.fresh.ensures ∙ w.if-not-fresh.false))
+      | else-slot-lt-READ w ↦
+          rw (c.ranged-seen.ensures, w.met-is, w.places-is, w.seen-is, w.unread-seen.ensures) (passing_unread a.b.now a.limit m l.k l.i l.seen l.met l.places l.invariant (omega arith) (omega arith) c.row_at-r.result c.row_at-r.ensures (omega arith) (omega (arith, w.if-slot-lt-READ.false)))
+    ]
 
 pub returns-then-i-b : goal.returns-then-i-b
 returns-then-i-b c =

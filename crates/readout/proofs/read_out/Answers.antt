@@ -15,36 +15,27 @@ use Rattle.readout.specs.ReadOut.{heading_in}
 use Rattle.readout.specs.ReadOut.Laws.{checked_records, checked_size, checked_few, batch_written, reads_bad, reads_short, reads_all}
 use native.Mathlib.Omega.{arith}
 use borrow.Author.Rules.{rules}
-use Rattle.readout.proofs.read_out.Reads as reads
-use Rattle.readout.proofs.read_out.Lts as lts
-use Rattle.full_check.proofs.checked.Reads as checked_reads
-use Rattle.readout.proofs.edges.put_edges_of.Reads as put_edges_of_reads
-use Rattle.readout.proofs.edges.put_heading.Reads as put_heading_reads
-use Rattle.readout.proofs.refused.Reads as refused_reads
 use Rattle.readout.proofs.read_out.Goals as goal
 
-good : (p : tie.After-known-told2) → checked_of p.before.before.before.before.before.before.args.file.now ≡ Opening.Good p.before.opened.given.0.0
-good p = sym p.before.before.before.checked.ensures ∙ p.before.opened.given.1
-
 pub overflow_mul-needed : goal.overflow_mul-needed
-overflow_mul-needed c = let few = checked_few c.args.file.now _ (good c) in omega arith
+overflow_mul-needed c = let few = checked_few c.args.file.now _ (sym c.checked.ensures ∙ c.in-Good.is) in omega arith
 
 pub overflow_add-needed : goal.overflow_add-needed
-overflow_add-needed c = let few = checked_few c.args.file.now _ (good c) in omega arith
+overflow_add-needed c = let few = checked_few c.args.file.now _ (sym c.checked.ensures ∙ c.in-Good.is) in omega arith
 
 pub returns-then-room-needed : goal.returns-then-room-needed
 returns-then-room-needed c = let a = c.args in
-    let r = reads_short a.file.now a.out.now _ (good c) (omega arith) in
+    let r = reads_short a.file.now a.out.now _ (sym c.checked.ensures ∙ c.in-Good.is) (omega arith) in
     (c.refused-then-room-needed.ensures ∙ r.0, r.1)
 
 pub put_heading-requires : goal.put_heading-requires
 put_heading-requires c = let a = c.args in
-    let size = checked_size a.file.now _ (good c) in
+    let size = checked_size a.file.now _ (sym c.checked.ensures ∙ c.in-Good.is) in
     (omega arith, omega arith)
 
 pub put_edges_of-requires : goal.put_edges_of-requires
 put_edges_of-requires c = let a = c.args in
-    let g = good c in
+    let g = sym c.checked.ensures ∙ c.in-Good.is in
     let len = checked_records a.file.now _ g in
     let same = length-sets a.out.now 0 (heading_bytes (heading_in a.file.now)) in
     (g, simp (c.put_heading.ensures, length-sets, len) (omega arith))
@@ -56,7 +47,7 @@ returns-in-Refused c = let a = c.args in
 
 pub returns-else-room-needed : goal.returns-else-room-needed
 returns-else-room-needed c = let a = c.args in
-    let g = good c in
+    let g = sym c.checked.ensures ∙ c.in-Good.is in
     let f = a.file.now in
     let size = checked_size f _ g in
     let len = checked_records f _ g in

@@ -47,10 +47,10 @@ pub returns-then-bytes : goal.returns-then-bytes
 returns-then-bytes c =
     let a = c.args in let es = source_edges a.kind a.a.now a.b.now in let t = c.requires.0 in
     let z = c.partners_size-total.ensures in
-    too_many_bytes es a.n a.keys a.dead t _ _ _ z.0 z.1 c.width_of.ensures.0 _ c.file_size-bytes.ensures c.if-bytes.true
+    too_many_bytes es a.n a.keys a.dead t _ _ _ z.0 z.1 c.width_of-width.ensures.0 _ c.file_size-bytes.ensures c.if-bytes.true
 
 pub returns : goal.returns
 returns c =
     let a = c.args in let es = source_edges a.kind a.a.now a.b.now in let t = c.requires.0 in
     let z = c.partners_size-total.ensures in
-    fits es a.n a.keys a.dead t _ _ _ z.0 z.1 c.width_of.ensures.0 _ c.file_size-bytes.ensures (omega arith) (omega arith) (omega arith)
+    fits es a.n a.keys a.dead t _ _ _ z.0 z.1 c.width_of-width.ensures.0 _ c.file_size-bytes.ensures (omega arith) (omega arith) (omega arith)

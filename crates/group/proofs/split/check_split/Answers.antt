@@ -16,14 +16,13 @@ loop-k-init c =
 
 pub returns-then-not-in_order : goal.returns-then-not-in_order
 returns-then-not-in_order c =
-    let p = c in
-    let a = p.before.before.before.before.before.before.before.before.before.args in
-    let l = p.before.before.before.before.before.before.before.loop in
-    let q = p.before.before.before.id.given.0.0 in
-    let n = p.before.before.before.id.given.0.1.0 in
-    let e = step_split a.g.now l.i l.last.hi ∙ sym p.before.before.before.before.before.split_step.ensures ∙ p.before.before.before.id.given.1 in
+    let a = c.args in
+    let l = c.loop-k in
+    let q = c.in-Partner.id in
+    let n = c.in-Partner.next in
+    let e = step_split a.g.now l.i l.last.hi ∙ sym c.split_step.ensures ∙ c.in-Partner.is in
     c.bad_group.ensures
-    ∙ sym (check_low false a.g.now a.at a.degree l.i l.k l.last.hi (floor_of l.k l.last) l.invariant.1 p.before.before.before.before.before.before.loop-test.true q n e (sym p.before.in_order.ensures ∙ not-true _ p.if1.true))
+    ∙ sym (check_low false a.g.now a.at a.degree l.i l.k l.last.hi (floor_of l.k l.last) l.invariant.1 c.loop-k-test.true q n e (sym c.in_order.ensures ∙ c.if-not-in_order.true))
 
 pub loop-k-preserved : goal.loop-k-preserved
 loop-k-preserved c =
@@ -49,8 +48,7 @@ returns-then-i-g c =
 
 pub returns : goal.returns
 returns c =
-    let p = c in
-    let a = p.before.before.before.before.args in
-    let l = p.before.before.loop in
+    let a = c.args in
+    let l = c.loop-k in
     c.bad_group-2.ensures
-    ∙ sym (check_over false a.g.now a.at a.degree l.i l.k l.last.hi (floor_of l.k l.last) l.invariant.1 p.before.loop-test.false p.if2.false)
+    ∙ sym (check_over false a.g.now a.at a.degree l.i l.k l.last.hi (floor_of l.k l.last) l.invariant.1 c.loop-k-test.false c.if-i-g.false)

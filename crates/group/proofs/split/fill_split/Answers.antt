@@ -22,25 +22,17 @@ put_partner : (out : List ℕ) {out' out'' : List ℕ} (to : ℕ) (p : Id) {h l 
 put_partner out to p a b up low =
     record { place = ap (λ (t : ℕ). to + t) (sym (length_id_bytes p)); bytes = cc (put_halves out to p) }
 
--- the turn at the varint that was read
-turn : (p : tie.After-known-told invariant_loop decreases_loop) →
-    (let a = p.before.before.before.before.before.before.before.before.args in
-    let l = p.before.before.before.before.before.loop in
-    Filled a.g.now l.i l.hi l.invariant.2.0 (a.degree - (l.k + 1)) p.before.value.given.0.0 p.before.value.given.0.1.0)
-turn p =
-    let a = p.before.before.before.before.before.before.before.before.args in
-    let l = p.before.before.before.before.before.loop in
-    let e : a.degree - l.k ≡ suc (a.degree - (l.k + 1)) = omega arith in
-    fill_turn a.g.now l.i l.hi l.invariant.2.0 (a.degree - (l.k + 1)) (rw e at l.invariant.2.1) _ _
-    (sym p.before.before.before.short_at.ensures ∙ p.before.value.given.1)
-
 pub loop-k-init : goal.loop-k-init
 loop-k-init c =
     let a = c.args in
     (omega arith, omega arith, (0, rw sub-zero c.requires.0, rw sub-zero (start a.out.now 0 (bytes_of (partners_of (walk_from false a.degree a.g.now a.at 0 0))))))
 
 pub overflow_add-hi : goal.overflow_add-hi
-overflow_add-hi c = let t = turn c in omega (arith, t.fits)
+overflow_add-hi c = let a = c.args in
+    let l = c.loop-k in
+    let e : a.degree - l.k ≡ suc (a.degree - (l.k + 1)) = omega arith in
+    let t = fill_turn a.g.now l.i l.hi l.invariant.2.0 (a.degree - (l.k + 1)) (rw e at l.invariant.2.1) _ _ (sym c.short_at.ensures ∙ c.in-Value.is) in
+    omega (arith, t.fits)
 
 pub put_be64-requires : goal.put_be64-requires
 put_be64-requires c =
@@ -48,7 +40,11 @@ put_be64-requires c =
     omega (arith, l.invariant.2.2.same)
 
 pub le64-lower-requires : goal.le64-lower-requires
-le64-lower-requires c = (turn c).room
+le64-lower-requires c = let a = c.args in
+    let l = c.loop-k in
+    let e : a.degree - l.k ≡ suc (a.degree - (l.k + 1)) = omega arith in
+    let t = fill_turn a.g.now l.i l.hi l.invariant.2.0 (a.degree - (l.k + 1)) (rw e at l.invariant.2.1) _ _ (sym c.short_at.ensures ∙ c.in-Value.is) in
+    t.room
 
 pub overflow_add-to : goal.overflow_add-to
 overflow_add-to c = omega (arith, c.loop-k.invariant.2.2.same)
@@ -57,19 +53,22 @@ pub put_be64-requires-in-Value : goal.put_be64-requires-in-Value
 put_be64-requires-in-Value c = omega (arith, c.loop-k.invariant.2.2.same)
 
 pub overflow_add-i : goal.overflow_add-i
-overflow_add-i c = let t = turn c in omega (arith, t.room)
+overflow_add-i c = let a = c.args in
+    let l = c.loop-k in
+    let e : a.degree - l.k ≡ suc (a.degree - (l.k + 1)) = omega arith in
+    let t = fill_turn a.g.now l.i l.hi l.invariant.2.0 (a.degree - (l.k + 1)) (rw e at l.invariant.2.1) _ _ (sym c.short_at.ensures ∙ c.in-Value.is) in
+    omega (arith, t.room)
 
 pub overflow_add-to-in-Value : goal.overflow_add-to-in-Value
 overflow_add-to-in-Value c = omega (arith, c.loop-k.invariant.2.2.same)
 
 pub loop-k-preserved : goal.loop-k-preserved
 loop-k-preserved c =
-    let p = c in
-    let a = p.before.before.before.before.before.before.before.before.args in
-    let l = p.before.before.before.before.before.loop in
-    let t = turn p in
-    let w = put_partner l.out l.to t.partner c.put_be64.ensures c.put_be64-in-Value.ensures t.upper (t.lower ∙ sym c.le64-lower.ensures) in
+    let a = c.args in
+    let l = c.loop-k in
     let e : a.degree - l.k ≡ suc (a.degree - (l.k + 1)) = omega arith in
+    let t = fill_turn a.g.now l.i l.hi l.invariant.2.0 (a.degree - (l.k + 1)) (rw e at l.invariant.2.1) _ _ (sym c.short_at.ensures ∙ c.in-Value.is) in
+    let w = put_partner l.out l.to t.partner c.put_be64.ensures c.put_be64-in-Value.ensures t.upper (t.lower ∙ sym c.le64-lower.ensures) in
     let left = rw e at l.invariant.2.2 in
     (omega arith, omega arith, (suc (id_number t.partner), t.rest, put (is t.bytes left) w))
 

@@ -10,24 +10,16 @@ use Rattle.index.specs.Compare.{eqb_read}
 use borrow.Author.Rules.{rules}
 use Rattle.index.proofs.fences.fence_good.Goals as goal
 
--- what `same_id` answered, of the fence's key
-said : (c : tie.After-same-id) (b : Bool) → c.same_id.result ≡ b →
-    (let a = c.before.before.before.before.before.args in
-    eqb (id_at a.x.now (8 + 24 * a.i)) (key_at a.keys.now (a.i * a.stride)) ≡ b)
-said c b q =
-    let a = c.before.before.before.before.before.args in
-    let fence = c.before.before.id_at.ensures in
-    let key = c.before.key_at.ensures in
-    eqb_read a.x.now (8 + 24 * a.i) fence a.keys.now (a.i * a.stride * 16) key c.same_id.ensures q
-
 pub returns-then-not-same_id : goal.returns-then-not-same_id
 unfolding fence_good
 returns-then-not-same_id c =
-    let e = said c false c.if-not-same_id.true in rw e
+    let a = c.args in
+    let e = eqb_read a.x.now (8 + 24 * a.i) c.id_at.ensures a.keys.now (a.i * a.stride * 16) c.key_at.ensures c.same_id.ensures c.if-not-same_id.true in
+    rw e
 
 pub returns : goal.returns
 unfolding fence_good
 returns c =
     let a = c.args in
-    let e = said c true c.if-not-same_id.false in
+    let e = eqb_read a.x.now (8 + 24 * a.i) c.id_at.ensures a.keys.now (a.i * a.stride * 16) c.key_at.ensures c.same_id.ensures c.if-not-same_id.false in
     rw e (ap (λ (v : ℕ). eqb v (16 * (a.i * a.stride))) c.le64-place.ensures)

@@ -11,16 +11,6 @@ use Rattle.index.specs.Find.Laws.{Between, search_start, search_end, search_abov
 use borrow.Author.Rules.{rules}
 use Rattle.index.proofs.keys.find.Goals as goal
 
--- the comparison answered p
-said : (c : tie.After-compare invariant_loop decreases_loop) (p : Order) → c.compare.result ≡ p →
-    (let a = c.before.before.before.before.before.args in
-    let l = c.before.before.before.loop in
-    order (key_at a.keys.now (middle l.low l.high)) (id_number a.key) ≡ p)
-said c p q =
-    let a = c.before.before.before.before.before.args in
-    let l = c.before.before.before.loop in
-    order_read a.keys.now (middle l.low l.high * 16) c.before.key_at.ensures (id_number a.key) p c.compare.ensures q
-
 pub loop-low-init : goal.loop-low-init
 loop-low-init c = let a = c.args in (omega arith, omega arith, search_start a.keys.now a.n (id_number a.key))
 
@@ -28,21 +18,21 @@ pub loop-low-preserved-in-Less : goal.loop-low-preserved-in-Less
 loop-low-preserved-in-Less c =
     let a = c.args in
     let l = c.loop-low in
-    let answer = said c Order.Less c.in-Less.is in
+    let answer = order_read a.keys.now (middle l.low l.high * 16) c.key_at.ensures (id_number a.key) Order.Less c.compare.ensures c.in-Less.is in
     (omega arith, omega arith, search_above a.keys.now a.n (id_number a.key) l.low l.high l.compared l.invariant.2 (omega arith) answer)
 
 pub loop-low-preserved : goal.loop-low-preserved
 loop-low-preserved c =
     let a = c.args in
     let l = c.loop-low in
-    let answer = said c Order.Greater c.in-Greater.is in
+    let answer = order_read a.keys.now (middle l.low l.high * 16) c.key_at.ensures (id_number a.key) Order.Greater c.compare.ensures c.in-Greater.is in
     (omega arith, omega arith, search_below a.keys.now a.n (id_number a.key) l.low l.high l.compared l.invariant.2 (omega arith) answer)
 
 pub returns-in-Equal : goal.returns-in-Equal
 returns-in-Equal c =
     let a = c.args in
     let l = c.loop-low in
-    let answer = said c Order.Equal c.in-Equal.is in
+    let answer = order_read a.keys.now (middle l.low l.high * 16) c.key_at.ensures (id_number a.key) Order.Equal c.compare.ensures c.in-Equal.is in
     search_here a.keys.now a.n (id_number a.key) l.low l.high l.compared l.invariant.2 (omega arith) answer
 
 pub returns : goal.returns

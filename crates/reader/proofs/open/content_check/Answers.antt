@@ -36,10 +36,10 @@ module _ (keys offsets fences : List ℕ) (n w len : ℕ) where
   on t e = sym (sym (with_fences first second Refusal.Fences good t) ∙ fine_then (refuse Refusal.Fences (not good)) e)
 
 pub returns-then-not-fenced : goal.returns-then-not-fenced
-returns-then-not-fenced c = let a = c.args in c.index_check.ensures ∙ unfenced a.keys.now a.offsets.now a.fences.now a.n a.w a.len (not-true a.fenced c.if-not-fenced.true)
+returns-then-not-fenced c = let a = c.args in c.index_check.ensures ∙ unfenced a.keys.now a.offsets.now a.fences.now a.n a.w a.len c.if-not-fenced.true
 
 pub returns-in-Bad : goal.returns-in-Bad
-returns-in-Bad c = let a = c.args in sym (bad a.keys.now a.offsets.now a.fences.now a.n a.w a.len (not-false a.fenced c.if-not-fenced.false) _ (sym c.index_check-2.ensures ∙ c.in-Bad.is))
+returns-in-Bad c = let a = c.args in sym (bad a.keys.now a.offsets.now a.fences.now a.n a.w a.len c.if-not-fenced.false _ (sym c.index_check-2.ensures ∙ c.in-Bad.is))
 
 pub returns-in-Fine : goal.returns-in-Fine
-returns-in-Fine c = let a = c.args in c.fence_check.ensures ∙ on a.keys.now a.offsets.now a.fences.now a.n a.w a.len (not-false a.fenced c.if-not-fenced.false) (sym c.index_check-2.ensures ∙ c.in-Fine.is)
+returns-in-Fine c = let a = c.args in c.fence_check.ensures ∙ on a.keys.now a.offsets.now a.fences.now a.n a.w a.len c.if-not-fenced.false (sym c.index_check-2.ensures ∙ c.in-Fine.is)

@@ -11,20 +11,10 @@ use Rattle.group.specs.Good.{Fill, fill}
 use Rattle.readout.specs.Edges.{edges_from}
 use native.Mathlib.Omega.{arith}
 use borrow.Author.Rules.{rules}
-use Rattle.readout.proofs.group_edges.put_group_edges.Reads as reads
-use Rattle.readout.proofs.group_edges.put_group_edges.Lts as lts
-use Rattle.group.proofs.head.head_of.Reads as head_of_reads
-use Rattle.readout.proofs.group_edges.put_edges.Reads as put_edges_reads
 use Rattle.readout.proofs.group_edges.put_group_edges.Goals as goal
 
-split : (p : tie.After-known-told) → Fill p.before.before.before.before.before.before.before.before.args.g.now false p.before.degree.given.0.0 p.before.degree.given.0.1.0
-split p = fill p.before.before.before.before.before.before.before.before.args.g.now false _ _ (sym p.before.before.before.head_of.ensures ∙ p.before.degree.given.1) p.before.before.before.before.before.before.before.before.requires.good
-
-dense : (p : tie.After-known-told2) → Fill p.before.before.before.before.before.before.before.before.args.g.now true p.before.degree2.given.0.0 p.before.degree2.given.0.1.0
-dense p = fill p.before.before.before.before.before.before.before.before.args.g.now true _ _ (sym p.before.before.before.head_of.ensures ∙ p.before.degree2.given.1) p.before.before.before.before.before.before.before.before.requires.good
-
 pub put_edges-requires : goal.put_edges-requires
-put_edges-requires c = let f = split c in
+put_edges-requires c = let f = fill c.args.g.now false _ _ (sym c.head_of.ensures ∙ c.in-Split.is) c.requires.good in
     let count = f.count in
     let q = c.requires in
     let bound = q.bound in
@@ -32,13 +22,13 @@ put_edges-requires c = let f = split c in
     record { good = f.rest; bound = omega arith; numbers = omega arith; room = rw (← f.walk) q.room }
 
 pub overflow_add-result : goal.overflow_add-result
-overflow_add-result c = let f = split c in
+overflow_add-result c = let f = fill c.args.g.now false _ _ (sym c.head_of.ensures ∙ c.in-Split.is) c.requires.good in
     let count = f.count in
     let q = c.requires.bound in
     omega arith
 
 pub put_edges-requires-in-Dense : goal.put_edges-requires-in-Dense
-put_edges-requires-in-Dense c = let f = dense c in
+put_edges-requires-in-Dense c = let f = fill c.args.g.now true _ _ (sym c.head_of.ensures ∙ c.in-Dense.is) c.requires.good in
     let count = f.count in
     let q = c.requires in
     let bound = q.bound in
@@ -46,19 +36,19 @@ put_edges-requires-in-Dense c = let f = dense c in
     record { good = f.rest; bound = omega arith; numbers = omega arith; room = rw (← f.walk) q.room }
 
 pub overflow_add-result-in-Dense : goal.overflow_add-result-in-Dense
-overflow_add-result-in-Dense c = let f = dense c in
+overflow_add-result-in-Dense c = let f = fill c.args.g.now true _ _ (sym c.head_of.ensures ∙ c.in-Dense.is) c.requires.good in
     let count = f.count in
     let q = c.requires.bound in
     omega arith
 
 pub returns-in-Split : goal.returns-in-Split
 returns-in-Split c = let a = c.args in
-    let f = split c in
+    let f = fill c.args.g.now false _ _ (sym c.head_of.ensures ∙ c.in-Split.is) c.requires.good in
     (ap (λ (t : ℕ). a.first + t) (sym f.count), c.put_edges.ensures ∙ ap (λ (t : Decoded). sets a.out.now (place a.first) (records_of (edges_from a.logs.now a.dead.now a.key a.first (partners_of t)))) (sym f.walk))
 
 pub returns-in-Dense : goal.returns-in-Dense
 returns-in-Dense c = let a = c.args in
-    let f = dense c in
+    let f = fill c.args.g.now true _ _ (sym c.head_of.ensures ∙ c.in-Dense.is) c.requires.good in
     (ap (λ (t : ℕ). a.first + t) (sym f.count), c.put_edges-in-Dense.ensures ∙ ap (λ (t : Decoded). sets a.out.now (place a.first) (records_of (edges_from a.logs.now a.dead.now a.key a.first (partners_of t)))) (sym f.walk))
 
 pub returns-in-Bad : goal.returns-in-Bad

@@ -5,4 +5,4 @@ use Rattle.summary.proofs.logs.narrow_sign.Goals as goal
 
 pub returns : goal.returns
 returns c = let a = c.args in
-    narrow_sure a.s a.x c.wrapping_sub_u64.result c.wrapping_sub_u64-2.result (omega arith) (omega arith) (omega arith) c.wrapping_sub_u64.ensures c.wrapping_sub_u64-2.ensures c.requires
+    narrow_sure a.s a.x c.wrapping_sub_u64.result c.wrapping_sub_u64-2.result (omega arith) (omega arith) (omega arith) c.wrapping_sub_u64.ensures.value c.wrapping_sub_u64-2.ensures.value c.requires

@@ -1,24 +1,10 @@
 -- `summary::tally::tally_of` meets its contract.
 use Rattle.std.proofs.Common.{◌+◌, ◌-◌, ◌*◌, ◌≤◌, length, mul-le-mul_right, arith, rules}
 use Rattle.summary.specs.Tally.{Tallying, tallying_start, tallying_few, tallying_lies, tallying_degree, tallying_on, tallying_end}
-use Rattle.summary.proofs.tally.tally_of.Reads as reads
-use Rattle.summary.proofs.tally.tally_of.Lts as lts
-use Rattle.index.proofs.offsets.offset_at.Reads as offset_at_reads
-use Rattle.summary.proofs.tally.bucket_of.Reads as bucket_of_reads
-use Rattle.summary.proofs.tally.degree_of.Reads as degree_of_reads
-use Rattle.summary.proofs.tally.larger.Reads as larger_reads
 use Rattle.summary.proofs.tally.tally_of.Goals as goal
 
--- the group that is next lies within the partners
-lies : (c : lts.After-offset-at (offset_at_reads.Asked, offset_at_reads.Learnt, degree_of_reads.Asked, degree_of_reads.Learnt, bucket_of_reads.Asked, bucket_of_reads.Learnt, larger_reads.Asked, larger_reads.Learnt) reads.Pre reads.Post invariant_loop decreases_loop)
-    → (c.before.before.loop.a ≤ c.offset_at.result) × (c.offset_at.result ≤ length c.before.before.before.before.before.args.partners.now)
-lies c = let s = c.before.before.before.before.before in
-    let a = s.args in
-    let l = c.before.before.loop in
-    tallying_lies a.partners.now a.offs.now a.w a.n l.largest l.buckets l.a l.i l.invariant s.requires.4 (omega arith) c.offset_at.ensures.0
-
 pub loop-i-init : goal.loop-i-init
-loop-i-init c = let s = c in let a = s.args in tallying_start a.partners.now a.offs.now a.w a.n s.requires.4.first
+loop-i-init c = let a = c.args in tallying_start a.partners.now a.offs.now a.w a.n c.requires.4.first
 
 pub offset_at-e-requires : goal.offset_at-e-requires
 offset_at-e-requires c = let a = c.args in
@@ -27,20 +13,28 @@ offset_at-e-requires c = let a = c.args in
     (search rules, search rules, omega arith, omega arith)
 
 pub slice_bounds-degree_of-count : goal.slice_bounds-degree_of-count
-slice_bounds-degree_of-count c = let r = lies c in omega arith
+slice_bounds-degree_of-count c = let a = c.args in
+    let l = c.loop-i in
+    let r = tallying_lies a.partners.now a.offs.now a.w a.n l.largest l.buckets l.a l.i l.invariant c.requires.4 (omega arith) c.offset_at-e.ensures.0 in
+    omega arith
 
 pub slice_bounds-degree_of-start : goal.slice_bounds-degree_of-start
-slice_bounds-degree_of-start c = let r = lies c in omega arith
+slice_bounds-degree_of-start c = let a = c.args in
+    let l = c.loop-i in
+    let r = tallying_lies a.partners.now a.offs.now a.w a.n l.largest l.buckets l.a l.i l.invariant c.requires.4 (omega arith) c.offset_at-e.ensures.0 in
+    omega arith
 
 pub slice_bounds-degree_of-end : goal.slice_bounds-degree_of-end
-slice_bounds-degree_of-end c = let r = lies c in omega arith
+slice_bounds-degree_of-end c = let a = c.args in
+    let l = c.loop-i in
+    let r = tallying_lies a.partners.now a.offs.now a.w a.n l.largest l.buckets l.a l.i l.invariant c.requires.4 (omega arith) c.offset_at-e.ensures.0 in
+    omega arith
 
 pub bucket_of-b-requires : goal.bucket_of-b-requires
-bucket_of-b-requires c = let s = c in
-    let a = s.args in
+bucket_of-b-requires c = let a = c.args in
     let l = c.loop-i in
     let d = tallying_degree a.partners.now a.offs.now a.w a.n l.largest l.buckets l.a l.i l.invariant (omega arith) _ _ c.offset_at-e.ensures.0 c.degree_of-d.ensures in
-    let told = s.requires.5 l.i (omega arith) in
+    let told = c.requires.5 l.i (omega arith) in
     omega arith
 
 pub overflow_add-buckets : goal.overflow_add-buckets

@@ -14,46 +14,7 @@ use Rattle.write_image.specs.Image.{fence_bytes, fence_keys_from}
 use Rattle.write_image.specs.Image.Laws.{length_fence, fences_step, fences_end}
 use Rattle.write_sections.specs.Ids.{ids_at, ids_at_lem, id_below}
 use Rattle.write_sections.proofs.fences.put_rows.Goals as goal
-
-module _ (o : List ℕ) (first keys at m : ℕ) where
-  abbrev ids : List Id
-  ids = ids_at keys o first
-
-  record Head (out : List ℕ) (i to : ℕ) : Type 0 where
-    upto : i ≤ m
-    above : at ≤ to
-    left : Left out to (fence_keys_from (m - i) ids i) o at (fence_keys_from m ids 0)
-
-  module _ (out : List ℕ) (i to : ℕ) (h : Head out i to) (lt : i < m) (c : m ≡ kind.fence_count keys) where
-    inside : i * 256 < keys
-    inside = omega arith
-
-    module _ (below : first + 16 * keys ≤ at) (key : Id) (e : key ≡ halves_at out (first + 16 * (i * 256))) where
-      is : key ≡ get_or ids (i * 256) none.key
-      is =
-          e
-          ∙ id_below h.left (first + 16 * (i * 256)) (omega (arith, inside)) h.above
-          ∙ sym (ids_at_lem keys o first (i * 256) none.key inside)
-
-      todo : Left out to (fence_bytes key i ++ fence_keys_from (m - (i + 1)) ids (i + 1)) o at (fence_keys_from m ids 0)
-      todo = P.is (fences_step ids m i lt ∙ ap (λ (t : Id). fence_bytes t i ++ fence_keys_from (m - (i + 1)) ids (i + 1)) (sym is)) h.left
-
-      room : at + length (fence_keys_from m ids 0) ≤ length o → to + 24 ≤ length out
-      room g = omega (arith, P.room (fence_bytes key i) (fence_keys_from (m - (i + 1)) ids (i + 1)) todo g, length_fence key i)
-
-      again : {o₁ : List ℕ} {r : ℕ} → Put out o₁ to r (fence_bytes key i) → Head o₁ (i + 1) r
-      again p = let u = h.above in let q = p.place in record { upto = omega arith; above = omega arith; left = P.put todo p }
-
-  begin : Head o 0 at
-  begin =
-      record {
-        upto = omega arith;
-        above = omega arith;
-        left = P.is (ap (λ (t : ℕ). fence_keys_from t ids 0) (sym (sub-zero m))) (P.start o at (fence_keys_from m ids 0));
-      }
-
-  done : (out : List ℕ) (i to : ℕ) → Head out i to → i ≡ m → Put o out at to (fence_keys_from m ids 0)
-  done out i to h z = P.end (fences_end ids m i (omega arith)) h.left
+use Rattle.write_sections.proofs.fences.put_rows.Invariants.{inside, room, again, begin, done}
 
 pub loop-i-init : goal.loop-i-init
 loop-i-init c = let a = c.args in begin a.out.now a.first a.keys a.at a.count

@@ -9,7 +9,7 @@ overflow_mul-x c =
     let x = c.le64 in
     let y = c.le64-2 in
     let z : ℕ = bit_xor x.result y.result in
-    omega (arith, product_le (low_lt z) (high_lt (xor_lt 64 x.result y.result x.type-inv y.type-inv)))
+    omega (arith, product_le (low_lt z) (high_lt (xor_lt 64 x.result y.result x.type_inv y.type_inv)))
 
 pub returns : goal.returns
 unfolding lane

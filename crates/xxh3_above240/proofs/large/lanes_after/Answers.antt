@@ -49,8 +49,7 @@ returns-then-end-lt16 c =
 
 pub overflow_add-to : goal.overflow_add-to
 overflow_add-to c =
-    let l = c in
-    omega (arith, l.loop.invariant.2, l.before.before.requires)
+    omega (arith, c.loop-end.invariant.2, c.requires)
 
 pub loop-end-preserved : goal.loop-end-preserved
 unfolding secret

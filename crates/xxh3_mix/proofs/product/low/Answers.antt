@@ -18,6 +18,6 @@ unfolding mul
 returns c =
     let a = c.args.a in
     let b = c.args.b in
-    c.wrapping_add_u64.ensures
-    ∙ ap (λ (n : ℕ). (n * 2 ^ 32 % 2 ^ 64 + a % 2 ^ 32 * (b % 2 ^ 32)) % 2 ^ 64) c.wrapping_add_u64-cross.ensures
+    c.wrapping_add_u64.ensures.value
+    ∙ ap (λ (n : ℕ). (n * 2 ^ 32 % 2 ^ 64 + a % 2 ^ 32 * (b % 2 ^ 32)) % 2 ^ 64) c.wrapping_add_u64-cross.ensures.value
     ∙ lower_half a b
