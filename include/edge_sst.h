@@ -1,4 +1,4 @@
-/* Edge SST files for C99 and C++: link libedge_sst_c.a ('rt staticlib edge_sst_c').
+/* Edge SST files for C99 and C++: link libedge_sst_c.a ('tools/staticlib edge_sst_c').
  *
  * docs/FORMAT.md says what a file and a batch are, byte by byte, and has a glossary.
  * tests/c/example.c looks up a key, example_check.c checks files, example_write.c

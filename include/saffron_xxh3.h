@@ -1,4 +1,4 @@
-/* XXH3-64, seed 0, default secret, of bytes at hand or in chunks. Link with libxxh3.a (`rt staticlib xxh3`), x86-64.
+/* XXH3-64, seed 0, default secret, of bytes at hand or in chunks. Link with libxxh3.a (`tools/staticlib xxh3`), x86-64.
 
    For every call: no pointer is null, also where n is 0: any other address will do there. The parts of a state are
    aligned as their types ask, and overlap neither each other nor the chunk. A call reads and writes only what it is lent,

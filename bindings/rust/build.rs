@@ -21,7 +21,7 @@ fn main() {
     println!("cargo:rerun-if-changed={}", archive.display());
     if !archive.is_file() {
         panic!(
-            "there is no {}: build it with 'rt staticlib edge_sst_c' in the repository, \
+            "there is no {}: build it with 'tools/staticlib edge_sst_c' in the repository, \
              or set EDGE_SST_LIB_DIR to the folder that has {ARCHIVE} for this machine",
             archive.display()
         );

@@ -2,4 +2,3 @@ pub mod SameEdges
 pub mod Changed
 pub mod OutBytes
 pub mod Heading
-pub mod Index

@@ -4,7 +4,6 @@ use Rattle.base.specs.Pick.{pick}
 use Rattle.codes.specs.declared.ids.Id.{Id}
 use Rattle.codes.specs.Ids.{id_number}
 use Rattle.batch.specs.declared.Edge.{Edge}
-pub mod Laws
 
 -- what `get_or` gives past the last edge
 abbrev pub none : Edge

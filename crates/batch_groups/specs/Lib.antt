@@ -1,3 +1,1 @@
 pub mod Groups
-pub mod Order
-pub mod Back

@@ -18,7 +18,6 @@ use Rattle.batch.specs.declared.Edge.{Edge}
 use Rattle.batch_groups.specs.Groups.{none, Group, groups_of, IdFits, Grouped}
 use Rattle.write_image.specs.Image.{key_bytes}
 use Rattle.agreement.specs.SameEdges.{of_key, mark_bytes_in, Says}
-use Rattle.demand2.specs.Contents.{group_key}
 
 -- the index of key k: how many of the different keys are below it
 unfoldable pub index_in : ℕ → List Group → ℕ
@@ -38,58 +37,6 @@ outcome_by full i c (e ∷ es) = found i c (partners_in (e ∷ es)) (pick full (
 abbrev pub outcome_for : Bool → ℕ → List Edge → Outcome
 outcome_for full k es = outcome_by full (index_in k (groups_of es)) (comparisons_in k (groups_of es)) (of_key k es)
 
--- ---- the index
-
--- keys that are not below k
-none_below : (k floor : ℕ) (gs : List Group) → Grouped floor gs → k ≤ floor → index_in k gs ≡ 0
-unfolding index_in Grouped
-none_below k floor [] o h = refl
-none_below k floor (g ∷ gs) o h =
-    let low = o.0 in
-    let rest = none_below k (suc (id_number g.key)) gs o.4 (omega arith) in
-    ap₂ (λ (b : Bool) (n : ℕ). pick b 1 0 + n) (le-ltb (id_number g.key) k (omega arith)) rest
-
-abbrev past : Group
-past = record { key = none.key; edges = [] }
-
-above_floor : (floor : ℕ) (gs : List Group) → Grouped floor gs → (i : ℕ) → i < length gs → floor ≤ id_number (get_or gs i past).key
-unfolding Grouped
-above_floor floor [] o i h = absurd (omega arith)
-above_floor floor (g ∷ gs) o zero h = o.0
-above_floor floor (g ∷ gs) o (suc i) h = let low = o.0 in let up = above_floor (suc (id_number g.key)) gs o.4 i (omega arith) in omega arith
-
--- of the key of group i it is i
-index_is : (floor : ℕ) (gs : List Group) → Grouped floor gs → (i : ℕ) → i < length gs → index_in (id_number (get_or gs i past).key) gs ≡ i
-unfolding index_in Grouped
-index_is floor [] o i h = absurd (omega arith)
-index_is floor (g ∷ gs) o zero h =
-    ap₂ (λ (b : Bool) (n : ℕ). pick b 1 0 + n) (le-ltb (id_number g.key) (id_number g.key) (omega arith))
-    (none_below (id_number g.key) (suc (id_number g.key)) gs o.4 (omega arith))
-index_is floor (g ∷ gs) o (suc i) h =
-    let up = above_floor (suc (id_number g.key)) gs o.4 i (omega arith) in
-    let rest = index_is (suc (id_number g.key)) gs o.4 i (omega arith) in
-    ap₂ (λ (b : Bool) (n : ℕ). pick b 1 0 + n) (lt-ltb (id_number g.key) (id_number (get_or gs i past).key) (omega arith)) rest ∙ omega arith
-
--- a group's key fits
-key_fits : (floor : ℕ) (gs : List Group) → Grouped floor gs → (i : ℕ) → i < length gs → IdFits (get_or gs i past).key
-unfolding Grouped
-key_fits floor [] o i h = absurd (omega arith)
-key_fits floor (g ∷ gs) o zero h = o.1
-key_fits floor (g ∷ gs) o (suc i) h = key_fits (suc (id_number g.key)) gs o.4 i (omega arith)
-
--- what is found stands at its index
-module _ (gs : List Group) (order : Grouped 0 gs) (k : ℕ) where
-  key_is : (i : ℕ) → i < length gs → key_at (key_bytes gs) i ≡ id_number (get_or gs i past).key
-  key_is i h =
-      let split : gs ≡ take i gs ++ get_or gs i past ∷ drop (suc i) gs = sym (take-append-drop i gs) ∙ ap (λ (t : List Group). take i gs ++ t) (drop-cons gs i past h) in
-      ap (key_at (key_bytes gs)) (sym (length-take-le i gs (omega arith)))
-      ∙ group_key gs (take i gs) (get_or gs i past) (drop (suc i) gs) split (key_fits 0 gs order i h)
-
-  found_at : (i c : ℕ) → find_in (key_bytes gs) (length gs) k ≡ Found.At i c → i ≡ index_in k gs
-  found_at i c e =
-      let (h, q) = find_sound (key_bytes gs) (length gs) k i c e in
-      sym (ap (λ (t : ℕ). index_in t gs) (sym q ∙ key_is i h) ∙ index_is 0 gs order i h)
-
 -- ---- the outcome
 
 -- index and count of an outcome, if it has them
@@ -97,30 +44,3 @@ unfoldable pub PlaceTold : ℕ → List Group → Outcome → Type 0
 PlaceTold k gs (found i c ps logs marks) = (i ≡ index_in k gs) × (c ≡ comparisons_in k gs)
 PlaceTold k gs (absent c) = c ≡ comparisons_in k gs
 PlaceTold k gs (refused r) = Unit {0}
-
-module _ (known : Known) (gs : List Group) (order : Grouped 0 gs) (keys : known.keys ≡ key_bytes gs) (count : known.keycount ≡ length gs) (full : Bool) (rooms : Rooms) (k : ℕ) where
-  on_group : (i c : ℕ) (chk : Check) (ps : List Id) (logs marks : List ℕ) → find_in (key_bytes gs) (length gs) k ≡ Found.At i c → PlaceTold k gs (outcome chk (found i c ps logs marks))
-  unfolding PlaceTold outcome compared_of
-  on_group i c Check.Fine ps logs marks e = (found_at gs order k i c e, sym (ap compared_of e))
-  on_group i c (Check.Bad r) ps logs marks e = tt
-
-  on_search : (x : Found) → find_in (key_bytes gs) (length gs) k ≡ x → PlaceTold k gs (on_found full rooms known x)
-  unfolding PlaceTold on_found look_group compared_of
-  on_search (Found.At i c) e = on_group i c _ _ _ _ e
-  on_search (Found.Absent c) e = sym (ap compared_of e)
-
-  pub look_placed : PlaceTold k gs (look_in full rooms known k)
-  unfolding look_in
-  look_placed =
-      let e : find_in known.keys known.keycount k ≡ find_in (key_bytes gs) (length gs) k = ap₂ (λ (s : List ℕ) (n : ℕ). find_in s n k) keys count in
-      on_search (find_in known.keys known.keycount k) (sym e)
-
--- with the edges that it says, an outcome is the one that the edges give
-pub outcome_is : (full : Bool) (k : ℕ) (gs : List Group) (es : List Edge) (x : Outcome) → Says full x es → PlaceTold k gs x
-    → x ≡ outcome_by full (index_in k gs) (comparisons_in k gs) es
-unfolding Says PlaceTold outcome_by
-outcome_is full k gs [] (found i c ps logs marks) h p = absurd (omega (arith, h.0))
-outcome_is full k gs (e ∷ es) (found i c ps logs marks) h p = λ j. found (p.0 j) (p.1 j) (h.1 j) (h.2 j) (h.3 j)
-outcome_is full k gs [] (absent c) h p = ap absent p
-outcome_is full k gs (e ∷ es) (absent c) h p = absurd (omega (arith, ap length h))
-outcome_is full k gs es (refused r) h p = absurd h

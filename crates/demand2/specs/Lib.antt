@@ -1,9 +1,4 @@
-pub mod Rows
-pub mod Contents
-pub mod Rules
-pub mod Fences
 pub mod Sections
 pub mod File
 pub mod Answers
 pub mod Demand2
-pub mod Cases

@@ -12,16 +12,17 @@ use Rattle.frame.specs.declared.Opening.{Opening}
 use Rattle.frame.specs.declared.ends.Header.{Header}
 use Rattle.frame.specs.Kind as kind
 use Rattle.frame.specs.Frame.{has, all, rows_of, body_of, record_of, at_minor}
-use Rattle.frame.specs.Frame.Laws.{header_minor}
+use Rattle.frame.proofs.Laws.Frame.{header_minor}
 use Rattle.frame.specs.Open.{open_of}
 use Rattle.lookup.specs.Lookup.{Rooms, look_of, look_with}
 use Rattle.reader.specs.declared.header.HeaderRead.{HeaderRead}
-use Rattle.reader.specs.Header.{header_of, header_opens, header_good}
-use Rattle.reader.specs.Look.{with_record}
-use Rattle.laid_out.specs.Laid.{file_rows}
-use Rattle.demand3.specs.Stripped.{Stripped, Later, opened_later, copy_opens, copy_answers, added_opens}
-use Rattle.demand3.specs.Strip.{strip, stripped, is_copy, h64, small, fits}
-use Rattle.demand3.specs.Whole.{Byted, byted_strip, none_unknown}
+use Rattle.reader.specs.Header.{header_of}
+use Rattle.reader.proofs.Laws.Header.{header_opens, header_good}
+use Rattle.reader.proofs.Laws.Look.{with_record}
+use Rattle.laid_out.proofs.Laws.Laid.{file_rows}
+use Rattle.demand3.specs.Stripped.{Stripped, Later}
+use Rattle.demand3.specs.Strip.{strip, stripped}
+use Rattle.demand3.specs.Whole.{Byted}
 
 -- f opens to o, and g is a copy of it without the unknown sections
 pub record Alike (f : List ℕ) (o : Opened) (g : List ℕ) : Type 0 where
@@ -54,36 +55,3 @@ pub record Demand3 : Type 0 where
   pub later : (f : List ℕ) → Later f → (g : List ℕ) → Stripped f g → open_of g ≡ Opening.Good (record_of g) → LaterOpens f g
   -- no more is asked of it than of every file: a file opens exactly if it keeps those rules and `strip` of it opens
   pub exactly : (f : List ℕ) → Bytes f → (open_of f ≡ Opening.Good (record_of f)) ↔ (Later f × (open_of (strip f) ≡ Opening.Good (record_of (strip f))))
-
-alike : (f : List ℕ) (o : Opened) → open_of f ≡ Opening.Good o → (g : List ℕ) → Stripped f g → Alike f o g
-alike f o e g s = record {
-  opens = copy_opens f g s o e;
-  answers = copy_answers f g s o e;
-  answers_with = λ full rooms key.
-      with_record full rooms key g (record_of g) (copy_opens f g s o e) ∙ copy_answers f g s o e full rooms key ∙ sym (with_record full rooms key f o e);
-  header = λ h q.
-      header_good g (record_of g) (copy_opens f g s o e)
-      ∙ ap HeaderRead.Good (header_minor g f s.header ∙ (λ j. at_minor (s.minor j) (((header_opens f h).0 q).1 j)));
-}
-
-stripped_copy : (f : List ℕ) → Bytes f → (o : Opened) → open_of f ≡ Opening.Good o → Copy f o (strip f)
-unfolding strip stripped
-stripped_copy f by o op =
-    let l : Later f = opened_later f o op in
-    let copy : Stripped f (strip f) = is_copy f by l in record {
-      bytes = byted_strip f by;
-      copy = copy;
-      known = rw (file_rows (stripped f) (h64 f by l) (small f by l) (fits f by l)) (none_unknown f (body_of f) (rows_of (body_of f)) 64 2);
-      alike = alike f o op (strip f) copy;
-    }
-
-pub demand_3 : Demand3
-demand_3 = record {
-  any_copy = alike;
-  one_copy = stripped_copy;
-  later = λ f l g s e. let o = added_opens f g s l e in record { opens = o; alike = alike f (record_of f) o g s };
-  exactly = λ f by. (
-    λ e. let l = opened_later f (record_of f) e in (l, copy_opens f (strip f) (is_copy f by l) (record_of f) e),
-    λ h. added_opens f (strip f) (is_copy f by h.0) h.0 h.1,
-  );
-}

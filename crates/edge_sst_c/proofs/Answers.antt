@@ -26,16 +26,21 @@ use Rattle.listing.specs.List as list
 use Rattle.xxh3_spec.specs.Xxh3.{xxh3}
 use Rattle.xxh3_running.specs.declared.Fed.{Fed}
 use Rattle.xxh3_running.specs.Running.{most_fed, state_of, feed_of, Leaves}
-use Rattle.xxh3_running.specs.Running.Laws.{feed_taken, feed_refused}
-use Rattle.xxh3_running.specs.Running.Sums.{Holds, new_holds, sum_is}
-use Rattle.xxh3_running.specs.Chunks.{taking, taking_holds}
+use Rattle.xxh3_running.proofs.Laws.Running.{feed_taken, feed_refused}
+use Rattle.xxh3_running.specs.Running.Sums.{Holds}
+use Rattle.xxh3_running.proofs.Laws.RunningSums.{new_holds, sum_is}
+use Rattle.xxh3_running.specs.Chunks.{taking}
+use Rattle.xxh3_running.proofs.Laws.Chunks.{taking_holds}
 use Rattle.summary.specs.Summary.{nothing, summarised_of}
 use Rattle.edge_sst_c.specs.Summary.{none_told, figures_told}
-use Rattle.edge_sst_c.specs.Desk.{check_told, check_told_fine, check_told_bad}
+use Rattle.edge_sst_c.specs.Desk.{check_told}
+use Rattle.edge_sst_c.proofs.Laws.Desk.{check_told_fine, check_told_bad}
 use Rattle.refusal.specs.declared.Refusal.{Refusal}
 use Rattle.edge_sst_c.specs.Look.{record_lent}
-use Rattle.edge_sst_c.specs.Back.{opening_from, header_from, looked_from, check_from, read_out_from, summarised_from, written_from, listed_from, opening_back, header_back, header_bytes, looked_back, check_back, read_out_back, EndsTold, summary_back, summary_zeros, summary_ends, written_back, listed_back}
-use Rattle.edge_sst_c.specs.Refused.{Tells, Unfound, opened_tells, header_tells, looked_tells, check_tells, summary_tells, read_tells, written_tells, listed_tells, partners_stay, edges_stay, read_stays, write_stays, sections_stay, running_stays}
+use Rattle.edge_sst_c.specs.Back.{opening_from, header_from, looked_from, check_from, read_out_from, summarised_from, written_from, listed_from, EndsTold}
+use Rattle.edge_sst_c.proofs.Laws.Back.{opening_back, header_back, header_bytes, looked_back, check_back, read_out_back, summary_back, summary_zeros, summary_ends, written_back, listed_back}
+use Rattle.edge_sst_c.specs.Refused.{Tells, Unfound}
+use Rattle.edge_sst_c.proofs.Laws.Refused.{opened_tells, header_tells, looked_tells, check_tells, summary_tells, read_tells, written_tells, listed_tells, partners_stay, edges_stay, read_stays, write_stays, sections_stay, running_stays}
 use Rattle.base.proofs.Every.{Every}
 use Rattle.edge_sst_c.specs.contracts.edge_sst_open as c_open
 use Rattle.edge_sst_c.proofs.edge_sst_open.Reads as c_open_reads

@@ -3,8 +3,10 @@ use mathlib.Core.Path.{◌≡◌, refl}
 use Prim.Native.Nat.{ℕ, ◌*◌, ◌<◌}
 use lib.ListN.{drop}
 use Rattle.listing.specs.List.{row_is}
-use Rattle.edge_sst_c.specs.Back.{fields_of, partners_back, edges_back}
-use Rattle.edge_sst_c.specs.Rows.{row_from, sections_back}
+use Rattle.edge_sst_c.specs.Back.{fields_of}
+use Rattle.edge_sst_c.proofs.Laws.Back.{partners_back, edges_back}
+use Rattle.edge_sst_c.specs.Rows.{row_from}
+use Rattle.edge_sst_c.proofs.Laws.Rows.{sections_back}
 use Rattle.base.proofs.Every.{Every}
 use Rattle.edge_sst_c.specs.contracts.edge_sst_open as c_open
 use Rattle.edge_sst_c.proofs.edge_sst_open.Reads as c_open_reads

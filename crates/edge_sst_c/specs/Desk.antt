@@ -15,22 +15,3 @@ check_told (Check.Bad r) = record { number = number_of r; place = place_of r; be
 unfoldable pub read_told : ReadOut → EdgeSstDone
 read_told (ReadOut.Done bytes) = record { number = 0; place = 0; beside = 0; bytes = bytes }
 read_told (ReadOut.Refused r) = record { number = number_of r; place = place_of r; beside = beside_of r; bytes = 0 }
-
--- ---- laws
-
-pub check_told_fine : (c : Check) → c ≡ Check.Fine → record { number = 0; place = 0; beside = 0 } ≡ check_told c
-unfolding check_told
-check_told_fine c e = sym (ap check_told e)
-
-pub check_told_bad : (k : Check) (r : Refusal) {n p s : ℕ} → k ≡ Check.Bad r → n ≡ number_of r → p ≡ place_of r → s ≡ beside_of r → record { number = n; place = p; beside = s } ≡ check_told k
-unfolding check_told
-check_told_bad k r e a b c = (λ i. record { number = a i; place = b i; beside = c i }) ∙ sym (ap check_told e)
-
-pub read_done : (x : ReadOut) (n : ℕ) → x ≡ ReadOut.Done n → record { number = 0; place = 0; beside = 0; bytes = n } ≡ read_told x
-unfolding read_told
-read_done x n e = sym (ap read_told e)
-
-pub read_refused : (x : ReadOut) (r : Refusal) {n p s : ℕ} → x ≡ ReadOut.Refused r → n ≡ number_of r → p ≡ place_of r → s ≡ beside_of r
-    → record { number = n; place = p; beside = s; bytes = 0 } ≡ read_told x
-unfolding read_told
-read_refused x r e a b c = (λ i. record { number = a i; place = b i; beside = c i; bytes = 0 }) ∙ sym (ap read_told e)

@@ -43,20 +43,3 @@ without_fields number place beside = record {
 unfoldable pub header_told : HeaderRead → EdgeSstHeader
 header_told (HeaderRead.Good h) = fields_told h
 header_told (HeaderRead.Refused r) = without_fields (number_of r) (place_of r) (beside_of r)
-
--- ---- laws
-
-pub header_told_lem : (x : HeaderRead) (h : Header) → x ≡ HeaderRead.Good h → header_told x ≡ fields_told h
-unfolding header_told
-header_told_lem x h e = rw e
-
-pub header_refused : (x : HeaderRead) (r : Refusal) → x ≡ HeaderRead.Refused r → header_told x ≡ without_fields (number_of r) (place_of r) (beside_of r)
-unfolding header_told
-header_refused x r e = rw e
-
--- the bytes of an id, stored over as many zeros
-pub bytes_told : (d : Id) {t : List ℕ} → t ≡ sets (replicate 16 0) 0 (id_bytes d) → t ≡ id_bytes d
-bytes_told d e =
-    let l = length_id_bytes d in
-    let zeros : List ℕ = replicate 16 0 in
-    e ∙ sets_over (id_bytes d) zeros (omega arith) ∙ ap (λ (n : ℕ). id_bytes d ++ drop n zeros) l ∙ append-nil (id_bytes d)

@@ -39,18 +39,3 @@ figures_told told s x = record {
 
 unfoldable pub summary_told : Summarised → EdgeSstSummary
 summary_told s = figures_told (check_told s.told) s.summary (extremes_told s.summary.extremes)
-
--- ---- laws
-
-pub told_none : (x : Extremes) → x ≡ Extremes.None → none_told ≡ extremes_told x
-unfolding extremes_told
-told_none x e = sym (ap extremes_told e)
-
-pub told_some : (x : Extremes) (a b : Id) (s l : ℕ) {p q : List ℕ} → x ≡ Extremes.Some a b s l → p ≡ id_bytes a → q ≡ id_bytes b
-    → record { there = 1; smallestkey = p; largestkey = q; smallestlog = s; largestlog = l } ≡ extremes_told x
-unfolding extremes_told
-told_some x a b s l e p q = (λ i. record { there = 1; smallestkey = p i; largestkey = q i; smallestlog = s; largestlog = l }) ∙ sym (ap extremes_told e)
-
-pub told_summary : {r : EdgeSstSummary} {t : EdgeSstTold} {s u : Summarised} → s ≡ u → t ≡ check_told s.told → r ≡ figures_told t s.summary (extremes_told s.summary.extremes) → r ≡ summary_told u
-unfolding summary_told
-told_summary {s = s} e p q = q ∙ ap (λ (x : EdgeSstTold). figures_told x s.summary (extremes_told s.summary.extremes)) p ∙ ap summary_told e

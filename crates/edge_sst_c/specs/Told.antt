@@ -63,13 +63,3 @@ refusal_with number place beside = record {
 unfoldable pub opened_told : Opening → EdgeSstOpened
 opened_told (Opening.Good o) = record_with o (truth o.marked) (truth o.indexed)
 opened_told (Opening.Refused r) = refusal_with (number_of r) (place_of r) (beside_of r)
-
--- ---- laws
-
-pub told_good : (x : Opening) (o : Opened) → x ≡ Opening.Good o → opened_told x ≡ record_with o (truth o.marked) (truth o.indexed)
-unfolding opened_told
-told_good x o e = rw e
-
-pub told_refused : (x : Opening) (r : Refusal) → x ≡ Opening.Refused r → opened_told x ≡ refusal_with (number_of r) (place_of r) (beside_of r)
-unfolding opened_told
-told_refused x r e = rw e

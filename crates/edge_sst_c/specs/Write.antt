@@ -15,17 +15,3 @@ written_told (Written.Refused r) = record { number = number_of r; place = place_
 pub record WroteTold (s o : List ℕ) (r : EdgeSstDone) (out : List ℕ) : Type 0 where
   pub answer : r ≡ written_told (written_of s (length o))
   pub output : out ≡ write_leaves (written_of s (length o)) (file_in s) o
-
--- ---- laws
-
-pub written_done : (x : Written) (n : ℕ) → x ≡ Written.Done n → record { number = 0; place = 0; beside = 0; bytes = n } ≡ written_told x
-unfolding written_told
-written_done x n e = sym (ap written_told e)
-
-pub written_refused : (x : Written) (r : Refusal) {n p s : ℕ} → x ≡ Written.Refused r → n ≡ number_of r → p ≡ place_of r → s ≡ beside_of r
-    → record { number = n; place = p; beside = s; bytes = 0 } ≡ written_told x
-unfolding written_told
-written_refused x r e a b c = (λ i. record { number = a i; place = b i; beside = c i; bytes = 0 }) ∙ sym (ap written_told e)
-
-pub wrote_told : {s o out : List ℕ} {w : Written} {r : EdgeSstDone} → Wrote s o w out → r ≡ written_told w → WroteTold s o r out
-wrote_told c t = record { answer = t ∙ ap written_told c.answer; output = c.output }

@@ -1,4 +1,5 @@
-// The calls for C. Each is thin over the library and gives numbers: 0 is no refusal. See include/edge_sst.h.
+// The calls for C. Each is thin over the library and gives numbers: 0 is no refusal. See include/edge_sst.h. The archive that C
+// links is made of crates/edge_sst_exports, which exports each of them.
 #![tactic(auto)]
 
 ghost use Rattle.std.specs.Prelude.{◌≡◌};

@@ -1,7 +1,6 @@
 -- Section kinds, their numbers, rows and lengths; header, footer and trailer; bounds. Each stands here once.
 use Rattle.std.specs.Prelude.{ℕ, suc, ◌+◌, ◌-◌, ◌*◌, ◌/◌, ◌^◌, Bool, true, false, not, ◌&&◌, ◌||◌, List, [], ◌∷◌, length, ltb, leb, eqb}
 use Rattle.base.specs.Pick.{pick}
-pub mod Laws
 
 -- ---- kinds
 

@@ -4,6 +4,4 @@ pub mod Open
 pub mod Given
 pub mod Header
 pub mod Reserved
-pub mod Starts
 pub mod Layout
-pub mod Cases

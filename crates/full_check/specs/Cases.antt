@@ -7,7 +7,7 @@ use Rattle.refusal.specs.declared.Refusal.{Refusal}
 use Rattle.refusal.specs.declared.Check.{Check}
 use Rattle.group.specs.Group.{onVarint, split_step, dense_step, step_at, on_step, cons, walk_from, degree_of, head_of, on_head, group_of, partners_of}
 use Rattle.lookup.specs.Lookup.{group_check}
-use Rattle.lookup.specs.Cases.{known_by}
+use Rattle.lookup.proofs.Laws.Cases.{known_by}
 use Rattle.full_check.specs.Full.{dense_of, groups_from, degrees_from, dense_from, stray_from, dead_from, data_good, edges_check}
 
 pub starts_checked :

@@ -7,14 +7,14 @@ use Rattle.base.specs.Pick.{pick}
 use Rattle.refusal.specs.declared.Refusal.{Refusal}
 use Rattle.refusal.specs.declared.Check.{Check}
 use Rattle.refusal.specs.Check.{◌⊳◌, refuse}
-use Rattle.refusal.specs.Check.Laws.{fine_parts, bad_then, fine_then}
+use Rattle.refusal.proofs.Laws.Check.{fine_parts, bad_then, fine_then}
 use Rattle.frame.specs.declared.Opened.{Opened}
 use Rattle.frame.specs.declared.Opening.{Opening}
 use Rattle.frame.specs.Frame.{rows_of, flag, flags_of, body_of}
 use Rattle.frame.specs.Open.{known_of, record_of, bytes_at, file_check, opening, open_of}
-use Rattle.frame.specs.Open.Laws.{opens_record}
+use Rattle.frame.proofs.Laws.Open.{opens_record}
 use Rattle.lookup.specs.Lookup.{mark_at}
-use Rattle.lookup.specs.Lookup.Laws.{mark_none}
+use Rattle.lookup.proofs.Laws.Lookup.{mark_none}
 use Rattle.full_check.specs.declared.groups.Groups.{Groups}
 use Rattle.full_check.specs.declared.marks.Marks.{Marks}
 use Rattle.full_check.specs.Full.{sums_from, dead_from, marks_of, data_good, edges_check, full_check, groups_told, groups_seen, checked_of}

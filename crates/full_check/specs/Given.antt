@@ -8,18 +8,19 @@ use Rattle.refusal.specs.declared.Refusal.{Refusal}
 use Rattle.refusal.specs.declared.Check.{Check}
 use Rattle.refusal.specs.Refusal.{number_of}
 use Rattle.refusal.specs.Check.{◌⊳◌, refuse}
-use Rattle.refusal.specs.Check.Laws.{bad_then, fine_then, by_first, by_second, listed, none_listed, Numbers, numbers_fine, numbers_bad, numbers_refuse, numbers_then, numbers_pick, numbers_more, not_given}
+use Rattle.refusal.proofs.Laws.Check.{bad_then, fine_then, by_first, by_second, listed, none_listed, Numbers, numbers_fine, numbers_bad, numbers_refuse, numbers_then, numbers_pick, numbers_more, not_given}
 use Rattle.frame.specs.declared.Row.{Row}
 use Rattle.frame.specs.Frame.{rows_of, flags_of, body_of, record_of}
-use Rattle.frame.specs.Given.{opening_numbers, opening_numbers_lem}
+use Rattle.frame.specs.Given.{opening_numbers}
+use Rattle.frame.proofs.Laws.Given.{opening_numbers_lem}
 use Rattle.frame.specs.Open.{Known, known_of, bytes_at, file_check}
 use Rattle.degrees.specs.Degrees.{group_at}
 use Rattle.group.specs.Group.{Decoded, good, bad, is_good, group_of}
 use Rattle.group.specs.declared.fault.Fault.{Fault}
 use Rattle.group.specs.Fault.{refusal_of}
-use Rattle.group.specs.Fault.Laws.{fault_numbers, fault_once, fault_apart}
+use Rattle.group.proofs.Laws.Fault.{fault_numbers, fault_once, fault_apart}
 use Rattle.lookup.specs.Lookup.{group_check}
-use Rattle.lookup.specs.Given.{group_numbers, group_fine, group_fault_lem}
+use Rattle.lookup.proofs.Laws.Given.{group_numbers, group_fine, group_fault_lem}
 use Rattle.full_check.specs.Full.{sum_good, sums_from, group_in, groups_from, degrees_from, dense_from, data_good, stray_in, edges_check, full_check}
 
 -- ---- the numbers: 22, then a group's, then 23

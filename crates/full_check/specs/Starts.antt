@@ -11,7 +11,7 @@ use Rattle.std.proofs.lemmas.Bool.{not-false}
 use Rattle.refusal.specs.declared.Refusal.{Refusal}
 use Rattle.refusal.specs.declared.Check.{Check}
 use Rattle.refusal.specs.Check.{refuse}
-use Rattle.refusal.specs.Check.Laws.{fine_parts, fine_both, fine_then, good_parts, good_fine}
+use Rattle.refusal.proofs.Laws.Check.{fine_parts, fine_both, fine_then, good_parts, good_fine}
 use Rattle.frame.specs.Frame.{flag}
 use Rattle.frame.specs.Open.{Known, start_at}
 use Rattle.group.specs.Group.{partners_of}

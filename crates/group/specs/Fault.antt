@@ -5,7 +5,6 @@ use Rattle.codes.specs.declared.varint.Unread.{Unread}
 use Rattle.refusal.specs.declared.Refusal.{Refusal}
 use Rattle.group.specs.declared.fault.Flaw.{Flaw}
 use Rattle.group.specs.declared.fault.Fault.{Fault}
-pub mod Laws
 
 -- a flaw at a byte of the group
 abbrev pub fault_at : Flaw → ℕ → Fault

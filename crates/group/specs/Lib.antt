@@ -3,4 +3,3 @@ pub mod Group
 pub mod Written
 pub mod Good
 pub mod Wrong
-pub mod Cases

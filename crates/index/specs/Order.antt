@@ -7,7 +7,7 @@ use Rattle.std.proofs.Math.Dec.{eqb}
 use borrow.Author.Tests.{ltb-true, eqb-true, eq-eqb, ne_eqb}
 use Rattle.refusal.specs.declared.Refusal.{Refusal}
 use Rattle.refusal.specs.declared.Check.{Check}
-use Rattle.refusal.specs.Check.Laws.{pick_fine, and_parts}
+use Rattle.refusal.proofs.Laws.Check.{pick_fine, and_parts}
 use Rattle.frame.specs.Open.{key_at, keys_from, offset_at, offset_good, rising_from}
 use Rattle.index.specs.Compare.{tri}
 use Rattle.index.specs.Cases.{rising_keys}

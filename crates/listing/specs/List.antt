@@ -10,7 +10,6 @@ use Rattle.reader.specs.declared.rows.SectionAt.{SectionAt}
 use Rattle.reader.specs.Rows.{row_of}
 use Rattle.listing.specs.declared.Listed.{Listed}
 use Rattle.listing.specs.declared.ListPlan.{ListPlan}
-pub mod Laws
 
 -- the rows needed: one for each entry of the table, skipped kinds too
 abbrev pub rows_needed : List ℕ → ℕ

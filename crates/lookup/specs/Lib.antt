@@ -4,4 +4,3 @@ pub mod Groups
 pub mod Calls
 pub mod Given
 pub mod Starts
-pub mod Cases

@@ -18,7 +18,6 @@ use Rattle.degrees.specs.Degrees.{misplaced, edges_before, start_of}
 use Rattle.group.specs.Fault.{refusal_of}
 use Rattle.group.specs.Group.{Decoded, good, bad, group_of, partners_of, bytes_of}
 use Rattle.lookup.specs.declared.Looked.{Looked}
-pub mod Laws
 
 -- what a lookup gives: the group's index, the keys compared, its partners, their log numbers and dead marks; absence, with
 -- the keys compared; or a refusal

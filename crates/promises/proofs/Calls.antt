@@ -15,7 +15,7 @@ use Rattle.frame.specs.declared.Opened.{Opened}
 use Rattle.frame.specs.declared.Opening.{Opening}
 use Rattle.frame.specs.Frame.{record_of}
 use Rattle.frame.specs.Open.{open_of}
-use Rattle.frame.specs.Open.Laws.{opens_record}
+use Rattle.frame.proofs.Laws.Open.{opens_record}
 use Rattle.lookup.specs.Lookup.{Rooms, look_of, look_with}
 use Rattle.lookup.specs.Calls.{alone, lent}
 use Rattle.batch.specs.Batch.{edges_of}
@@ -27,10 +27,13 @@ use Rattle.reader.specs.Header.{header_of}
 use Rattle.agreement.specs.SameEdges.{of_key, Enough}
 use Rattle.agreement.specs.Heading.{header_for}
 use Rattle.write_file.specs.declared.Written.{Written}
-use Rattle.demand2.specs.Demand2.{file_for, minor_for, flags_for, Lawful, demand_2}
+use Rattle.demand2.specs.Demand2.{file_for, minor_for, flags_for, Lawful}
+use Rattle.demand2.proofs.Laws.Demand2.{demand_2}
 use Rattle.summary.specs.Summary.{summary_of, summarised_of}
-use Rattle.promises.specs.Summary.{summed, degree_summary}
-use Rattle.promises.specs.Calls.{needs, writes, reads, PartnersGiven, EdgesGiven, partners_given, edges_given}
+use Rattle.promises.specs.Summary.{summed}
+use Rattle.promises.proofs.Laws.Summary.{degree_summary}
+use Rattle.promises.specs.Calls.{PartnersGiven, EdgesGiven}
+use Rattle.promises.proofs.Laws.Calls.{needs, writes, reads, partners_given, edges_given}
 use Rattle.write_file.specs.contracts.needed as c_needed
 use Rattle.write_file.proofs.needed.Reads as c_needed_reads
 use Rattle.write_file.specs.contracts.write as c_write

@@ -17,7 +17,7 @@ use Rattle.lookup.specs.Lookup as look
 use Rattle.lookup.specs.Lookup.{Outcome, found, absent, refused, partners_left, logs_left, marks_left}
 use Rattle.lookup.specs.Calls.{Alone, Whole}
 use Rattle.listing.specs.declared.Listed.{Listed}
-use Rattle.listing.specs.List.Laws.{list_refused_leaves}
+use Rattle.listing.proofs.Laws.List.{list_refused_leaves}
 use Rattle.readout.specs.declared.ReadOut.{ReadOut}
 use Rattle.readout.specs.ReadOut as out
 use Rattle.readout.specs.ReadOut.{read_check, needed_for, batch_in, read_leaves, read_out_of, read_out_leaves}
@@ -26,7 +26,7 @@ use Rattle.write_file.specs.Written as writer
 use Rattle.write_file.specs.Written.{Wrote, file_in}
 use Rattle.xxh3_running.specs.declared.State.{State}
 use Rattle.xxh3_running.specs.Running.{state_of}
-use Rattle.xxh3_running.specs.Chunks.{refused_leaves}
+use Rattle.xxh3_running.proofs.Laws.Chunks.{refused_leaves}
 use Rattle.xxh3_running.specs.contracts.lent.feed_lent as c_feed_lent
 use Rattle.xxh3_running.proofs.lent.feed_lent.Reads as c_feed_lent_reads
 use Rattle.xxh3_running.specs.contracts.update as c_update

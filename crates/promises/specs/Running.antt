@@ -5,7 +5,8 @@ use Rattle.refusal.specs.declared.Refusal.{Refusal}
 use Rattle.xxh3_spec.specs.Xxh3.{xxh3}
 use Rattle.xxh3_running.specs.declared.State.{State}
 use Rattle.xxh3_running.specs.Running.{most_fed, new_state, feed_of, sum_of}
-use Rattle.xxh3_running.specs.Chunks.{in_row, feed_all, Step, answers, sums_before, any_cuts, same_state, each_answer, refused_exactly, refused_leaves, goes_on, past_most, empty_taken}
+use Rattle.xxh3_running.specs.Chunks.{in_row, feed_all, Step, answers, sums_before}
+use Rattle.xxh3_running.proofs.Laws.Chunks.{any_cuts, same_state, each_answer, refused_exactly, refused_leaves, goes_on, past_most, empty_taken}
 
 pub record RunningSum : Type 0 where
   -- of any cuts, empty chunks and none, up to 2^30 bytes: the sum at the end is that of the bytes in a row
@@ -23,15 +24,3 @@ pub record RunningSum : Type 0 where
   -- at 2^30 bytes the empty chunk is taken; behind them every chunk is refused
   pub empty : (st : State) → st.total ≤ most_fed → feed_of st [] ≡ record { told = Check.Fine; state = st }
   pub behind : (st : State) (c : List ℕ) → most_fed < st.total → feed_of st c ≡ record { told = Check.Bad Refusal.Chunk; state = st }
-
-pub running_sum : RunningSum
-running_sum = record {
-  same_sum = any_cuts;
-  same_cuts = same_state;
-  answered = each_answer;
-  refused = refused_exactly;
-  stays = refused_leaves;
-  on = goes_on;
-  empty = empty_taken;
-  behind = past_most;
-}

@@ -1,9 +1,4 @@
 pub mod Fit
 pub mod Rows
 pub mod Header
-pub mod Opened
-pub mod Inside
-pub mod Look
-pub mod Given
 pub mod Compared
-pub mod Cases

@@ -9,7 +9,7 @@ use Rattle.refusal.specs.declared.Check.{Check}
 use Rattle.frame.specs.Frame.{row_at, rows_from, end_from, rows_of, end_of, has, repeated, section_of, all, kinds_good, table_good, each_row, ranges, sizes_good, presence_good, counts_good, body_of, size_check, head_check, tail_check, sum_check, frame_check, record_from, record_of, framed_from, framed_of, shape_check, ends_check, footer_check, rows_check}
 use Rattle.frame.specs.Open.{known_of, keys_from, offset_good, rising_from, fence_good, fences_from, fences_good, content_check, file_check}
 use Rattle.frame.specs.Layout.{head_bytes, payload, entry, entries, body_bytes, trailer, lay_out}
-use Rattle.frame.specs.Cases.{ids, heading_only, one_edge, words, with_starts}
+use Rattle.frame.proofs.Laws.Cases.{ids, heading_only, one_edge, words, with_starts}
 use Rattle.group.specs.Group.{onVarint, split_step, dense_step, step_at, on_step, cons, walk_from, degree_of, head_of, on_head, group_of, partners_of}
 use Rattle.lookup.specs.Lookup.{group_check}
 use Rattle.batch.specs.Batch.{heading_bytes, edge_bytes, records_of, batch_bytes}

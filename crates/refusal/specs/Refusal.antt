@@ -1,7 +1,6 @@
 -- The documents' table of refusals: the number of each case, and its place. Both are made from refusals.txt.
 use Rattle.std.specs.Prelude.{ℕ, ◌-◌, List, [], ◌∷◌, Bool, false, ◌||◌, get_or, eqb}
 use Rattle.refusal.specs.declared.Refusal.{Refusal}
-pub mod Laws
 
 abbrev pub number_of : Refusal → ℕ
 -- numbers: from refusals.txt

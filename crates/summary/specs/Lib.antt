@@ -3,7 +3,4 @@ pub mod Bits
 pub mod Tally
 pub mod Logs
 pub mod Marked
-pub mod Read
-pub mod Checked
 pub mod Promise
-pub mod Cases

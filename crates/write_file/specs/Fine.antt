@@ -7,8 +7,8 @@ use Rattle.base.specs.Bytes.{Bytes}
 use Rattle.batch.specs.declared.Edge.{Edge}
 use Rattle.batch.specs.Batch.{heading_of, edges_of, record_count}
 use Rattle.batch_groups.specs.Groups.{any_dead, groups_of, Grouped}
-use Rattle.batch_groups.specs.Groups.Laws.{grouped}
-use Rattle.batch_groups.specs.Order.{edges_count, batch_ordered, fine_long}
+use Rattle.batch_groups.proofs.Laws.Groups.{grouped}
+use Rattle.batch_groups.proofs.Laws.Order.{edges_count, batch_ordered, fine_long}
 use Rattle.batch_faults.specs.Tally.{Clean}
 use Rattle.write_source.specs.Source.{source_edges}
 use Rattle.write_source.specs.Source.Laws.{in_first}

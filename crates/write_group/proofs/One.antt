@@ -5,7 +5,7 @@ use Prim.Native.Nat.{ℕ}
 use Rattle.batch.specs.Batch.{partners_in}
 use Rattle.base.specs.Over.{part}
 use Rattle.batch.specs.declared.Edge.{Edge}
-use Rattle.batch_groups.specs.Groups.Laws.{end_one}
+use Rattle.batch_groups.proofs.Laws.Groups.{end_one}
 use Rattle.write_image.specs.Image.{split_cost}
 use Rattle.write_group.specs.declared.Span.{Span}
 use Rattle.write_group.specs.Span.{Spans}

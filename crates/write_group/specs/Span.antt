@@ -13,7 +13,7 @@ use Rattle.codes.specs.Ids.{id_number}
 use Rattle.codes.specs.Varint.{var_bytes}
 use Rattle.batch.specs.declared.Edge.{Edge}
 use Rattle.batch_groups.specs.Groups.{none, groups_of, GroupEnd, Grouped}
-use Rattle.batch_groups.specs.Groups.Laws.{SameKey, OtherKey, same_none, same_more, group_end, begin_run, other_none, other_key}
+use Rattle.batch_groups.proofs.Laws.Groups.{SameKey, OtherKey, same_none, same_more, group_end, begin_run, other_none, other_key}
 use Rattle.write_image.specs.Image.{split_cost, dense_by, is_dense, group_bytes}
 use Rattle.write_image.specs.Image.Laws.{Rise, rise_on, run_rises, partners_out, partners_snoc, length_partners_in, cost_none, cost_on, cost_most, dense_is, length_group}
 use Rattle.write_group.specs.declared.Span.{Span}

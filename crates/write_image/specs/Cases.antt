@@ -12,7 +12,7 @@ use Rattle.codes.specs.Varint.{bytes_from, var_bytes}
 use Rattle.xxh3_spec.specs.Xxh3.{mul, fold, xorshift, rotl, swap, rrmxmx, secret, of1to3, of4to8, of9to16, small, pair, mix_step, inward, of17to128, onward, of129to240, lane, accumulate, stir, scramble, turn, run_on, start_lanes, twice, merge, finish, large, xxh3}
 use Rattle.frame.specs.Kind as kind
 use Rattle.frame.specs.Layout.{Section, raw_section, head_bytes, payload, entry, entries, body_bytes, trailer, lay_out}
-use Rattle.frame.specs.Cases.{ids}
+use Rattle.frame.proofs.Laws.Cases.{ids}
 use Rattle.group.specs.Group.{bytes_of}
 use Rattle.group.specs.Written.{split_from, split_bytes, dense_bytes}
 use Rattle.batch.specs.declared.Edge.{Edge}

@@ -9,9 +9,11 @@ use Rattle.xxh3_running.specs.declared.State.{State}
 use Rattle.xxh3_running.specs.declared.Fed.{Fed}
 use Rattle.xxh3_spec.specs.Xxh3.{xxh3}
 use Rattle.xxh3_running.specs.Running.{most_fed, state_of, bytes_more, feed_of}
-use Rattle.xxh3_running.specs.Running.Laws.{feed_taken, feed_refused}
-use Rattle.xxh3_running.specs.Running.Sums.{Holds, new_holds, sum_is}
-use Rattle.xxh3_running.specs.Chunks.{taking, taking_holds}
+use Rattle.xxh3_running.proofs.Laws.Running.{feed_taken, feed_refused}
+use Rattle.xxh3_running.specs.Running.Sums.{Holds}
+use Rattle.xxh3_running.proofs.Laws.RunningSums.{new_holds, sum_is}
+use Rattle.xxh3_running.specs.Chunks.{taking}
+use Rattle.xxh3_running.proofs.Laws.Chunks.{taking_holds}
 use Rattle.xxh3.specs.Told.{told_fine, told_bad_lem}
 use Rattle.xxh3.specs.contracts.saffron_xxh3_new as new
 use Rattle.xxh3.proofs.saffron_xxh3_new.Reads as new_reads

@@ -1,4 +1,5 @@
-// XXH3-64 for tools that take the checksum alone, without the file reader: the calls for C. See include/saffron_xxh3.h.
+// XXH3-64 for tools that take the checksum alone, without the file reader: the calls for C. See include/saffron_xxh3.h. The
+// archive that C links is made of crates/xxh3_exports, which exports each of them.
 #![tactic(auto)]
 
 ghost use Rattle.std.specs.Prelude.{◌≡◌};

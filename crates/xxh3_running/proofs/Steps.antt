@@ -15,7 +15,8 @@ use Rattle.xxh3_spec.specs.Xxh3.Laws.{run_none}
 use Rattle.xxh3_running.specs.declared.State.{State}
 use Rattle.xxh3_running.specs.declared.Fed.{Fed}
 use Rattle.xxh3_running.specs.Running.{most_fed, state_of, bytes_more, feed_of, Leaves, last_bytes, long_sum, sum_of, emptied}
-use Rattle.xxh3_running.specs.Running.Laws.{UntilFull, buffers_in, buffer_after, sets_whole, bytes_total, fed_inside, fed_past, feed_taken, feed_refused}
+use Rattle.xxh3_running.specs.Running.Laws.{UntilFull, buffers_in, buffer_after}
+use Rattle.xxh3_running.proofs.Laws.Running.{sets_whole, bytes_total, fed_inside, fed_past, feed_taken, feed_refused}
 
 -- one byte more of s is written
 pub put_step : (s b : List ℕ) (at i : ℕ) → i < length s → set (sets b at (take i s)) (at + i) (get_or s i 0) ≡ sets b at (take (i + 1) s)

@@ -1,6 +1,6 @@
 use mathlib.Core.Path.{◌∙◌}
 use native.Mathlib.Omega.{arith}
-use Rattle.batch_groups.specs.Order.{head_short, head_kind, head_way, head_good}
+use Rattle.batch_groups.proofs.Laws.Order.{head_short, head_kind, head_way, head_good}
 use Rattle.batch_faults.specs.Tally.Laws.{tally_head, tally_rest}
 use borrow.Author.Rules.{rules}
 use Rattle.batch_faults.proofs.check_batch.Goals as goal

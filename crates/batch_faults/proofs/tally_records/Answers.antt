@@ -11,8 +11,8 @@ use borrow.Author.Tests.{not-true, not-false}
 use Rattle.refusal.specs.declared.Refusal.{Refusal}
 use Rattle.batch.specs.Batch.{place, edges_at, in_order, is_edge, fault_from}
 use Rattle.batch_groups.specs.Groups.{any_dead, groups_of}
-use Rattle.batch_groups.specs.Groups.Laws.{groups_count}
-use Rattle.batch_groups.specs.Order.{fault_end, fault_rest, fault_kind, fault_order, fault_next, length_edges_at}
+use Rattle.batch_groups.proofs.Laws.Groups.{groups_count}
+use Rattle.batch_groups.proofs.Laws.Order.{fault_end, fault_rest, fault_kind, fault_order, fault_next, length_edges_at}
 use Rattle.batch_faults.specs.declared.Tally.{Tally}
 use Rattle.batch_faults.specs.declared.Follow.{Follow}
 use Rattle.batch_faults.specs.Tally.{follow_at, tally_by}

@@ -17,8 +17,8 @@ use Rattle.refusal.specs.declared.Check.{Check}
 use Rattle.batch.specs.declared.Edge.{Edge}
 use Rattle.batch.specs.Batch.{edge_at, edges_at, edges_of, record_count, place, before, in_order, fault_from, batch_check}
 use Rattle.batch_groups.specs.Groups.{any_dead, groups_of}
-use Rattle.batch_groups.specs.Groups.Laws.{count_one, count_last, count_empty, dead_empty, dead_last}
-use Rattle.batch_groups.specs.Order.{less_back, equal_back, greater_back, before_less, before_greater, before_equal, edges_last}
+use Rattle.batch_groups.proofs.Laws.Groups.{count_one, count_last, count_empty, dead_empty, dead_last}
+use Rattle.batch_groups.proofs.Laws.Order.{less_back, equal_back, greater_back, before_less, before_greater, before_equal, edges_last}
 use Rattle.batch_faults.specs.declared.Follow.{Follow}
 use Rattle.batch_faults.specs.declared.Tally.{Tally}
 use Rattle.batch_faults.specs.Tally.{follow_by, follow_at, tally_by, tally_of, Clean}

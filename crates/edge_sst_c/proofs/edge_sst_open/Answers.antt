@@ -1,6 +1,6 @@
 -- `edge_sst_c::edge_sst_open` meets its contract.
 use mathlib.Core.Path.{sym, ◌∙◌}
-use Rattle.edge_sst_c.specs.Told.{told_good, told_refused}
+use Rattle.edge_sst_c.proofs.Laws.Told.{told_good, told_refused}
 use borrow.Author.Rules.{rules}
 use Rattle.edge_sst_c.proofs.edge_sst_open.Goals as goal
 

@@ -1,7 +1,7 @@
 -- `full_check::sections_check` meets its contract.
 use mathlib.Core.Path.{◌≡◌, sym, ◌∙◌}
-use Rattle.refusal.specs.Check.Laws.{bad_then, fine_then}
-use Rattle.frame.specs.Open.Laws.{opens_parts}
+use Rattle.refusal.proofs.Laws.Check.{bad_then, fine_then}
+use Rattle.frame.proofs.Laws.Open.{opens_parts}
 use native.Mathlib.Omega.{arith}
 use borrow.Author.Rules.{rules}
 use Rattle.full_check.proofs.sections_check.Reads as reads

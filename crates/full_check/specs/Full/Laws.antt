@@ -9,11 +9,11 @@ use Rattle.std.proofs.Math.Bool.{true, false, not}
 use Rattle.std.proofs.Math.ListN.{length}
 use Rattle.base.specs.Pick.{pick}
 use Rattle.xxh3_spec.specs.Xxh3.{xxh3}
-use Rattle.refusal.specs.Check.Laws.{pick_fine, and_parts}
+use Rattle.refusal.proofs.Laws.Check.{pick_fine, and_parts}
 use Rattle.frame.specs.declared.Row.{Row}
 use Rattle.frame.specs.Kind as kind
 use Rattle.frame.specs.Frame.{row_at, rows_from, end_from, rows_of, foot_len, body_of, range_of, range_good, ranges}
-use Rattle.frame.specs.Frame.Laws.{rows_on, end_on, rows_none}
+use Rattle.frame.proofs.Laws.Frame.{rows_on, end_on, rows_none}
 use Rattle.frame.specs.Open.Laws.{Frames}
 use Rattle.base.specs.Over.{part, length_part}
 use Rattle.codes.specs.declared.ids.Id.{Id}
@@ -26,10 +26,10 @@ use Rattle.group.specs.declared.GroupVerdict.{GroupVerdict}
 use Rattle.group.specs.declared.fault.Fault.{Fault}
 use Rattle.group.specs.Fault.{refusal_of}
 use Rattle.group.specs.Group.{Decoded, good, group_of, partners_of, verdict_of}
-use Rattle.group.specs.Group.Laws.{answered_good, answered_bad}
-use Rattle.group.specs.Good.{group_length}
+use Rattle.group.proofs.Laws.Group.{answered_good, answered_bad}
+use Rattle.group.proofs.Laws.Good.{group_length}
 use Rattle.lookup.specs.Lookup.{group_check}
-use Rattle.lookup.specs.Groups.{check_fine, check_bad}
+use Rattle.lookup.proofs.Laws.Groups.{check_fine, check_bad}
 use Rattle.full_check.specs.declared.groups.Groups.{Groups}
 use Rattle.full_check.specs.Full.{sum_good, sums_from, dense_of, group_in, groups_from, degrees_from, dense_from, stray_from, groups_told, groups_seen}
 

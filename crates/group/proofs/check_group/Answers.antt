@@ -3,7 +3,7 @@ use mathlib.Core.Path.{sym, ap, ◌∙◌}
 use native.Mathlib.Omega.{arith}
 use mathlib.Core.Bool.{true, false}
 use Rattle.group.specs.Group.{verdict_of}
-use Rattle.group.specs.Group.Laws.{head_headed, group_walk, group_bad, answer_bad}
+use Rattle.group.proofs.Laws.Group.{head_headed, group_walk, group_bad, answer_bad}
 use borrow.Author.Rules.{rules}
 use Rattle.group.proofs.check_group.Goals as goal
 

@@ -7,8 +7,9 @@ use mathlib.Core.Bool.{true, false}
 use Rattle.base.specs.Over.{over}
 use Rattle.base.specs.Bytes.{Bytes}
 use Rattle.group.specs.Group.{Decoded, partners_of, bytes_of}
-use Rattle.group.specs.Group.Laws.{group_bad, not_bad}
-use Rattle.group.specs.Good.{Fill, fill, fill_length}
+use Rattle.group.proofs.Laws.Group.{group_bad, not_bad}
+use Rattle.group.specs.Good.{Fill}
+use Rattle.group.proofs.Laws.Good.{fill, fill_length}
 use borrow.Author.Rules.{rules}
 use Rattle.group.proofs.fill_group.Goals as goal
 

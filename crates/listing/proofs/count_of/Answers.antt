@@ -2,7 +2,7 @@
 use mathlib.Core.Path.{ap, ◌∙◌}
 use lib.ListN.{length}
 use Rattle.frame.specs.Frame.{entry_count}
-use Rattle.frame.specs.Open.Laws.{footed}
+use Rattle.frame.proofs.Laws.Open.{footed}
 use native.Mathlib.Omega.{arith}
 use Rattle.listing.proofs.count_of.Goals as goal
 

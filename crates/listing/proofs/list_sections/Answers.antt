@@ -2,7 +2,7 @@
 use Rattle.std.proofs.Common.{◌≤◌, length, add-one, ap, refl, arith}
 use Rattle.listing.specs.declared.ListPlan.{ListPlan}
 use Rattle.listing.specs.List.{listed}
-use Rattle.listing.specs.List.Laws.{plan_fits}
+use Rattle.listing.proofs.Laws.List.{plan_fits}
 use Rattle.listing.proofs.list_sections.Goals as goal
 
 pub loop-i-init : goal.loop-i-init

@@ -3,9 +3,9 @@ use mathlib.Core.Path.{sym, ap, ◌∙◌}
 use Prim.Native.Nat.{ℕ}
 use Rattle.refusal.specs.declared.Refusal.{Refusal}
 use Rattle.listing.specs.declared.Listed.{Listed}
-use Rattle.frame.specs.Open.Laws.{opens_parts}
+use Rattle.frame.proofs.Laws.Open.{opens_parts}
 use Rattle.listing.specs.List.{refused_plan}
-use Rattle.listing.specs.List.Laws.{plan_unopened, plan_short, plan_good}
+use Rattle.listing.proofs.Laws.List.{plan_unopened, plan_short, plan_good}
 use native.Mathlib.Omega.{arith}
 use borrow.Author.Rules.{rules}
 use Rattle.listing.proofs.plan_for.Reads as reads

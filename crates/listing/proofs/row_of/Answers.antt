@@ -1,7 +1,7 @@
 -- `listing::row_of` meets its contract.
 use mathlib.Core.Path.{sym, ◌∙◌}
 use Rattle.listing.specs.List.{row_is}
-use Rattle.listing.specs.List.Laws.{entry_there, entry_none}
+use Rattle.listing.proofs.Laws.List.{entry_there, entry_none}
 use borrow.Author.Rules.{rules}
 use Rattle.listing.proofs.row_of.Reads as reads
 use Rattle.listing.proofs.row_of.Lts as lts

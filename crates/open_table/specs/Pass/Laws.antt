@@ -16,15 +16,15 @@ use Rattle.codes.specs.Little.{le_at}
 use Rattle.refusal.specs.declared.Refusal.{Refusal}
 use Rattle.refusal.specs.declared.Check.{Check}
 use Rattle.refusal.specs.Check.{◌⊳◌, refuse}
-use Rattle.refusal.specs.Check.Laws.{and_parts}
+use Rattle.refusal.proofs.Laws.Check.{and_parts}
 use Rattle.frame.specs.declared.Row.{Row}
 use Rattle.frame.specs.declared.Range.{Range}
 use Rattle.frame.specs.declared.Framed.{Framed}
 use Rattle.frame.specs.declared.Framing.{Framing}
 use Rattle.frame.specs.Kind as kind
-use Rattle.frame.specs.Kind.Laws.{number_in, number_at, slot_found, slot_of_lem}
+use Rattle.frame.proofs.Laws.Kind.{number_in, number_at, slot_found, slot_of_lem}
 use Rattle.frame.specs.Frame.{row_at, rows_from, end_from, entry_count, rows_of, end_of, range_of, nowhere, has, repeated, section_of, all, name_good, once_good, kinds_good, fills, table_good, each_row, kind_good, codec_good, range_good, ranges, key_count, edge_count, bits_of, record_from, framed_from, table_check, reserved_check, codec_check, range_check, rows_check}
-use Rattle.frame.specs.Frame.Laws.{fixed_unreserved, reserved_kinds, name_unread, each_good, rows_on, end_on, row_room, rows_none, end_none}
+use Rattle.frame.proofs.Laws.Frame.{fixed_unreserved, reserved_kinds, name_unread, each_good, rows_on, end_on, row_room, rows_none, end_none}
 use Rattle.frame.specs.Open.{framing}
 use Rattle.open_table.specs.declared.Seen.{Seen}
 use Rattle.open_table.specs.Pass.{first_bad, told_bad, unseen, coded, unread, ranged, met_at, place_at, needed_from, required_seen, framed_seen, passed}

@@ -1,7 +1,7 @@
 -- `printing::print_file` meets its contract: opening's refusal is the full check's, and its record the file's.
 use Rattle.std.proofs.Common.{sym, ap, ◌∙◌, arith}
 use Rattle.frame.specs.declared.Opened.{Opened}
-use Rattle.frame.specs.Open.Laws.{opens_record}
+use Rattle.frame.proofs.Laws.Open.{opens_record}
 use Rattle.full_check.specs.Checked.{full_unopened}
 use Rattle.printing.proofs.print_file.Goals as goal
 

@@ -13,7 +13,7 @@ use Rattle.batch.specs.Batch.{heading_size, edge_at, edges_at, edges_of, record_
 use Rattle.refusal.specs.declared.Refusal.{Refusal}
 use Rattle.refusal.specs.declared.Check.{Check}
 use Rattle.frame.specs.Frame.{header_in, record_of}
-use Rattle.reader.specs.Look.{opened_holds}
+use Rattle.reader.proofs.Laws.Look.{opened_holds}
 use Rattle.full_check.specs.Full.{full_check}
 use Rattle.full_check.specs.Checked.{fine_checked, checked_opened}
 use Rattle.readout.specs.ReadOut.Laws.{length_batch, checked_size}

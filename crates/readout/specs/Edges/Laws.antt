@@ -19,15 +19,15 @@ use Rattle.index.specs.Order.{OffsetsRise}
 use Rattle.group.specs.declared.fault.Fault.{Fault}
 use Rattle.group.specs.declared.split.Step.{Step}
 use Rattle.group.specs.Group.{Decoded, good, step_at, walk_from, group_of, is_good, partners_of}
-use Rattle.group.specs.Group.Laws.{walk_end, walk_over, walk_bad, Turn, good_turn, good_is, good_good, partners_good, not_bad}
+use Rattle.group.proofs.Laws.Group.{walk_end, walk_over, walk_bad, Turn, good_turn, good_is, good_good, partners_good, not_bad}
 use Rattle.lookup.specs.Lookup.{mark_at}
 use Rattle.batch.specs.declared.Edge.{Edge}
 use Rattle.batch.specs.Batch.{place, edge_bytes, records_of}
 use Rattle.batch.specs.Batch.Laws.{length_edge, length_records, records_none, records_cons, records_append}
 use Rattle.refusal.specs.declared.Check.{Check}
-use Rattle.refusal.specs.Check.Laws.{fine_parts}
+use Rattle.refusal.proofs.Laws.Check.{fine_parts}
 use Rattle.lookup.specs.Lookup.{group_check}
-use Rattle.lookup.specs.Groups.{check_good}
+use Rattle.lookup.proofs.Laws.Groups.{check_good}
 use Rattle.full_check.specs.Full.{group_in, groups_from, degrees_from}
 use Rattle.readout.specs.Edges.{edge_of, edges_from, key_degree, key_edges, read_from}
 

@@ -11,14 +11,14 @@ use Rattle.refusal.specs.declared.Refusal.{Refusal}
 use Rattle.refusal.specs.declared.Check.{Check}
 use Rattle.refusal.specs.Refusal.{number_of}
 use Rattle.refusal.specs.Check.{◌⊳◌, refuse}
-use Rattle.refusal.specs.Check.Laws.{fine_parts, good_parts, and_parts, bad_then, fine_then, by_first, refuse_own, refuse_fine}
+use Rattle.refusal.proofs.Laws.Check.{fine_parts, good_parts, and_parts, bad_then, fine_then, by_first, refuse_own, refuse_fine}
 use Rattle.frame.specs.declared.Opened.{Opened}
 use Rattle.frame.specs.declared.Opening.{Opening}
 use Rattle.frame.specs.Frame.{rows_of, flag, body_of, record_of}
 use Rattle.frame.specs.Open.{known_of, bytes_at, start_at, open_of}
-use Rattle.frame.specs.Open.Laws.{opens_parts, size_parts, opens_record}
-use Rattle.reader.specs.Opened.{opened_offsets}
-use Rattle.reader.specs.Look.{opened_holds}
+use Rattle.frame.proofs.Laws.Open.{opens_parts, size_parts, opens_record}
+use Rattle.reader.proofs.Laws.Opened.{opened_offsets}
+use Rattle.reader.proofs.Laws.Look.{opened_holds}
 use Rattle.batch.specs.declared.Edge.{Edge}
 use Rattle.batch.specs.Batch.{heading_bytes, records_of, batch_bytes}
 use Rattle.batch.specs.Batch.Laws.{length_records}

@@ -1,5 +1,5 @@
 -- `summary::dead_in` meets its contract.
-use Rattle.summary.specs.Checked.{checked_holds, dead_asks, dead_gives}
+use Rattle.summary.proofs.Laws.Checked.{checked_holds, dead_asks, dead_gives}
 use Rattle.summary.proofs.dead_in.Goals as goal
 
 pub tombstones_of-requires : goal.tombstones_of-requires

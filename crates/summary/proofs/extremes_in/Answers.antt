@@ -1,6 +1,6 @@
 -- `summary::extremes_in` meets its contract.
 use Rattle.std.proofs.Common.{◌≤◌, arith}
-use Rattle.summary.specs.Checked.{checked_holds, some_keys, keys_long, logs_long, extremes_none, extremes_some}
+use Rattle.summary.proofs.Laws.Checked.{checked_holds, some_keys, keys_long, logs_long, extremes_none, extremes_some}
 use Rattle.summary.proofs.extremes_in.Goals as goal
 
 pub returns-then-o-eq0 : goal.returns-then-o-eq0

@@ -1,6 +1,6 @@
 -- `summary::summary` meets its contract.
 use Rattle.std.proofs.Common.{sym, ◌∙◌, rules}
-use Rattle.summary.specs.Checked.{summarised_fine, summarised_bad}
+use Rattle.summary.proofs.Laws.Checked.{summarised_fine, summarised_bad}
 use Rattle.summary.proofs.summary.Goals as goal
 
 pub summary_in-requires : goal.summary_in-requires

@@ -1,5 +1,5 @@
 -- `summary::summary_in` meets its contract.
-use Rattle.summary.specs.Checked.{summary_is}
+use Rattle.summary.proofs.Laws.Checked.{summary_is}
 use Rattle.std.proofs.Common.{rules}
 use Rattle.summary.proofs.summary_in.Goals as goal
 

@@ -1,5 +1,5 @@
 -- `summary::tally_in` meets its contract.
-use Rattle.summary.specs.Checked.{checked_holds, tally_asks, tally_gives}
+use Rattle.summary.proofs.Laws.Checked.{checked_holds, tally_asks, tally_gives}
 use Rattle.std.proofs.Common.{rules}
 use Rattle.summary.proofs.tally_in.Goals as goal
 

@@ -1,6 +1,6 @@
 use mathlib.Core.Path.{subst}
 use native.Mathlib.Omega.{arith}
-use Rattle.batch_groups.specs.Order.{fine_long}
+use Rattle.batch_groups.proofs.Laws.Order.{fine_long}
 use Rattle.write_source.specs.Source.{source_edges}
 use Rattle.write_plan.specs.Bounds.{Measured}
 use Rattle.write_file.specs.Written.Laws.{needed_many, needed_done}

@@ -8,7 +8,7 @@ use Rattle.refusal.specs.declared.Check.{Check}
 use Rattle.batch.specs.declared.Edge.{Edge}
 use Rattle.batch.specs.Batch.{heading_of, edges_of, batch_check}
 use Rattle.batch_groups.specs.Groups.{groups_of, Grouped}
-use Rattle.batch_groups.specs.Order.{fine_long}
+use Rattle.batch_groups.proofs.Laws.Order.{fine_long}
 use Rattle.write_image.specs.Image.{file_of}
 use Rattle.write_source.specs.Source.{source_edges}
 use Rattle.write_source.specs.Source.Laws.{in_first}

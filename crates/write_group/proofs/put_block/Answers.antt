@@ -13,7 +13,8 @@ use Rattle.codes.specs.declared.ids.Id.{Id}
 use Rattle.codes.specs.Varint.{var_bytes}
 use Rattle.batch.specs.declared.Edge.{Edge}
 use Rattle.group.specs.Group.Laws.{tag_of}
-use Rattle.group.specs.Written.{payload_of, written_as, written_is}
+use Rattle.group.specs.Written.{payload_of, written_as}
+use Rattle.group.proofs.Laws.Written.{written_is}
 use Rattle.write_image.specs.Image.Laws.{length_partners_in}
 use Rattle.write_source.specs.Source.{source_edges}
 use borrow.Author.Rules.{rules}

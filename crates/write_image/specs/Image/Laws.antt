@@ -21,11 +21,13 @@ use Rattle.codes.specs.Varint.Laws.{var_bytes_length}
 use Rattle.frame.specs.Kind as kind
 use Rattle.frame.specs.Open.{start_at}
 use Rattle.group.specs.Group.{bytes_of}
-use Rattle.group.specs.Group.Laws.{tag_of, length_bytes_of}
-use Rattle.group.specs.Written.{Halves, Above, split_from, payload_of, written_as, written_is}
+use Rattle.group.specs.Group.Laws.{tag_of}
+use Rattle.group.proofs.Laws.Group.{length_bytes_of}
+use Rattle.group.specs.Written.{Halves, Above, split_from, payload_of, written_as}
+use Rattle.group.proofs.Laws.Written.{written_is}
 use Rattle.batch.specs.declared.Edge.{Edge}
 use Rattle.batch_groups.specs.Groups.{none, Group, groups_of, flat, GroupEnd, Run, Grouped}
-use Rattle.batch_groups.specs.Groups.Laws.{flat_append, flat_groups, grouped_step, groups_end}
+use Rattle.batch_groups.proofs.Laws.Groups.{flat_append, flat_groups, grouped_step, groups_end}
 use Rattle.write_image.specs.Image.{keys_in, split_cost, dense_by, is_dense, group_bytes, bytes_in, any_dense, key_bytes, numbers, partner_bytes, offsets_from, offset_bytes, width_of, log_bytes, bit, octet, octets, tomb_bytes, fence_bytes, fence_keys_from, fences_of, firsts_from, start_bytes}
 
 -- ---- a part of the edges, one edge further

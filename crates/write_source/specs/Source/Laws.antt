@@ -7,7 +7,7 @@ use Rattle.codes.specs.Little.{le_at}
 use Rattle.batch.specs.declared.Edge.{Edge}
 use Rattle.batch.specs.Batch.{edge_at, place, record_count, edges_of}
 use Rattle.batch_groups.specs.Groups.{none}
-use Rattle.batch_groups.specs.Order.{of_batch}
+use Rattle.batch_groups.proofs.Laws.Order.{of_batch}
 use Rattle.write_source.specs.Source.{source_edges}
 
 module _ (kind : ℕ) (a b : List ℕ) where

@@ -1,5 +1,5 @@
 -- `edge_sst_c::desk::check_told` meets its contract.
-use Rattle.edge_sst_c.specs.Desk.{check_told_fine, check_told_bad}
+use Rattle.edge_sst_c.proofs.Laws.Desk.{check_told_fine, check_told_bad}
 use borrow.Author.Rules.{rules}
 use Rattle.edge_sst_c.proofs.desk.check_told.Goals as goal
 

@@ -1,6 +1,6 @@
 -- `edge_sst_c::desk::edge_sst_read_out` meets its contract.
 use mathlib.Core.Path.{◌≡◌, sym, ◌∙◌}
-use Rattle.edge_sst_c.specs.Desk.{read_done, read_refused}
+use Rattle.edge_sst_c.proofs.Laws.Desk.{read_done, read_refused}
 use native.Mathlib.Omega.{arith}
 use borrow.Author.Rules.{rules}
 use Rattle.edge_sst_c.proofs.desk.edge_sst_read_out.Reads as reads

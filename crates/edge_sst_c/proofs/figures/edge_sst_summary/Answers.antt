@@ -1,5 +1,5 @@
 -- `edge_sst_c::figures::edge_sst_summary` meets its contract.
-use Rattle.edge_sst_c.specs.Summary.{told_summary}
+use Rattle.edge_sst_c.proofs.Laws.Summary.{told_summary}
 use borrow.Author.Rules.{rules}
 use Rattle.edge_sst_c.proofs.figures.edge_sst_summary.Goals as goal
 

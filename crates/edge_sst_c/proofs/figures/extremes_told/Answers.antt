@@ -1,5 +1,5 @@
 -- `edge_sst_c::figures::extremes_told` meets its contract.
-use Rattle.edge_sst_c.specs.Summary.{told_none, told_some}
+use Rattle.edge_sst_c.proofs.Laws.Summary.{told_none, told_some}
 use borrow.Author.Rules.{rules}
 use Rattle.edge_sst_c.proofs.figures.extremes_told.Goals as goal
 

@@ -1,6 +1,6 @@
 -- `edge_sst_c::header::edge_sst_header` meets its contract.
 use mathlib.Core.Path.{sym, ◌∙◌}
-use Rattle.edge_sst_c.specs.Header.{header_told_lem, header_refused}
+use Rattle.edge_sst_c.proofs.Laws.Header.{header_told_lem, header_refused}
 use borrow.Author.Rules.{rules}
 use Rattle.edge_sst_c.proofs.header.edge_sst_header.Goals as goal
 

@@ -1,5 +1,5 @@
 -- `edge_sst_c::header::id_told` meets its contract.
-use Rattle.edge_sst_c.specs.Header.{bytes_told}
+use Rattle.edge_sst_c.proofs.Laws.Header.{bytes_told}
 use borrow.Author.Rules.{rules}
 use Rattle.edge_sst_c.proofs.header.id_told.Goals as goal
 

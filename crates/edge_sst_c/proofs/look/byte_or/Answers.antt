@@ -1,7 +1,7 @@
 -- `edge_sst_c::look::byte_or` meets its contract.
 use mathlib.Core.Path.{sym}
 use native.Mathlib.Omega.{arith}
-use Rattle.edge_sst_c.specs.Look.{byte_small, byte_large}
+use Rattle.edge_sst_c.proofs.Laws.Look.{byte_small, byte_large}
 use borrow.Author.Rules.{rules}
 use Rattle.edge_sst_c.proofs.look.byte_or.Goals as goal
 

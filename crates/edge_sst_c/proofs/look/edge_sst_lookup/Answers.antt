@@ -1,5 +1,5 @@
 -- `edge_sst_c::look::edge_sst_lookup` meets its contract.
-use Rattle.edge_sst_c.specs.Look.{edges_told}
+use Rattle.edge_sst_c.proofs.Laws.Look.{edges_told}
 use native.Mathlib.Omega.{arith}
 use borrow.Author.Rules.{rules}
 use Rattle.edge_sst_c.proofs.look.edge_sst_lookup.Reads as reads

@@ -5,7 +5,7 @@ use Rattle.codes.specs.Ids.{id_at}
 use Rattle.frame.specs.declared.Opened.{Opened}
 use Rattle.lookup.specs.Lookup.{look_with}
 use Rattle.lookup.specs.Calls.{lent}
-use Rattle.edge_sst_c.specs.Look.{edges_told_as}
+use Rattle.edge_sst_c.proofs.Laws.Look.{edges_told_as}
 use native.Mathlib.Omega.{arith}
 use borrow.Author.Rules.{rules}
 use Rattle.edge_sst_c.proofs.look.edge_sst_lookup_with.Reads as reads

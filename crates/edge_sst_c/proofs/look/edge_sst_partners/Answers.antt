@@ -1,5 +1,5 @@
 -- `edge_sst_c::look::edge_sst_partners` meets its contract.
-use Rattle.edge_sst_c.specs.Look.{told}
+use Rattle.edge_sst_c.proofs.Laws.Look.{told}
 use native.Mathlib.Omega.{arith}
 use borrow.Author.Rules.{rules}
 use Rattle.edge_sst_c.proofs.look.edge_sst_partners.Reads as reads

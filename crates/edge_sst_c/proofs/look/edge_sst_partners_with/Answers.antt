@@ -5,7 +5,7 @@ use Rattle.codes.specs.Ids.{id_at}
 use Rattle.frame.specs.declared.Opened.{Opened}
 use Rattle.lookup.specs.Lookup.{look_with}
 use Rattle.lookup.specs.Calls.{alone}
-use Rattle.edge_sst_c.specs.Look.{told_as}
+use Rattle.edge_sst_c.proofs.Laws.Look.{told_as}
 use borrow.Author.Rules.{rules}
 use Rattle.edge_sst_c.proofs.look.edge_sst_partners_with.Goals as goal
 

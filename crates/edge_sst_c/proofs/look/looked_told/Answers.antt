@@ -1,6 +1,6 @@
 -- `edge_sst_c::look::looked_told` meets its contract.
 use mathlib.Core.Path.{sym, ◌∙◌}
-use Rattle.edge_sst_c.specs.Look.{looked_found, looked_absent, looked_refused}
+use Rattle.edge_sst_c.proofs.Laws.Look.{looked_found, looked_absent, looked_refused}
 use borrow.Author.Rules.{rules}
 use Rattle.edge_sst_c.proofs.look.looked_told.Goals as goal
 

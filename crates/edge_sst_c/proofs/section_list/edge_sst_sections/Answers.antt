@@ -2,7 +2,8 @@
 use mathlib.Core.Path.{ap, ◌∙◌}
 use lib.ListN.{length}
 use Rattle.listing.specs.declared.ListPlan.{ListPlan}
-use Rattle.edge_sst_c.specs.SectionList.{listed_told, numbered, numbers_fit}
+use Rattle.edge_sst_c.specs.SectionList.{listed_told, numbered}
+use Rattle.edge_sst_c.proofs.Laws.SectionList.{numbers_fit}
 use borrow.Author.Rules.{rules}
 use Rattle.edge_sst_c.proofs.section_list.edge_sst_sections.Reads as reads
 use Rattle.edge_sst_c.proofs.section_list.edge_sst_sections.Lts as lts

@@ -1,5 +1,5 @@
 -- `edge_sst_c::section_list::listed_told` meets its contract.
-use Rattle.edge_sst_c.specs.SectionList.{listed_done, listed_refused}
+use Rattle.edge_sst_c.proofs.Laws.SectionList.{listed_done, listed_refused}
 use borrow.Author.Rules.{rules}
 use Rattle.edge_sst_c.proofs.section_list.listed_told.Reads as reads
 use Rattle.edge_sst_c.proofs.section_list.listed_told.Lts as lts

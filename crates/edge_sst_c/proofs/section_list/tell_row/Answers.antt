@@ -1,6 +1,6 @@
 -- `edge_sst_c::section_list::tell_row` meets its contract.
 use lib.ListN.{length-set}
-use Rattle.edge_sst_c.specs.SectionList.{seven}
+use Rattle.edge_sst_c.proofs.Laws.SectionList.{seven}
 use native.Mathlib.Omega.{arith}
 use borrow.Author.Rules.{rules}
 use Rattle.edge_sst_c.proofs.section_list.tell_row.Reads as reads

@@ -2,7 +2,8 @@
 use mathlib.Core.Path.{◌≡◌, ap, ◌∙◌}
 use Prim.Native.Nat.{ℕ, ◌-◌, ◌≤◌}
 use lib.ListN.{length}
-use Rattle.edge_sst_c.specs.SectionList.{numbered, length_numbered, numbered_on, numbered_none}
+use Rattle.edge_sst_c.specs.SectionList.{numbered}
+use Rattle.edge_sst_c.proofs.Laws.SectionList.{length_numbered, numbered_on, numbered_none}
 use borrow.Author.Rules.{rules}
 use native.Mathlib.Omega.{arith}
 use Rattle.edge_sst_c.proofs.section_list.tell_rows.Reads as reads

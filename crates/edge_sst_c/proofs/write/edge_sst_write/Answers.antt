@@ -1,5 +1,5 @@
 -- `edge_sst_c::write::edge_sst_write` meets its contract.
-use Rattle.edge_sst_c.specs.Write.{wrote_told}
+use Rattle.edge_sst_c.proofs.Laws.Write.{wrote_told}
 use native.Mathlib.Omega.{arith}
 use borrow.Author.Rules.{rules}
 use Rattle.edge_sst_c.proofs.write.edge_sst_write.Reads as reads

@@ -1,5 +1,5 @@
 -- `edge_sst_c::write::written_told` meets its contract.
-use Rattle.edge_sst_c.specs.Write.{written_done, written_refused}
+use Rattle.edge_sst_c.proofs.Laws.Write.{written_done, written_refused}
 use native.Mathlib.Omega.{arith}
 use borrow.Author.Rules.{rules}
 use Rattle.edge_sst_c.proofs.write.written_told.Reads as reads

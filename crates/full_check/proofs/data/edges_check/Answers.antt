@@ -2,7 +2,7 @@
 use mathlib.Core.Path.{sym, ◌∙◌}
 use lib.ListN.{length}
 use Rattle.frame.specs.Frame.{flags_of}
-use Rattle.frame.specs.Open.Laws.{opens_parts, size_parts}
+use Rattle.frame.proofs.Laws.Open.{opens_parts, size_parts}
 use Rattle.full_check.specs.Checked.{tombstones, data_is, edges_refused, edges_good, edges_bad}
 use native.Mathlib.Omega.{arith}
 use borrow.Author.Rules.{rules}

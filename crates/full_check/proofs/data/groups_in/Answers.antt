@@ -1,8 +1,8 @@
 -- `full_check::data::groups_in` meets its contract.
 use mathlib.Core.Path.{◌∙◌}
 use Prim.Native.Nat.{◌/◌}
-use Rattle.reader.specs.Opened.{opened_offsets}
-use Rattle.reader.specs.Look.{opened_holds}
+use Rattle.reader.proofs.Laws.Opened.{opened_offsets}
+use Rattle.reader.proofs.Laws.Look.{opened_holds}
 use Rattle.full_check.specs.Full.{groups_seen}
 use native.Mathlib.Omega.{arith}
 use borrow.Author.Rules.{rules}

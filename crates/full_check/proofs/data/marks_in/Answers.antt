@@ -4,7 +4,7 @@ use Prim.Native.Nat.{ℕ}
 use mathlib.Core.List.{List}
 use lib.ListN.{length}
 use Rattle.frame.specs.Open.{bytes_at}
-use Rattle.reader.specs.Look.{opened_holds}
+use Rattle.reader.proofs.Laws.Look.{opened_holds}
 use Rattle.full_check.specs.Full.{marks_of}
 use Rattle.full_check.specs.Checked.{marks_there, marks_none}
 use borrow.Author.Rules.{rules}

@@ -1,6 +1,6 @@
 -- `full_check::data::starts_in` meets its contract.
 use mathlib.Core.Path.{refl}
-use Rattle.reader.specs.Look.{opened_holds}
+use Rattle.reader.proofs.Laws.Look.{opened_holds}
 use borrow.Author.Rules.{rules}
 use Rattle.full_check.proofs.data.starts_in.Goals as goal
 

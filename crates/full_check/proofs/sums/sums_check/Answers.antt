@@ -4,7 +4,7 @@ use Prim.Native.Nat.{ℕ}
 use mathlib.Core.List.{List}
 use lib.ListN.{length}
 use Rattle.frame.specs.Frame.{rows_of}
-use Rattle.frame.specs.Open.Laws.{footed}
+use Rattle.frame.proofs.Laws.Open.{footed}
 use Rattle.full_check.specs.Full.{sums_from}
 use Rattle.full_check.specs.Full.Laws.{frames_inside}
 use native.Mathlib.Omega.{arith}

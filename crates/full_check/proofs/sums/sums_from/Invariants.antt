@@ -1,7 +1,7 @@
 -- `full_check::sums::sums_from` meets its contract. Invariant: `Summed`, of the entries that are passed.
 use mathlib.Core.Path.{◌≡◌, refl, sym, ◌∙◌}
 use Prim.Native.Nat.{◌+◌, ◌-◌, ◌*◌, ◌≤◌}
-use Rattle.frame.specs.Frame.Laws.{row_room}
+use Rattle.frame.proofs.Laws.Frame.{row_room}
 use Rattle.full_check.specs.Full.Laws.{Summed, summed_start, summed_within, summed_bad, summed_on, summed_end}
 use borrow.Author.Rules.{rules}
 use native.Mathlib.Omega.{arith}

@@ -12,7 +12,7 @@ use Rattle.codes.specs.Ids.Laws.{number_halves}
 use Rattle.group.specs.declared.GroupVerdict.{GroupVerdict}
 use Rattle.group.specs.declared.fault.Flaw.{Flaw}
 use Rattle.group.specs.Fault.{fault_at}
-use Rattle.group.specs.Group.Laws.{answered, Checked, check_start, check_end, check_over, check_bad, check_low, check_more, step_dense, dense_short, dense_at}
+use Rattle.group.proofs.Laws.Group.{answered, Checked, check_start, check_end, check_over, check_bad, check_low, check_more, step_dense, dense_short, dense_at}
 use borrow.Author.Rules.{rules}
 use Rattle.group.proofs.dense.check_dense.Goals as goal
 use Rattle.group.proofs.dense.check_dense.Invariants.{Left, Passed, first, passed_first, compared, passed_low, next, passed_on, cut}

@@ -2,7 +2,7 @@
 use mathlib.Core.Path.{◌≡◌, sym, ◌∙◌}
 use Rattle.codes.specs.declared.varint.Varint.TheVariants.{Value}
 use Rattle.codes.specs.Varint.{varint_at}
-use Rattle.group.specs.Group.Laws.{head_unread, head_none, head_short, head_split, head_dense, head_tag}
+use Rattle.group.proofs.Laws.Group.{head_unread, head_none, head_short, head_split, head_dense, head_tag}
 use borrow.Author.Rules.{rules}
 use Rattle.group.proofs.head.head_of.Goals as goal
 

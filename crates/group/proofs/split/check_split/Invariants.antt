@@ -5,7 +5,7 @@ use native.Mathlib.Omega.{arith}
 use mathlib.Core.Bool.{false}
 use borrow.Author.Tests.{not-true, not-false}
 use Rattle.group.specs.Group.{floor_of}
-use Rattle.group.specs.Group.Laws.{Checked, check_start, check_end, check_over, check_bad, check_low, check_more, step_split, floor_first, floor_next}
+use Rattle.group.proofs.Laws.Group.{Checked, check_start, check_end, check_over, check_bad, check_low, check_more, step_split, floor_first, floor_next}
 use borrow.Author.Rules.{rules}
 use Rattle.group.proofs.split.check_split.Given as goal
 

@@ -12,7 +12,7 @@ use Rattle.codes.specs.declared.ids.Id.{Id}
 use Rattle.codes.specs.Ids.{be_bytes, id_bytes, id_number}
 use Rattle.codes.specs.Ids.Laws.{put_halves, length_id_bytes}
 use Rattle.group.specs.Group.{walk_from, is_good, partners_of, bytes_of}
-use Rattle.group.specs.Group.Laws.{Filled, fill_turn, fill_read, fill_end}
+use Rattle.group.proofs.Laws.Group.{Filled, fill_turn, fill_read, fill_end}
 use borrow.Author.Rules.{rules}
 use Rattle.group.proofs.split.fill_split.Goals as goal
 

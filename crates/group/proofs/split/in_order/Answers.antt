@@ -1,7 +1,7 @@
 -- `group::split::in_order` meets its contract.
 use mathlib.Core.Path.{sym, ◌∙◌}
 use native.Mathlib.Omega.{arith}
-use Rattle.group.specs.Group.Laws.{above_first, above_next}
+use Rattle.group.proofs.Laws.Group.{above_first, above_next}
 use borrow.Author.Rules.{rules}
 use Rattle.group.proofs.split.in_order.Goals as goal
 

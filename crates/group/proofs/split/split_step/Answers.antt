@@ -6,7 +6,7 @@ use Rattle.codes.specs.declared.varint.Varint.TheVariants.{Value}
 use Rattle.codes.specs.Varint.{varint_at}
 use Rattle.codes.specs.Varint.Laws.{varint_next}
 use Rattle.group.specs.declared.split.Step.{Step}
-use Rattle.group.specs.Group.Laws.{split_unread, split_over, split_short, split_good}
+use Rattle.group.proofs.Laws.Group.{split_unread, split_over, split_short, split_good}
 use borrow.Author.Rules.{rules}
 use Rattle.group.proofs.split.split_step.Goals as goal
 

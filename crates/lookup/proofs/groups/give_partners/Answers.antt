@@ -4,7 +4,7 @@ use Prim.Native.Nat.{ℕ, ◌+◌, ◌-◌, ◌*◌, ◌/◌, ◌≤◌, ◌<◌
 use lib.ListN.{length}
 use Rattle.base.specs.Over.{part, over}
 use Rattle.group.specs.Group.{group_of, partners_of, bytes_of}
-use Rattle.lookup.specs.Groups.{fills_at}
+use Rattle.lookup.proofs.Laws.Groups.{fills_at}
 use borrow.Author.Rules.{rules}
 use Rattle.lookup.proofs.groups.give_partners.Goals as goal
 

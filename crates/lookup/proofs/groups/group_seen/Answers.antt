@@ -1,9 +1,9 @@
 -- `lookup::groups::group_seen` meets its contract.
 use mathlib.Core.Path.{◌≡◌, sym, ap, ◌∙◌}
 use Rattle.group.specs.Group.{group_of}
-use Rattle.group.specs.Group.Laws.{answered_good, answered_bad}
+use Rattle.group.proofs.Laws.Group.{answered_good, answered_bad}
 use Rattle.lookup.specs.declared.groups.GroupSeen.{GroupSeen}
-use Rattle.lookup.specs.Groups.{seen_falls, seen_past, good_seen, bad_seen}
+use Rattle.lookup.proofs.Laws.Groups.{seen_falls, seen_past, good_seen, bad_seen}
 use native.Mathlib.Omega.{arith}
 use borrow.Author.Rules.{rules}
 use Rattle.lookup.proofs.groups.group_seen.Goals as goal

@@ -6,7 +6,7 @@ use lib.ListN.{length, length-set}
 use lib.Seq.{sets}
 use Rattle.base.specs.Over.{sets_over}
 use Rattle.lookup.specs.Lookup.{logs_from}
-use Rattle.lookup.specs.Lookup.Laws.{logs_on, logs_none, length_logs}
+use Rattle.lookup.proofs.Laws.Lookup.{logs_on, logs_none, length_logs}
 use borrow.Author.Rules.{rules}
 use native.Mathlib.Omega.{arith}
 use Rattle.lookup.proofs.known.fill_logs.Given as goal

@@ -6,7 +6,7 @@ use lib.ListN.{length, length-set}
 use lib.Seq.{sets}
 use Rattle.base.specs.Over.{sets_over}
 use Rattle.lookup.specs.Lookup.{marks_from}
-use Rattle.lookup.specs.Lookup.Laws.{marks_on, marks_none, length_marks}
+use Rattle.lookup.proofs.Laws.Lookup.{marks_on, marks_none, length_marks}
 use borrow.Author.Rules.{rules}
 use native.Mathlib.Omega.{arith}
 use Rattle.lookup.proofs.known.fill_marks.Given as goal

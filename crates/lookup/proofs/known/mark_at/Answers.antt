@@ -1,6 +1,6 @@
 -- `lookup::known::mark_at` meets its contract.
 use mathlib.Core.Path.{sym}
-use Rattle.lookup.specs.Lookup.Laws.{mark_none}
+use Rattle.lookup.proofs.Laws.Lookup.{mark_none}
 use borrow.Author.Rules.{rules}
 use Rattle.lookup.proofs.known.mark_at.Goals as goal
 

@@ -6,8 +6,9 @@ use Rattle.codes.specs.Ids.{id_number}
 use Rattle.frame.specs.Open.{known_of, bytes_at}
 use Rattle.index.specs.Find.Laws.{find_sound}
 use Rattle.lookup.specs.Lookup.{look_in, partners_at}
-use Rattle.lookup.specs.Groups.{seen_fills, seen_degree}
-use Rattle.lookup.specs.Calls.{alone, alone_absent, alone_refused, alone_found, look_absent, look_at, look_fault, partners_short, partners_found, begins, ends}
+use Rattle.lookup.proofs.Laws.Groups.{seen_fills, seen_degree}
+use Rattle.lookup.specs.Calls.{alone, begins, ends}
+use Rattle.lookup.proofs.Laws.Calls.{alone_absent, alone_refused, alone_found, look_absent, look_at, look_fault, partners_short, partners_found}
 use native.Mathlib.Omega.{arith}
 use borrow.Author.Rules.{rules}
 use Rattle.lookup.proofs.partners.partners_of.Goals as goal

@@ -5,7 +5,8 @@ use mathlib.Core.Bool.{true}
 use Rattle.codes.specs.Ids.{id_number}
 use Rattle.frame.specs.Open.{known_of, bytes_at}
 use Rattle.index.specs.Find.Laws.{find_sound}
-use Rattle.lookup.specs.Calls.{lent, whole_absent, whole_refused, whole_as, look_absent, look_at, look_fault}
+use Rattle.lookup.specs.Calls.{lent}
+use Rattle.lookup.proofs.Laws.Calls.{whole_absent, whole_refused, whole_as, look_absent, look_at, look_fault}
 use borrow.Author.Rules.{rules}
 use Rattle.lookup.proofs.whole.edges_of_key.Goals as goal
 

@@ -4,8 +4,9 @@ use Prim.Native.Nat.{◌+◌, ◌*◌, ◌≤◌}
 use lib.ListN.{length}
 use Rattle.frame.specs.Open.{known_of, bytes_at}
 use Rattle.lookup.specs.Lookup.{partners_at}
-use Rattle.lookup.specs.Groups.{seen_fills, seen_degree}
-use Rattle.lookup.specs.Calls.{lent, capped_le, whole_lost, whole_over, whole_short, whole_found, whole_refused, whole_given, none_short, begins, ends}
+use Rattle.lookup.proofs.Laws.Groups.{seen_fills, seen_degree}
+use Rattle.lookup.specs.Calls.{lent, begins, ends}
+use Rattle.lookup.proofs.Laws.Calls.{capped_le, whole_lost, whole_over, whole_short, whole_found, whole_refused, whole_given, none_short}
 use native.Mathlib.Omega.{arith}
 use borrow.Author.Rules.{rules}
 use Rattle.lookup.proofs.whole.group_edges.Goals as goal

@@ -1,7 +1,8 @@
 -- `lookup::whole::short_of` meets its contract.
 use mathlib.Core.Path.{sym}
 use native.Mathlib.Omega.{arith}
-use Rattle.lookup.specs.Calls.{lent, short_bytes, short_logs, short_last}
+use Rattle.lookup.specs.Calls.{lent}
+use Rattle.lookup.proofs.Laws.Calls.{short_bytes, short_logs, short_last}
 use Rattle.lookup.proofs.whole.short_of.Goals as goal
 
 pub returns-then-n-d : goal.returns-then-n-d

@@ -1,6 +1,6 @@
 -- `opening::ends::ends_check` meets its contract.
 use mathlib.Core.Path.{◌≡◌, refl, sym, ap, ◌∙◌}
-use Rattle.refusal.specs.Check.Laws.{bad_then, fine_then}
+use Rattle.refusal.proofs.Laws.Check.{bad_then, fine_then}
 use Rattle.frame.specs.Frame.{tail_check, ends_check}
 use borrow.Author.Rules.{rules}
 use Rattle.open_file.proofs.ends.ends_check.Goals as goal

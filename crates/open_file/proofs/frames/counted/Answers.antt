@@ -2,7 +2,7 @@
 use mathlib.Core.Path.{◌≡◌, refl, sym, ap, ◌∙◌}
 use borrow.Author.Tests.{not-true, not-false}
 use Rattle.refusal.specs.declared.Refusal.{Refusal}
-use Rattle.frame.specs.Open.Laws.{framing_last, framing_lost}
+use Rattle.frame.proofs.Laws.Open.{framing_last, framing_lost}
 use borrow.Author.Rules.{rules}
 use Rattle.open_file.proofs.frames.counted.Goals as goal
 

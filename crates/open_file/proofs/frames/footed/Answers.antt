@@ -8,7 +8,7 @@ use Rattle.refusal.specs.declared.Check.{Check}
 use Rattle.frame.specs.declared.Framing.{Framing}
 use Rattle.frame.specs.Frame.{rows_of, foot_len, body_of, framed_from, framed_of, sum_check, rows_check, footer_check}
 use Rattle.frame.specs.Open.{framing}
-use Rattle.frame.specs.Open.Laws.{body_length, framing_bad, framing_on}
+use Rattle.frame.proofs.Laws.Open.{body_length, framing_bad, framing_on}
 use borrow.Author.Rules.{rules}
 use native.Mathlib.Omega.{arith}
 use Rattle.open_file.proofs.frames.footed.Goals as goal

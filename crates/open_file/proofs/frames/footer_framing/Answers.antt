@@ -8,7 +8,7 @@ use Rattle.frame.specs.declared.Framed.{Framed}
 use Rattle.frame.specs.declared.Framing.{Framing}
 use Rattle.frame.specs.Frame.{framed_of, footer_check, counts_check}
 use Rattle.frame.specs.Open.{framing}
-use Rattle.frame.specs.Open.Laws.{framing_bad, framing_on, good_framing, refused_framing}
+use Rattle.frame.proofs.Laws.Open.{framing_bad, framing_on, good_framing, refused_framing}
 use borrow.Author.Rules.{rules}
 use Rattle.open_file.proofs.frames.footer_framing.Goals as goal
 

@@ -9,7 +9,7 @@ use Rattle.refusal.specs.Check.{◌⊳◌}
 use Rattle.frame.specs.declared.Framing.{Framing}
 use Rattle.frame.specs.Frame.{flags_of, framed_of, size_check, ends_check, footer_check, counts_check, frame_check}
 use Rattle.frame.specs.Open.{framing}
-use Rattle.frame.specs.Open.Laws.{size_parts, tail_parts, frame_chain, ends_parts, framing_bad, framing_on}
+use Rattle.frame.proofs.Laws.Open.{size_parts, tail_parts, frame_chain, ends_parts, framing_bad, framing_on}
 use borrow.Author.Rules.{rules}
 use native.Mathlib.Omega.{arith}
 use Rattle.open_file.proofs.frames.frame_of.Goals as goal

@@ -2,7 +2,7 @@
 use mathlib.Core.Path.{sym, ap, ◌∙◌}
 use native.Mathlib.Omega.{arith}
 use Rattle.reader.specs.declared.header.HeaderRead.{HeaderRead}
-use Rattle.reader.specs.Header.{header_refused, header_good, header_there}
+use Rattle.reader.proofs.Laws.Header.{header_refused, header_good, header_there}
 use borrow.Author.Rules.{rules}
 use Rattle.reader.proofs.header.header.Goals as goal
 

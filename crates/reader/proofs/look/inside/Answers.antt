@@ -1,6 +1,6 @@
 -- `reader::look::inside` meets its contract.
 use mathlib.Core.Path.{◌≡◌, sym, ◌∙◌}
-use Rattle.reader.specs.Inside.{past_start, from_start}
+use Rattle.reader.proofs.Laws.Inside.{past_start, from_start}
 use native.Mathlib.Omega.{arith}
 use Rattle.reader.proofs.look.inside.Goals as goal
 

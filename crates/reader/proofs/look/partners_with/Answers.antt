@@ -7,9 +7,10 @@ use borrow.Author.Tests.{not-true, not-false}
 use Rattle.codes.specs.Ids.{id_at}
 use Rattle.frame.specs.Open.{known_of}
 use Rattle.lookup.specs.Lookup.{look_in}
-use Rattle.lookup.specs.Record.{holds}
-use Rattle.lookup.specs.Calls.{alone, alone_as, alone_refused}
-use Rattle.reader.specs.Look.{with_bad, with_good, key_number}
+use Rattle.lookup.proofs.Laws.Record.{holds}
+use Rattle.lookup.specs.Calls.{alone}
+use Rattle.lookup.proofs.Laws.Calls.{alone_as, alone_refused}
+use Rattle.reader.proofs.Laws.Look.{with_bad, with_good, key_number}
 use borrow.Author.Rules.{rules}
 use Rattle.reader.proofs.look.partners_with.Goals as goal
 

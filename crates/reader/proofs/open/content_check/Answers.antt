@@ -7,9 +7,9 @@ use borrow.Author.Tests.{not-true, not-false}
 use Rattle.refusal.specs.declared.Refusal.{Refusal}
 use Rattle.refusal.specs.declared.Check.{Check}
 use Rattle.refusal.specs.Check.{◌⊳◌, refuse}
-use Rattle.refusal.specs.Check.Laws.{bad_then, fine_then}
+use Rattle.refusal.proofs.Laws.Check.{bad_then, fine_then}
 use Rattle.frame.specs.Open.{keys_from, offsets_check, fences_good}
-use Rattle.reader.specs.Fit.{without_fences, with_fences}
+use Rattle.reader.proofs.Laws.Fit.{without_fences, with_fences}
 use borrow.Author.Rules.{rules}
 use Rattle.reader.proofs.open.content_check.Goals as goal
 

@@ -2,8 +2,8 @@
 use mathlib.Core.Path.{sym, ap, ◌∙◌}
 use lib.ListN.{length}
 use Rattle.base.specs.Over.{length_part}
-use Rattle.refusal.specs.Check.Laws.{bad_then, fine_then}
-use Rattle.reader.specs.Fit.{content_is}
+use Rattle.refusal.proofs.Laws.Check.{bad_then, fine_then}
+use Rattle.reader.proofs.Laws.Fit.{content_is}
 use native.Mathlib.Omega.{arith}
 use borrow.Author.Rules.{rules}
 use Rattle.reader.proofs.open.content_of.Goals as goal

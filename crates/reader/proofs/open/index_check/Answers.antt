@@ -1,6 +1,6 @@
 -- `reader::open::index_check` meets its contract.
 use mathlib.Core.Path.{sym, ◌∙◌}
-use Rattle.refusal.specs.Check.Laws.{bad_then, fine_then}
+use Rattle.refusal.proofs.Laws.Check.{bad_then, fine_then}
 use Rattle.frame.specs.Open.{offsets_check}
 use borrow.Author.Rules.{rules}
 use Rattle.reader.proofs.open.index_check.Goals as goal

@@ -1,6 +1,6 @@
 -- `reader::open::open` meets its contract.
 use mathlib.Core.Path.{◌≡◌, sym, ap, ◌∙◌}
-use Rattle.reader.specs.Fit.{open_unframed, open_fits, open_refused, open_good}
+use Rattle.reader.proofs.Laws.Fit.{open_unframed, open_fits, open_refused, open_good}
 use borrow.Author.Rules.{rules}
 use Rattle.reader.proofs.open.open.Goals as goal
 

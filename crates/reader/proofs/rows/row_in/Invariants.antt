@@ -3,7 +3,7 @@ use mathlib.Core.Path.{◌≡◌, refl, sym, ap, ◌∙◌}
 use Prim.Native.Nat.{◌+◌, ◌-◌, ◌*◌, ◌≤◌}
 use native.Mathlib.Nat.{sub-zero, sub_self}
 use Rattle.frame.specs.Frame.{end_from}
-use Rattle.reader.specs.Rows.{row_few, row_cut, row_on, row_past, row_here, row_name, end_here}
+use Rattle.reader.proofs.Laws.Rows.{row_few, row_cut, row_on, row_past, row_here, row_name, end_here}
 use borrow.Author.Rules.{rules}
 use native.Mathlib.Omega.{arith}
 use Rattle.reader.proofs.rows.row_in.Given as goal

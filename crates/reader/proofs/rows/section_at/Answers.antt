@@ -1,8 +1,8 @@
 -- `reader::rows::section_at` meets its contract.
 use mathlib.Core.Path.{◌≡◌, refl, sym, ap, ◌∙◌}
-use Rattle.reader.specs.Rows.{row_small, row_large, row_short, row_over, row_footed}
+use Rattle.reader.proofs.Laws.Rows.{row_small, row_large, row_short, row_over, row_footed}
 use lib.ListN.{length}
-use Rattle.frame.specs.Open.Laws.{body_length}
+use Rattle.frame.proofs.Laws.Open.{body_length}
 use borrow.Author.Rules.{rules}
 use native.Mathlib.Omega.{arith}
 use Rattle.reader.proofs.rows.section_at.Goals as goal

@@ -6,7 +6,7 @@ use lib.ListN.{length}
 use lib.Seq.{sets}
 use Rattle.batch.specs.declared.Edge.{Edge}
 use Rattle.batch.specs.Batch.{records_of}
-use Rattle.reader.specs.Look.{opened_holds}
+use Rattle.reader.proofs.Laws.Look.{opened_holds}
 use Rattle.full_check.specs.Checked.{checked_opened}
 use Rattle.readout.specs.ReadOut.Laws.{checked_readable, readable_at, edges_at_lem}
 use native.Mathlib.Omega.{arith}

@@ -3,7 +3,7 @@ use mathlib.Core.Path.{sym, ap, ◌∙◌}
 use Prim.Native.Nat.{◌+◌}
 use Rattle.codes.specs.declared.ids.Id.{Id}
 use Rattle.group.specs.declared.split.Step.{Step}
-use Rattle.group.specs.Group.Laws.{dense_short, dense_good}
+use Rattle.group.proofs.Laws.Group.{dense_short, dense_good}
 use native.Mathlib.Omega.{arith}
 use borrow.Author.Rules.{rules}
 use Rattle.readout.proofs.group_edges.dense_step.Goals as goal

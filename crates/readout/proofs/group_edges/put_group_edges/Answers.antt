@@ -6,8 +6,9 @@ use mathlib.Core.Bool.{true, false}
 use lib.Seq.{sets}
 use Rattle.batch.specs.Batch.{place, records_of}
 use Rattle.group.specs.Group.{Decoded, partners_of}
-use Rattle.group.specs.Group.Laws.{group_bad, not_bad}
-use Rattle.group.specs.Good.{Fill, fill}
+use Rattle.group.proofs.Laws.Group.{group_bad, not_bad}
+use Rattle.group.specs.Good.{Fill}
+use Rattle.group.proofs.Laws.Good.{fill}
 use Rattle.readout.specs.Edges.{edges_from}
 use native.Mathlib.Omega.{arith}
 use borrow.Author.Rules.{rules}

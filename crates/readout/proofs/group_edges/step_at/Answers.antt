@@ -2,7 +2,7 @@
 use mathlib.Core.Path.{◌≡◌, sym, ap, ◌∙◌}
 use mathlib.Core.Bool.{Bool}
 use Rattle.group.specs.Group.{step_at}
-use Rattle.group.specs.Group.Laws.{step_dense, step_split}
+use Rattle.group.proofs.Laws.Group.{step_dense, step_split}
 use native.Mathlib.Omega.{arith}
 use borrow.Author.Rules.{rules}
 use Rattle.readout.proofs.group_edges.step_at.Reads as reads

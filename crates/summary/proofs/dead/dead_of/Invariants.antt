@@ -1,6 +1,7 @@
 -- `summary::dead::dead_of` meets its contract.
 use Rattle.std.proofs.Common.{◌-◌, length, arith, rules}
-use Rattle.summary.specs.Marked.{Counting, few_ones, counting_start, counting_few, counting_on, counting_end}
+use Rattle.summary.specs.Marked.{Counting}
+use Rattle.summary.proofs.Laws.Marked.{few_ones, counting_start, counting_few, counting_on, counting_end}
 use Rattle.summary.proofs.dead.dead_of.Reads as reads
 use Rattle.summary.proofs.dead.dead_of.Lts as lts
 use Rattle.summary.proofs.dead.dead_of.Given as goal

@@ -1,6 +1,6 @@
 -- `summary::logs::narrow_sign` meets its contract.
 use Rattle.std.proofs.Common.{arith, rules}
-use Rattle.summary.specs.Logs.{narrow_sure}
+use Rattle.summary.proofs.Laws.Logs.{narrow_sure}
 use Rattle.summary.proofs.logs.narrow_sign.Goals as goal
 
 pub returns : goal.returns

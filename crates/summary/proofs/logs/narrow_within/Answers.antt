@@ -1,6 +1,7 @@
 -- `summary::logs::narrow_within` meets its contract.
 use Rattle.std.proofs.Common.{◌-◌, ◌^◌, arith, rules, ltb-true}
-use Rattle.summary.specs.Logs.{Signs, signs_start, signs_on, signs_end}
+use Rattle.summary.specs.Logs.{Signs}
+use Rattle.summary.proofs.Laws.Logs.{signs_start, signs_on, signs_end}
 use Rattle.summary.proofs.logs.narrow_within.Goals as goal
 
 pub loop-i-init : goal.loop-i-init

@@ -1,6 +1,6 @@
 -- `summary::logs::span_of` meets its contract.
 use Rattle.std.proofs.Common.{◌-◌, arith}
-use Rattle.summary.specs.Logs.{Blocks, blocks_start, blocks_on, blocks_end}
+use Rattle.summary.proofs.Laws.Logs.{Blocks, blocks_start, blocks_on, blocks_end}
 use Rattle.summary.proofs.logs.span_of.Given as goal
 
 abbrev pub invariant-loop-e : goal.invariant-loop-e

@@ -1,6 +1,6 @@
 -- `summary::logs::wide_sign` meets its contract.
 use Rattle.std.proofs.Common.{arith, rules}
-use Rattle.summary.specs.Logs.{wide_sure}
+use Rattle.summary.proofs.Laws.Logs.{wide_sure}
 use Rattle.summary.proofs.logs.wide_sign.Goals as goal
 
 pub returns : goal.returns

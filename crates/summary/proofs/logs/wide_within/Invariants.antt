@@ -1,6 +1,7 @@
 -- `summary::logs::wide_within` meets its contract.
 use Rattle.std.proofs.Common.{◌-◌, ◌^◌, arith, rules, ltb-true}
-use Rattle.summary.specs.Logs.{Signs, signs_start, signs_on, signs_end}
+use Rattle.summary.specs.Logs.{Signs}
+use Rattle.summary.proofs.Laws.Logs.{signs_start, signs_on, signs_end}
 use Rattle.summary.proofs.logs.wide_within.Given as goal
 
 abbrev pub invariant-loop-i : goal.invariant-loop-i

@@ -1,7 +1,7 @@
 -- `summary::logs::with_block` meets its contract.
 use Rattle.std.proofs.Common.{◌≡◌, ℕ, ◌+◌, ◌-◌, ◌*◌, ap, ◌∙◌, arith, rules}
 use Rattle.codes.specs.Little.{le_at}
-use Rattle.summary.specs.Logs.{span_ends, block_one}
+use Rattle.summary.proofs.Laws.Logs.{span_ends, block_one}
 use Rattle.summary.proofs.logs.with_block.Goals as goal
 
 pub within-requires : goal.within-requires

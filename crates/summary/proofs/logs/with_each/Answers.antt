@@ -1,6 +1,6 @@
 -- `summary::logs::with_each` meets its contract.
 use Rattle.std.proofs.Common.{◌-◌, arith}
-use Rattle.summary.specs.Logs.{Spanning, spanning_start, spanning_on, spanning_end}
+use Rattle.summary.proofs.Laws.Logs.{Spanning, spanning_start, spanning_on, spanning_end}
 use Rattle.summary.proofs.logs.with_each.Goals as goal
 
 pub loop-i-init : goal.loop-i-init

@@ -1,6 +1,6 @@
 -- `summary::logs::with_each` meets its contract.
 use Rattle.std.proofs.Common.{◌-◌, arith}
-use Rattle.summary.specs.Logs.{Spanning, spanning_start, spanning_on, spanning_end}
+use Rattle.summary.proofs.Laws.Logs.{Spanning, spanning_start, spanning_on, spanning_end}
 use Rattle.summary.proofs.logs.with_each.Given as goal
 
 abbrev pub invariant-loop-i : goal.invariant-loop-i

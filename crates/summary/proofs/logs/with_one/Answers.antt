@@ -1,6 +1,6 @@
 -- `summary::logs::with_one` meets its contract.
 use Rattle.std.proofs.Common.{arith}
-use Rattle.summary.specs.Logs.{one_below, one_above, one_within}
+use Rattle.summary.proofs.Laws.Logs.{one_below, one_above, one_within}
 use Rattle.summary.proofs.logs.with_one.Goals as goal
 
 pub returns-then-x-s : goal.returns-then-x-s

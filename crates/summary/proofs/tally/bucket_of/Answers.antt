@@ -1,6 +1,6 @@
 -- `summary::tally::bucket_of` meets its contract.
 use Rattle.std.proofs.Common.{arith}
-use Rattle.summary.specs.Bits.{zeros_bucket}
+use Rattle.summary.proofs.Laws.Bits.{zeros_bucket}
 use Rattle.summary.proofs.tally.bucket_of.Goals as goal
 
 pub overflow_cast-result : goal.overflow_cast-result

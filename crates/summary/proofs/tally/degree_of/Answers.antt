@@ -1,6 +1,6 @@
 -- `summary::tally::degree_of` meets its contract.
 use Rattle.std.proofs.Common.{sym, ◌∙◌, rules}
-use Rattle.summary.specs.Tally.{degree_is, degree_bad}
+use Rattle.summary.proofs.Laws.Tally.{degree_is, degree_bad}
 use Rattle.summary.proofs.tally.degree_of.Goals as goal
 
 pub returns-in-Value : goal.returns-in-Value

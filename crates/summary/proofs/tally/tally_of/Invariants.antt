@@ -1,6 +1,6 @@
 -- `summary::tally::tally_of` meets its contract.
 use Rattle.std.proofs.Common.{◌+◌, ◌-◌, ◌*◌, ◌≤◌, length, mul-le-mul_right, arith, rules}
-use Rattle.summary.specs.Tally.{Tallying, tallying_start, tallying_few, tallying_lies, tallying_degree, tallying_on, tallying_end}
+use Rattle.summary.proofs.Laws.Tally.{Tallying, tallying_start, tallying_few, tallying_lies, tallying_degree, tallying_on, tallying_end}
 use Rattle.summary.proofs.tally.tally_of.Reads as reads
 use Rattle.summary.proofs.tally.tally_of.Lts as lts
 use Rattle.index.proofs.offsets.offset_at.Reads as offset_at_reads

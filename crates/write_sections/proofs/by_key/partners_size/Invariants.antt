@@ -9,7 +9,7 @@ use Rattle.batch.specs.Batch.{partners_in}
 use Rattle.base.specs.Over.{part}
 use Rattle.batch.specs.declared.Edge.{Edge}
 use Rattle.batch_groups.specs.Groups.{Group, groups_of, GroupEnd, Grouped}
-use Rattle.batch_groups.specs.Groups.Laws.{grouped_step}
+use Rattle.batch_groups.proofs.Laws.Groups.{grouped_step}
 use Rattle.write_image.specs.Image.{is_dense, group_bytes, any_dense, partner_bytes}
 use Rattle.write_image.specs.Image.Laws.{partners_step, partners_end, any_step, any_end}
 use Rattle.write_source.specs.Source.{source_edges}

@@ -13,7 +13,7 @@ use Rattle.codes.specs.Ids.{id_bytes}
 use Rattle.codes.specs.Ids.Laws.{length_id_bytes}
 use Rattle.batch.specs.declared.Edge.{Edge}
 use Rattle.batch_groups.specs.Groups.{none, Group, groups_of, GroupEnd, Grouped}
-use Rattle.batch_groups.specs.Groups.Laws.{grouped_step}
+use Rattle.batch_groups.proofs.Laws.Groups.{grouped_step}
 use Rattle.write_image.specs.Image.{group_bytes, key_bytes, offset_bytes, partner_bytes}
 use Rattle.write_image.specs.Image.Laws.{rises, keys_step, keys_end, partners_step, partners_end, offsets_step, offsets_end, length_keys, length_offsets}
 use Rattle.write_source.specs.Source.{source_edges}

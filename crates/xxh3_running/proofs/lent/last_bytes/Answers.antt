@@ -5,7 +5,7 @@ use native.Mathlib.Omega.{arith}
 use lib.ListN.{length, take, length-set}
 use Rattle.xxh3_running.proofs.Steps.{same_step, same_all}
 use Rattle.xxh3_running.specs.Running.{last_bytes}
-use Rattle.xxh3_running.specs.Running.Laws.{last_at, length_last}
+use Rattle.xxh3_running.proofs.Laws.Running.{last_at, length_last}
 use Rattle.xxh3_running.proofs.lent.last_bytes.Goals as goal
 
 pub loop-i-init : goal.loop-i-init

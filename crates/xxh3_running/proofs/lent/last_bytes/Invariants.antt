@@ -5,7 +5,7 @@ use native.Mathlib.Omega.{arith}
 use lib.ListN.{length, take, length-set}
 use Rattle.xxh3_running.proofs.Steps.{same_step, same_all}
 use Rattle.xxh3_running.specs.Running.{last_bytes}
-use Rattle.xxh3_running.specs.Running.Laws.{last_at, length_last}
+use Rattle.xxh3_running.proofs.Laws.Running.{last_at, length_last}
 use Rattle.xxh3_running.proofs.lent.last_bytes.Given as goal
 
 abbrev pub invariant-loop-i : goal.invariant-loop-i

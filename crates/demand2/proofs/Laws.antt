@@ -1,0 +1,9 @@
+pub mod Answered
+pub mod Cases
+pub mod Contents
+pub mod Demand2
+pub mod Fences
+pub mod File
+pub mod Rows
+pub mod Rules
+pub mod Sections

@@ -1,0 +1,10 @@
+pub mod Back
+pub mod Desk
+pub mod Header
+pub mod Look
+pub mod Refused
+pub mod Rows
+pub mod SectionList
+pub mod Summary
+pub mod Told
+pub mod Write

@@ -1,0 +1,9 @@
+pub mod Calls
+pub mod Fakes
+pub mod Faults
+pub mod Given
+pub mod Later
+pub mod Marked
+pub mod Running
+pub mod Starts
+pub mod Summary

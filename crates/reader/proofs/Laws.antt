@@ -1,0 +1,9 @@
+pub mod Cases
+pub mod Compared
+pub mod Fit
+pub mod Given
+pub mod Header
+pub mod Inside
+pub mod Look
+pub mod Opened
+pub mod Rows

@@ -1,0 +1,9 @@
+pub mod Bits
+pub mod Cases
+pub mod Checked
+pub mod Logs
+pub mod Marked
+pub mod Promise
+pub mod Read
+pub mod Summary
+pub mod Tally

@@ -1,0 +1,4 @@
+pub mod Cases
+pub mod Chunks
+pub mod Running
+pub mod RunningSums
