@@ -4,8 +4,5 @@ use Rattle.printing.specs.Printed.Laws.{small_enough}
 use borrow.Author.Rules.{rules}
 use Rattle.edge_sst.proofs.printed.Goals as goal
 
--- pub UNMATCHED-slice-aggregate-wrote : goal.UNMATCHED-slice-aggregate-wrote
--- UNMATCHED-slice-aggregate-wrote c = search rules
-
 pub print_file-requires : goal.print_file-requires
 print_file-requires c = let f = c.args.file.now in (small_enough f _ (omega arith) (omega arith), omega arith)

@@ -19,17 +19,17 @@ at_most_one false = omega arith
 pub loop-k-init : goal.loop-k-init
 loop-k-init c =
     let s = c.args.batch.now in
-    let e = c.edge_count.ensures in
+    let e = c.edge_count-edges.ensures in
     (omega arith, omega arith, zero-add _ ∙ ap (λ (n : ℕ). dead_in (edges_at n s 0)) (sub-zero _ ∙ e) ∙ dead_all s)
 
 pub overflow_mul-k : goal.overflow_mul-k
-overflow_mul-k c = let e = c.edge_count.ensures in omega arith
+overflow_mul-k c = let e = c.edge_count-edges.ensures in omega arith
 
 pub overflow_add-k : goal.overflow_add-k
-overflow_add-k c = let e = c.edge_count.ensures in omega arith
+overflow_add-k c = let e = c.edge_count-edges.ensures in omega arith
 
 pub edge_at-e-requires : goal.edge_at-e-requires
-edge_at-e-requires c = let e = c.edge_count.ensures in omega arith
+edge_at-e-requires c = let e = c.edge_count-edges.ensures in omega arith
 
 pub overflow_add-dead : goal.overflow_add-dead
 overflow_add-dead c = let b = at_most_one c.edge_at-e.result.dead in let e = c.one_if-dead.ensures in omega arith
@@ -38,7 +38,7 @@ pub loop-k-preserved : goal.loop-k-preserved
 loop-k-preserved c =
     let s = c.args.batch.now in
     let l = c.loop-k in
-    let n = c.edge_count.result in
+    let n = c.edge_count-edges.result in
     let b = at_most_one c.edge_at-e.result.dead in
     let e = c.one_if-dead.ensures in
     let same : c.one_if-dead.result ≡ pick (edge_at s (place l.k)).dead 1 0 = e ∙ ap (λ (x : Edge). pick x.dead 1 0) c.edge_at-e.ensures in
@@ -51,7 +51,7 @@ pub returns : goal.returns
 returns c =
     let s = c.args.batch.now in
     let l = c.loop-k in
-    let n = c.edge_count.result in
+    let n = c.edge_count-edges.result in
     let none : n - l.k ≡ 0 = omega arith in
     let zero = dead_none s l.k in
     let sum : l.dead + dead_in (edges_at 0 s l.k) ≡ dead_in (edges_of s) = (rw none at l.invariant.2) in

@@ -15,13 +15,13 @@ pub edge_count-lines-requires : goal.edge_count-lines-requires
 edge_count-lines-requires c = passed_heading c.args.file.now c.args.keys c.args.batch.now c.requires.0
 
 pub overflow_add-lines : goal.overflow_add-lines
-overflow_add-lines c = let e = c.edge_count.ensures in omega arith
+overflow_add-lines c = let e = c.edge_count-lines.ensures in omega arith
 
 pub loop-next-init : goal.loop-next-init
 loop-next-init c = (omega arith, refl)
 
 pub put_page-page-requires : goal.put_page-page-requires
-put_page-page-requires c = let e = c.edge_count.ensures in let s = c.loop-next.invariant.1 in (passed_heading c.args.file.now c.args.keys c.args.batch.now c.requires.0, omega arith, omega arith)
+put_page-page-requires c = let e = c.edge_count-lines.ensures in let s = c.loop-next.invariant.1 in (passed_heading c.args.file.now c.args.keys c.args.batch.now c.requires.0, omega arith, omega arith)
 
 pub wrote_part-requires : goal.wrote_part-requires
 wrote_part-requires c =
@@ -38,7 +38,7 @@ wrote_part-requires c =
     )
 
 pub loop-next-smaller : goal.loop-next-smaller
-loop-next-smaller c = let p = c.put_page-page.ensures in let e = c.edge_count.ensures in let n = p.more in let m = p.upto in omega arith
+loop-next-smaller c = let p = c.put_page-page.ensures in let e = c.edge_count-lines.ensures in let n = p.more in let m = p.upto in omega arith
 
 pub loop-next-preserved : goal.loop-next-preserved
-loop-next-preserved c = let p = c.put_page-page.ensures in let e = c.edge_count.ensures in let m = p.upto in (omega arith, put_length p.lines ∙ c.loop-next.invariant.1)
+loop-next-preserved c = let p = c.put_page-page.ensures in let e = c.edge_count-lines.ensures in let m = p.upto in (omega arith, put_length p.lines ∙ c.loop-next.invariant.1)

@@ -1,33 +1,31 @@
 -- `printing::print_refusal` meets its contract: what is put is all that is printed of the file.
-use Prim.Native.Nat.{◌≤◌}
-use native.Mathlib.Omega.{arith}
-use mathlib.Core.List.{◌++◌}
-use lib.ListN.{length}
+use Rattle.std.proofs.Common.{◌≤◌, ◌++◌, length, arith}
 use Rattle.text.specs.Text.{refused_text}
 use Rattle.text.specs.Text.Laws.{both, put_length, put_front, length_refused}
 use Rattle.printing.specs.Printed.{newline}
 use Rattle.printing.specs.Printed.Laws.{refused_printed, part_of, part_all}
-use borrow.Author.Rules.{rules}
 use Rattle.printing.proofs.print_refusal.Goals as goal
 
 pub put_refused-mid-requires : goal.put_refused-mid-requires
 put_refused-mid-requires c = let n = length_refused c.args.refusal in omega arith
 
--- pub UNMATCHED-slice-aggregate-put-word : goal.UNMATCHED-slice-aggregate-put-word
--- UNMATCHED-slice-aggregate-put-word c = search rules
-
 pub put_word-end-requires : goal.put_word-end-requires
-put_word-end-requires c = let n = length_refused c.args.refusal in let p = c.put_refused-mid.ensures in let s = put_length p in let e = p.place in omega arith
+put_word-end-requires c =
+    let n = length_refused c.args.refusal in
+    let p = c.put_refused-mid.ensures in
+    let s = put_length p in
+    let e = p.place in
+    omega arith
 
 pub wrote_part-requires : goal.wrote_part-requires
 wrote_part-requires c =
-    let start = c in
-    let n = length_refused start.args.refusal in
+    let a = c.args in
+    let n = length_refused a.refusal in
     let p = c.put_refused-mid.ensures in
     let q = c.put_word-end.ensures in
     let s = put_length p in
     let t = put_length q in
     let e = p.place in
     let f = q.place in
-    let fits : c.put_word-end.result ≤ length c.put_word-end.new.0 = omega arith in
-    (fits, part_of (refused_printed start.args.file.now start.args.refusal start.requires.0) (put_front (both p q) fits) (part_all (refused_text start.args.refusal ++ newline)))
+    let fits : c.put_word-end.result ≤ length c.put_word-end.new.out = omega arith in
+    (fits, part_of (refused_printed a.file.now a.refusal c.requires.0) (put_front (both p q) fits) (part_all (refused_text a.refusal ++ newline)))

@@ -48,12 +48,12 @@ module _ (minor keys : ℕ) (s o : List ℕ) (from : ℕ) where
       }
 
 pub overflow_add-lines : goal.overflow_add-lines
-overflow_add-lines c = let e = c.edge_count.ensures in omega arith
+overflow_add-lines c = let e = c.edge_count-lines.ensures in omega arith
 
 pub loop-next-init : goal.loop-next-init
 loop-next-init c =
     let a = c.args in
-    let e = c.edge_count.ensures in
+    let e = c.edge_count-lines.ensures in
     begin a.minor a.keys a.batch.now a.out.now a.from c.requires.2
 
 pub overflow_sub-out : goal.overflow_sub-out
@@ -74,13 +74,13 @@ pub put_line-at-requires : goal.put_line-at-requires
 put_line-at-requires c = let h = c.loop-next.invariant in let s = h.same in (c.requires.0, omega arith)
 
 pub overflow_add-next : goal.overflow_add-next
-overflow_add-next c = let e = c.edge_count.ensures in let u = c.loop-next.invariant.upto in omega arith
+overflow_add-next c = let e = c.edge_count-lines.ensures in let u = c.loop-next.invariant.upto in omega arith
 
 pub loop-next-preserved : goal.loop-next-preserved
 loop-next-preserved c =
     let a = c.args in
     let l = c.loop-next in
-    let e = c.edge_count.ensures in
+    let e = c.edge_count-lines.ensures in
     let s = l.invariant.same in
     again a.minor a.keys a.batch.now a.out.now a.from l.invariant (omega arith) (omega arith) c.put_line-at.ensures
 
@@ -90,5 +90,5 @@ shape_of-out c = c.loop-next.invariant.same
 pub returns : goal.returns
 returns c =
     let h = c.loop-next.invariant in
-    let e = c.edge_count.ensures in
+    let e = c.edge_count-lines.ensures in
     record { more = omega arith; upto = h.upto; within = rw h.same h.within; lines = h.lines }

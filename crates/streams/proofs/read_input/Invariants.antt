@@ -1,12 +1,9 @@
 -- `streams::read_input` meets its contract.
-use mathlib.Core.Path.{◌≡◌}
-use Prim.Native.Nat.{◌-◌, ◌≤◌}
-use lib.ListN.{length}
-use borrow.Author.Rules.{rules}
+use Rattle.std.proofs.Common.{◌≡◌, ◌-◌, ◌≤◌, length}
 use Rattle.streams.proofs.read_input.Given as goal
 
 abbrev pub invariant-loop-at : goal.invariant-loop-at
-invariant-loop-at l = (l.input ≤ length l.initial.at) × (length l.initial.at ≡ length l.initial.input)
+invariant-loop-at g l = l.at ≤ length l.space
 
 abbrev pub decreases-loop-at : goal.decreases-loop-at
-decreases-loop-at l = length l.initial.input - l.input
+decreases-loop-at g l = length l.initial.space - l.at

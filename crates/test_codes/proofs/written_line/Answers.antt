@@ -10,12 +10,6 @@ use Rattle.test_codes.proofs.written_line.Goals as goal
 pub put_varint-n-requires : goal.put_varint-n-requires
 put_varint-n-requires c = omega (arith, var_bytes_length c.le64-x.result)
 
--- pub UNMATCHED-slice-aggregate-word : goal.UNMATCHED-slice-aggregate-word
--- UNMATCHED-slice-aggregate-word c = search rules
-
--- pub UNMATCHED-slice-aggregate-word-2 : goal.UNMATCHED-slice-aggregate-word-2
--- UNMATCHED-slice-aggregate-word-2 c = search rules
-
 pub slice_bounds-hex_bytes-end : goal.slice_bounds-hex_bytes-end
 slice_bounds-hex_bytes-end c =
     let n = var_bytes_length c.le64-x.result in
@@ -23,6 +17,3 @@ slice_bounds-hex_bytes-end c =
     let e = p.place in
     let s = simp length-sets at (ap length p.bytes) in
     omega arith
-
--- pub UNMATCHED-slice-aggregate-word-3 : goal.UNMATCHED-slice-aggregate-word-3
--- UNMATCHED-slice-aggregate-word-3 c = search rules

@@ -9,6 +9,3 @@ put_refused-n-requires c = let n = length_refused c.args.refusal in omega arith
 
 pub slice_bounds-word-end : goal.slice_bounds-word-end
 slice_bounds-word-end c = let n = length_refused c.args.refusal in let p = c.put_refused-n.ensures in let e = p.place in let s = put_length p in omega arith
-
--- pub UNMATCHED-slice-aggregate-word : goal.UNMATCHED-slice-aggregate-word
--- UNMATCHED-slice-aggregate-word c = search rules

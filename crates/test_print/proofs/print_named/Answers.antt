@@ -5,11 +5,5 @@ use Rattle.printing.specs.Printed.Laws.{small_enough}
 use borrow.Author.Rules.{rules}
 use Rattle.test_print.proofs.print_named.Goals as goal
 
--- pub UNMATCHED-slice-aggregate-line : goal.UNMATCHED-slice-aggregate-line
--- UNMATCHED-slice-aggregate-line c = search rules
-
--- pub UNMATCHED-slice-aggregate-word : goal.UNMATCHED-slice-aggregate-word
--- UNMATCHED-slice-aggregate-word c = search rules
-
 pub print_file-requires : goal.print_file-requires
 print_file-requires c = let p = c in (small_enough p.args.file.now (length p.args.room.now) p.requires.0 p.requires.1, omega arith)

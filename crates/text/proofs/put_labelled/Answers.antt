@@ -1,5 +1,4 @@
 -- `text::put_labelled` meets its contract.
-use borrow.Author.Rules.{rules}
 use Rattle.text.specs.Text.{decimal}
 use Rattle.text.specs.Text.Laws.{first, next, both}
 use Rattle.text.proofs.put_labelled.Goals as goal

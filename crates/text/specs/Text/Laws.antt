@@ -66,6 +66,8 @@ copied o w ys at h e =
 -- the fewest digits that hold a number are its decimal text
 pub digits_decimal : (k most n : ℕ) → suc k ≤ most → n < 10 ^ suc k → (0 < k → 10 ^ k ≤ n) → last_digits 10 (suc k) n ≡ decimal_in most n
 unfolding decimal_in
+digits_decimal zero zero n f h l = absurd (omega arith)
+digits_decimal (suc k) zero n f h l = absurd (omega arith)
 digits_decimal zero (suc most) n f h l = simp (lt-ltb n 10 h, mod-eq_of_lt {n = n} {m = 10} h)
 digits_decimal (suc k) (suc most) n f h l =
     let ten : 10 ^ 1 ≤ 10 ^ suc k = pow-le-pow_right (zero-lt-suc 9) {i = 1} {j = suc k} (omega arith) in
