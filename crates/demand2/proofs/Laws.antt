@@ -1,3 +1,4 @@
+pub mod Below
 pub mod Answered
 pub mod Cases
 pub mod Contents

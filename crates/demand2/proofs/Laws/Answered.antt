@@ -17,19 +17,11 @@ use Rattle.batch.specs.declared.Edge.{Edge}
 use Rattle.batch_groups.specs.Groups.{none, Group, IdFits, Grouped}
 use Rattle.write_image.specs.Image.{key_bytes}
 use Rattle.agreement.specs.SameEdges.{Says}
+use Rattle.demand2.proofs.Laws.Below.{none_below}
 use Rattle.demand2.proofs.Laws.Contents.{group_key}
 use Rattle.demand2.specs.Answers.{index_in, comparisons_in, outcome_by, PlaceTold}
 
 -- ---- the index
-
--- keys that are not below k
-none_below : (k floor : ℕ) (gs : List Group) → Grouped floor gs → k ≤ floor → index_in k gs ≡ 0
-unfolding index_in Grouped
-none_below k floor [] o h = refl
-none_below k floor (g ∷ gs) o h =
-    let low = o.0 in
-    let rest = none_below k (suc (id_number g.key)) gs o.4 (omega arith) in
-    ap₂ (λ (b : Bool) (n : ℕ). pick b 1 0 + n) (le-ltb (id_number g.key) k (omega arith)) rest
 
 abbrev past : Group
 past = record { key = none.key; edges = [] }
