@@ -6,7 +6,7 @@ use Rattle.codes.specs.Ids.{be_at, halves_at}
 use Rattle.refusal.specs.declared.Check.{Check}
 use Rattle.frame.specs.declared.ends.Header.{Header}
 use Rattle.frame.specs.Frame.{record_from, record_of, body_of}
-use Rattle.frame.proofs.Laws.Cases.{ids, one_edge, headers}
+use Rattle.frame.proofs.Laws.Cases.{one_edge, headers}
 use Rattle.batch.specs.Batch.{edge_at, edges_at, edges_of}
 use Rattle.readout.specs.ReadOut.{batch_in}
 use Rattle.readout.specs.Cases.{cases_pass, damaged, read}

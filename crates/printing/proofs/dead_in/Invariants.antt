@@ -1,15 +1,8 @@
 -- `printing::dead_in` meets its contract. Invariant: the dead so far and those of the edges that are left are all of them.
-use mathlib.Core.Path.{◌≡◌, ap, ◌∙◌}
-use Prim.Native.Nat.{ℕ, suc, ◌+◌, ◌-◌, ◌≤◌}
-use native.Mathlib.Nat.{zero-add, sub-zero}
-use native.Mathlib.Omega.{arith}
-use mathlib.Core.Bool.{Bool, true, false}
-use Rattle.base.specs.Pick.{pick}
-use Rattle.batch.specs.declared.Edge.{Edge}
-use Rattle.batch.specs.Batch.{edge_at, edges_at, edges_of, place}
+use mathlib.Core.Path.{◌≡◌}
+use Prim.Native.Nat.{◌+◌, ◌-◌, ◌≤◌}
+use Rattle.batch.specs.Batch.{edges_at, edges_of}
 use Rattle.printing.specs.Printed.{dead_in}
-use Rattle.printing.specs.Printed.Laws.{dead_more, dead_none, dead_all}
-use borrow.Author.Rules.{rules}
 use Rattle.printing.proofs.dead_in.Given as goal
 
 abbrev pub invariant-loop-k : goal.invariant-loop-k

@@ -1,11 +1,8 @@
 -- `printing::print_batch` meets its contract: each page is a part of what is printed, and the next goes on where it ended.
-use mathlib.Core.Path.{◌≡◌, refl, ◌∙◌}
-use Prim.Native.Nat.{◌-◌, ◌≤◌}
+use mathlib.Core.Path.{refl, ◌∙◌}
 use native.Mathlib.Omega.{arith}
-use lib.ListN.{length}
 use Rattle.text.specs.Text.Laws.{put_length, put_front}
 use Rattle.printing.specs.Printed.Laws.{lines_part, passed_printed, passed_heading, passed_size, part_of}
-use borrow.Author.Rules.{rules}
 use Rattle.printing.proofs.print_batch.Goals as goal
 
 pub byte-minor-requires : goal.byte-minor-requires

@@ -1,7 +1,6 @@
 -- `printing::put_id_text` meets its contract.
 use Rattle.text.specs.Text.{hex}
 use Rattle.text.specs.Text.Laws.{first, next, both}
-use borrow.Author.Rules.{rules}
 use Rattle.printing.proofs.put_id_text.Goals as goal
 
 pub put_hex-mid-requires : goal.put_hex-mid-requires

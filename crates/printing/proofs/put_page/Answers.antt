@@ -1,6 +1,6 @@
 -- `printing::put_page` meets its contract. Invariant: the lines before `next` are put, and none takes more than its room.
 use mathlib.Core.Path.{◌≡◌, refl, sym, ap, ◌∙◌}
-use Prim.Native.Nat.{ℕ, suc, ◌+◌, ◌-◌, ◌*◌, ◌≤◌, ◌<◌}
+use Prim.Native.Nat.{ℕ, suc, ◌+◌, ◌-◌, ◌≤◌, ◌<◌}
 use native.Mathlib.Omega.{arith}
 use mathlib.Core.List.{List, ◌++◌}
 use lib.ListN.{length}
@@ -8,7 +8,6 @@ use Rattle.base.specs.Put.{Put}
 use Rattle.text.specs.Text.Laws.{is, both, put_length, put_none}
 use Rattle.printing.specs.Printed.{line_at, lines_from, line_room, line_count}
 use Rattle.printing.specs.Printed.Laws.{line_room_lem, lines_none, lines_more}
-use borrow.Author.Rules.{rules}
 use Rattle.printing.proofs.put_page.Goals as goal
 use Rattle.printing.proofs.put_page.Invariants.{Head}
 

@@ -1,14 +1,10 @@
 -- `printing::put_page` meets its contract. Invariant: the lines before `next` are put, and none takes more than its room.
-use mathlib.Core.Path.{◌≡◌, refl, sym, ap, ◌∙◌}
-use Prim.Native.Nat.{ℕ, suc, ◌+◌, ◌-◌, ◌*◌, ◌≤◌, ◌<◌}
-use native.Mathlib.Omega.{arith}
-use mathlib.Core.List.{List, ◌++◌}
+use mathlib.Core.Path.{◌≡◌}
+use Prim.Native.Nat.{ℕ, ◌-◌, ◌*◌, ◌≤◌}
+use mathlib.Core.List.{List}
 use lib.ListN.{length}
 use Rattle.base.specs.Put.{Put}
-use Rattle.text.specs.Text.Laws.{is, both, put_length, put_none}
-use Rattle.printing.specs.Printed.{line_at, lines_from, line_room, line_count}
-use Rattle.printing.specs.Printed.Laws.{line_room_lem, lines_none, lines_more}
-use borrow.Author.Rules.{rules}
+use Rattle.printing.specs.Printed.{lines_from, line_room, line_count}
 use Rattle.printing.proofs.put_page.Given as goal
 
 pub record Head (minor keys : ℕ) (s o : List ℕ) (from : ℕ) (out : List ℕ) (next at : ℕ) : Type 0 where

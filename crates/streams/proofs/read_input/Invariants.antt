@@ -1,5 +1,5 @@
 -- `streams::read_input` meets its contract.
-use Rattle.std.proofs.Common.{◌≡◌, ◌-◌, ◌≤◌, length}
+use Rattle.std.proofs.Common.{◌-◌, ◌≤◌, length}
 use Rattle.streams.proofs.read_input.Given as goal
 
 abbrev pub invariant-loop-at : goal.invariant-loop-at

@@ -1,7 +1,6 @@
 -- `test_codes::records` meets its contract.
 use Prim.Native.Nat.{◌-◌, ◌≤◌}
 use lib.ListN.{length}
-use borrow.Author.Rules.{rules}
 use Rattle.test_codes.proofs.records.Given as goal
 
 abbrev pub invariant-loop-at : goal.invariant-loop-at

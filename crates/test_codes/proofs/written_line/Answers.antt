@@ -4,7 +4,6 @@ use native.Mathlib.Omega.{arith}
 use lib.ListN.{length}
 use lib.Seq.{length-sets}
 use Rattle.codes.specs.Varint.Laws.{var_bytes_length}
-use borrow.Author.Rules.{rules}
 use Rattle.test_codes.proofs.written_line.Goals as goal
 
 pub put_varint-n-requires : goal.put_varint-n-requires

@@ -1,8 +1,5 @@
 -- `test_corpus::family` meets its contract.
-use Prim.Native.Nat.{◌-◌, ◌^◌, ◌≤◌, ◌<◌}
-use mathlib.Core.Path.{◌≡◌}
-use lib.ListN.{length, length-set}
-use borrow.Author.Rules.{rules}
+use lib.ListN.{length-set}
 use native.Mathlib.Omega.{arith}
 use Rattle.test_corpus.proofs.family.Goals as goal
 

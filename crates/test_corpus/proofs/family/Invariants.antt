@@ -1,9 +1,7 @@
 -- `test_corpus::family` meets its contract.
 use Prim.Native.Nat.{◌-◌, ◌^◌, ◌≤◌, ◌<◌}
 use mathlib.Core.Path.{◌≡◌}
-use lib.ListN.{length, length-set}
-use borrow.Author.Rules.{rules}
-use native.Mathlib.Omega.{arith}
+use lib.ListN.{length}
 use Rattle.test_corpus.proofs.family.Given as goal
 
 abbrev pub invariant-loop-i : goal.invariant-loop-i

@@ -1,7 +1,6 @@
 -- `test_corpus::hex_bytes` meets its contract.
 use Prim.Native.Nat.{◌-◌, ◌≤◌}
 use lib.ListN.{length}
-use borrow.Author.Rules.{rules}
 use Rattle.test_corpus.proofs.hex_bytes.Given as goal
 
 abbrev pub invariant-loop-i : goal.invariant-loop-i

@@ -1,8 +1,5 @@
 -- `test_corpus::pattern` meets its contract.
-use Prim.Native.Nat.{◌-◌, ◌≤◌, ◌<◌}
-use lib.ListN.{length, length-set}
-use mathlib.Core.Path.{◌≡◌}
-use borrow.Author.Rules.{rules}
+use lib.ListN.{length-set}
 use native.Mathlib.Omega.{arith}
 use Rattle.test_corpus.proofs.pattern.Goals as goal
 

@@ -1,9 +1,7 @@
 -- `test_corpus::pattern` meets its contract.
 use Prim.Native.Nat.{◌-◌, ◌≤◌, ◌<◌}
-use lib.ListN.{length, length-set}
+use lib.ListN.{length}
 use mathlib.Core.Path.{◌≡◌}
-use borrow.Author.Rules.{rules}
-use native.Mathlib.Omega.{arith}
 use Rattle.test_corpus.proofs.pattern.Given as goal
 
 abbrev pub invariant-loop-i : goal.invariant-loop-i

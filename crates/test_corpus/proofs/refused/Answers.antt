@@ -1,7 +1,6 @@
 -- `test_corpus::refused` meets its contract.
 use native.Mathlib.Omega.{arith}
 use Rattle.text.specs.Text.Laws.{put_length, length_refused}
-use borrow.Author.Rules.{rules}
 use Rattle.test_corpus.proofs.refused.Goals as goal
 
 pub put_refused-n-requires : goal.put_refused-n-requires

@@ -1,6 +1,5 @@
 -- `test_list::left_of` meets its contract.
 use Prim.Native.Nat.{◌-◌, ◌≤◌}
-use borrow.Author.Rules.{rules}
 use Rattle.test_list.proofs.left_of.Given as goal
 
 abbrev pub invariant-loop-i : goal.invariant-loop-i

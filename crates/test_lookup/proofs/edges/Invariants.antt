@@ -1,5 +1,5 @@
 -- `test_lookup::edges` meets its contract.
-use Rattle.std.proofs.Common.{◌-◌, ◌≤◌, rules}
+use Rattle.std.proofs.Common.{◌-◌, ◌≤◌}
 use Rattle.test_lookup.proofs.edges.Given as goal
 
 abbrev pub invariant-loop-j : goal.invariant-loop-j

@@ -1,5 +1,5 @@
 -- `test_lookup::items` meets its contract.
-use Rattle.std.proofs.Common.{◌≡◌, length, rules}
+use Rattle.std.proofs.Common.{◌≡◌, length}
 use Rattle.test_lookup.proofs.items.Given as goal
 
 abbrev pub invariant-loop-left : goal.invariant-loop-left

@@ -1,5 +1,5 @@
 -- `test_lookup::pattern_marks` meets its contract.
-use Rattle.std.proofs.Common.{◌≡◌, ◌-◌, ◌≤◌, length, arith, length-set, rules}
+use Rattle.std.proofs.Common.{arith, length-set}
 use Rattle.test_lookup.proofs.pattern_marks.Goals as goal
 
 pub loop-i-preserved : goal.loop-i-preserved

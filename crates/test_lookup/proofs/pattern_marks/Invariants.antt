@@ -1,5 +1,5 @@
 -- `test_lookup::pattern_marks` meets its contract.
-use Rattle.std.proofs.Common.{◌≡◌, ◌-◌, ◌≤◌, length, arith, length-set, rules}
+use Rattle.std.proofs.Common.{◌≡◌, ◌-◌, ◌≤◌, length}
 use Rattle.test_lookup.proofs.pattern_marks.Given as goal
 
 abbrev pub invariant-loop-i : goal.invariant-loop-i

@@ -1,5 +1,5 @@
 -- `test_lookup::put_logs` meets its contract.
-use Rattle.std.proofs.Common.{◌≡◌, ◌-◌, ◌≤◌, length, rules}
+use Rattle.std.proofs.Common.{◌≡◌, ◌-◌, ◌≤◌, length}
 use Rattle.test_lookup.proofs.put_logs.Given as goal
 
 abbrev pub invariant-loop-i : goal.invariant-loop-i

@@ -1,7 +1,6 @@
 -- `test_opening::corpus` meets its contract.
 use mathlib.Core.Path.{◌≡◌}
 use lib.ListN.{length}
-use borrow.Author.Rules.{rules}
 use Rattle.test_opening.proofs.corpus.Given as goal
 
 abbrev pub invariant-loop-left : goal.invariant-loop-left

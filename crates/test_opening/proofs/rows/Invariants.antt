@@ -1,6 +1,5 @@
 -- `test_opening::rows` meets its contract.
 use Prim.Native.Nat.{◌-◌, ◌≤◌}
-use borrow.Author.Rules.{rules}
 use Rattle.test_opening.proofs.rows.Given as goal
 
 abbrev pub invariant-loop-i : goal.invariant-loop-i

@@ -1,6 +1,5 @@
 -- `test_print::main` meets its contract.
 use native.Mathlib.Omega.{arith}
-use borrow.Author.Rules.{rules}
 use Rattle.test_print.proofs.main.Goals as goal
 
 pub corpus-requires : goal.corpus-requires

@@ -2,7 +2,6 @@
 use native.Mathlib.Omega.{arith}
 use lib.ListN.{length}
 use Rattle.printing.specs.Printed.Laws.{small_enough}
-use borrow.Author.Rules.{rules}
 use Rattle.test_print.proofs.print_named.Goals as goal
 
 pub print_file-requires : goal.print_file-requires

@@ -1,6 +1,5 @@
 use Prim.Native.Nat.{◌-◌, ◌≤◌}
 use lib.ListN.{length}
-use borrow.Author.Rules.{rules}
 use Rattle.test_running.proofs.cut_lines.Given as goal
 
 abbrev pub invariant-loop-cut : goal.invariant-loop-cut

@@ -1,5 +1,4 @@
 use Prim.Native.Nat.{◌+◌, ◌-◌, ◌<◌}
-use borrow.Author.Rules.{rules}
 use Rattle.test_running.proofs.size_lines.Given as goal
 
 abbrev pub invariant-loop-size : goal.invariant-loop-size

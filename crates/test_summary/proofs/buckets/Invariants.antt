@@ -1,6 +1,5 @@
 -- `test_summary::buckets` meets its contract.
 use Prim.Native.Nat.{◌-◌, ◌≤◌}
-use borrow.Author.Rules.{rules}
 use Rattle.test_summary.proofs.buckets.Given as goal
 
 abbrev pub invariant-loop-i : goal.invariant-loop-i

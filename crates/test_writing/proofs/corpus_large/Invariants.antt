@@ -1,7 +1,6 @@
 -- `test_writing::corpus_large` meets its contract.
 use mathlib.Core.Path.{◌≡◌}
 use lib.ListN.{length}
-use borrow.Author.Rules.{rules}
 use Rattle.test_writing.proofs.corpus_large.Given as goal
 
 abbrev pub invariant-loop-left : goal.invariant-loop-left

@@ -1,6 +1,5 @@
 -- `test_xxh3::short_lines` meets its contract.
 use Prim.Native.Nat.{◌-◌, ◌≤◌}
-use borrow.Author.Rules.{rules}
 use Rattle.test_xxh3.proofs.short_lines.Given as goal
 
 abbrev pub invariant-loop-n : goal.invariant-loop-n
