@@ -10,7 +10,6 @@ use Rattle.batch.specs.Batch.{edge_at, edges_of, record_count, place}
 use Rattle.full_check.specs.Full.{full_check}
 use Rattle.readout.specs.ReadOut.{batch_in, needed_for}
 use Rattle.text.specs.Text.{decimal, hex, refused_text}
-pub mod Laws
 
 -- ---- the line of an edge: key, partner, log number, live or dead
 

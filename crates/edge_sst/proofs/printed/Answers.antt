@@ -1,6 +1,6 @@
 -- `edge_sst::printed` meets its contract: the room is enough for the batch of a small file.
 use native.Mathlib.Omega.{arith}
-use Rattle.printing.specs.Printed.Laws.{small_enough}
+use Rattle.printing.proofs.Laws.Printed.{small_enough}
 use Rattle.edge_sst.proofs.printed.Goals as goal
 
 pub print_file-requires : goal.print_file-requires

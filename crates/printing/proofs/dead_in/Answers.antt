@@ -8,7 +8,7 @@ use Rattle.base.specs.Pick.{pick}
 use Rattle.batch.specs.declared.Edge.{Edge}
 use Rattle.batch.specs.Batch.{edge_at, edges_at, edges_of, place}
 use Rattle.printing.specs.Printed.{dead_in}
-use Rattle.printing.specs.Printed.Laws.{dead_more, dead_none, dead_all}
+use Rattle.printing.proofs.Laws.Printed.{dead_more, dead_none, dead_all}
 use Rattle.printing.proofs.dead_in.Goals as goal
 
 at_most_one : (b : Bool) → pick b 1 0 ≤ 1

@@ -2,7 +2,7 @@
 use mathlib.Core.Path.{refl, ◌∙◌}
 use native.Mathlib.Omega.{arith}
 use Rattle.text.specs.Text.Laws.{put_length, put_front}
-use Rattle.printing.specs.Printed.Laws.{lines_part, passed_printed, passed_heading, passed_size, part_of}
+use Rattle.printing.proofs.Laws.Printed.{lines_part, passed_printed, passed_heading, passed_size, part_of}
 use Rattle.printing.proofs.print_batch.Goals as goal
 
 pub byte-minor-requires : goal.byte-minor-requires

@@ -3,7 +3,7 @@ use Rattle.std.proofs.Common.{◌≤◌, ◌++◌, length, arith}
 use Rattle.text.specs.Text.{refused_text}
 use Rattle.text.specs.Text.Laws.{both, put_length, put_front, length_refused}
 use Rattle.printing.specs.Printed.{newline}
-use Rattle.printing.specs.Printed.Laws.{refused_printed, part_of, part_all}
+use Rattle.printing.proofs.Laws.Printed.{refused_printed, part_of, part_all}
 use Rattle.printing.proofs.print_refusal.Goals as goal
 
 pub put_refused-mid-requires : goal.put_refused-mid-requires

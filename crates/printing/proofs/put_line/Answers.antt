@@ -2,7 +2,7 @@
 use Rattle.std.proofs.Common.{◌≡◌, suc, ◌-◌, sym, ap, ◌∙◌, arith}
 use Rattle.text.specs.Text.Laws.{is}
 use Rattle.printing.specs.Printed.{first_line, edge_line, ok_line, line_at}
-use Rattle.printing.specs.Printed.Laws.{first_room, edge_room, line_first, line_edge, line_ok}
+use Rattle.printing.proofs.Laws.Printed.{first_room, edge_room, line_first, line_edge, line_ok}
 use Rattle.printing.proofs.put_line.Goals as goal
 
 pub put_first_line-requires : goal.put_first_line-requires

@@ -7,7 +7,7 @@ use lib.ListN.{length}
 use Rattle.base.specs.Put.{Put}
 use Rattle.text.specs.Text.Laws.{is, both, put_length, put_none}
 use Rattle.printing.specs.Printed.{line_at, lines_from, line_room, line_count}
-use Rattle.printing.specs.Printed.Laws.{line_room_lem, lines_none, lines_more}
+use Rattle.printing.proofs.Laws.Printed.{line_room_lem, lines_none, lines_more}
 use Rattle.printing.proofs.put_page.Goals as goal
 use Rattle.printing.proofs.put_page.Invariants.{Head}
 

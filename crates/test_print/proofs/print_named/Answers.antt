@@ -1,7 +1,7 @@
 -- `test_print::print_named` meets its contract: the room is enough for the batch of a small file.
 use native.Mathlib.Omega.{arith}
 use lib.ListN.{length}
-use Rattle.printing.specs.Printed.Laws.{small_enough}
+use Rattle.printing.proofs.Laws.Printed.{small_enough}
 use Rattle.test_print.proofs.print_named.Goals as goal
 
 pub print_file-requires : goal.print_file-requires
