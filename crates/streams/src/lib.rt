@@ -1,4 +1,4 @@
-// A program's standard input, output and error. The kit gives a program no exit status: what failed it says on standard error.
+// A program's standard input, output and error. The programs here end with status 0 in any case: what failed they say on standard error.
 #![tactic(auto)]
 
 ghost use Rattle.std.specs.Prelude.{◌+◌, ◌≤◌, length};
