@@ -1,15 +1,14 @@
 -- A batch: "One byte of kind, then a body whose length the kind fixes. Kind 3, first and once: direction byte 0 or 1
 -- (another is 24), three ids (50 bytes in all). Kind 1 live and kind 2 dead edge: key, partner, log number u64 (41 bytes in
 -- all). Edges strictly increase by key, then partner."
-use Rattle.std.specs.Prelude.{ℕ, zero, suc, ◌+◌, ◌-◌, ◌*◌, ◌/◌, List, [], ◌∷◌, ◌++◌, Bool, true, ◌&&◌, ◌||◌, length, get_or, ltb, leb, eqb}
+use Rattle.std.specs.Prelude.{ℕ, zero, suc, ◌+◌, ◌-◌, ◌*◌, ◌/◌, List, [], ◌∷◌, ◌++◌, Bool, true, ◌&&◌, ◌||◌, length, get_or, ltb, leb, eqb, Ok, Err}
 use Rattle.base.specs.Pick.{pick}
 use Rattle.base.specs.Over.{part}
 use Rattle.codes.specs.declared.ids.Id.{Id}
 use Rattle.codes.specs.Little.{le_at, le_bytes}
 use Rattle.codes.specs.Ids.{halves_at, id_number, id_bytes}
 use Rattle.refusal.specs.declared.Refusal.{Refusal}
-use Rattle.refusal.specs.declared.Check.{Check}
-use Rattle.refusal.specs.Check.{◌⊳◌, refuse}
+use Rattle.refusal.specs.Check.{◌⊳◌, refuse, Check}
 use Rattle.batch.specs.declared.Edge.{Edge}
 pub mod Laws
 
@@ -102,15 +101,15 @@ is_edge kind = eqb kind 1 || eqb kind 2
 
 -- d whole records from edge e on, and what lies after them
 unfoldable pub fault_from : ℕ → List ℕ → ℕ → Check
-fault_from zero s e = pick (eqb (place e) (length s)) Check.Fine (Check.Bad (Refusal.Batch (place e)))
+fault_from zero s e = pick (eqb (place e) (length s)) (Ok tt) (Err (Refusal.Batch (place e)))
 fault_from (suc d) s e =
     pick (is_edge (get_or s (place e) 0))
-    (pick (in_order s e) (fault_from d s (e + 1)) (Check.Bad (Refusal.Unordered (place e))))
-    (Check.Bad (Refusal.Batch (place e)))
+    (pick (in_order s e) (fault_from d s (e + 1)) (Err (Refusal.Unordered (place e))))
+    (Err (Refusal.Batch (place e)))
 
 -- a whole heading of direction 0 or 1 stands first
 unfoldable pub headed : List ℕ → Bool
 headed s = leb heading_size (length s) && (eqb (get_or s 0 0) 3 && leb (get_or s 1 0) 1)
 
 unfoldable pub batch_check : List ℕ → Check
-batch_check s = pick (headed s) (fault_from (record_count s) s 0) (Check.Bad (Refusal.Batch 0))
+batch_check s = pick (headed s) (fault_from (record_count s) s 0) (Err (Refusal.Batch 0))

@@ -7,7 +7,7 @@ ghost use Rattle.base.specs.Pick.{pick};
 ghost use Rattle.batch.specs.Batch.{record_size, kind_of, edge_at, edge_bytes};
 
 use codes::ids::{Id, id_at, put_id};
-use codes::little::{le64, put_le};
+use codes::little::{le, put_le};
 
 // An edge: a key, one of its partners, since when (its log number), and whether it is dead.
 #[derive(Drop)]
@@ -45,10 +45,7 @@ impl Edge {
 fn kind_of(dead: bool) -> u8
     ensures { result ≡ kind_of dead }
 {
-    if dead {
-        return Edge::DEAD;
-    }
-    Edge::LIVE
+    if dead { Edge::DEAD } else { Edge::LIVE }
 }
 
 // The edge in the record at i.
@@ -58,7 +55,7 @@ pub fn edge_at(s: &[u8], i: usize) -> Edge
 {
     let key = id_at(s, i + Edge::KEY);
     let partner = id_at(s, i + Edge::PARTNER);
-    let log = le64(s, i + Edge::LOG);
+    let log = le::<8>(s, i + Edge::LOG);
     let dead = s[i] == Edge::DEAD;
     Edge {
         key,
@@ -73,10 +70,8 @@ pub fn put_edge(out: &mut [u8], at: usize, e: Edge)
     requires { at + record_size ≤ length out.old }
     ensures { out.new ≡ sets out.old at (edge_bytes e) }
 {
-    let key = e.key;
-    let partner = e.partner;
     out[at] = kind_of(e.dead);
-    put_id(out, at + Edge::KEY, key);
-    put_id(out, at + Edge::PARTNER, partner);
+    put_id(out, at + Edge::KEY, e.key);
+    put_id(out, at + Edge::PARTNER, e.partner);
     put_le(out, at + Edge::LOG, Edge::LOG_SIZE, e.log);
 }

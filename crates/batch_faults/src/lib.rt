@@ -2,15 +2,16 @@
 // the way.
 #![tactic(auto)]
 
-ghost use Rattle.std.specs.Prelude.{◌≡◌, ◌+◌, ◌*◌, ◌≤◌, length, ◌||◌, eqb};
+ghost use Rattle.std.specs.Prelude.{◌≡◌, ◌+◌, ◌*◌, ◌≤◌, length, ◌||◌, eqb, Err};
 ghost use Rattle.refusal.specs.declared.Refusal.{Refusal};
 ghost use Rattle.batch.specs.Batch.{record_size, place, edge_at, edges_at, is_edge, fault_from};
 ghost use Rattle.batch_faults.specs.declared.Tally.{Tally};
 ghost use Rattle.batch_faults.specs.Tally.{follow_by, follow_at, tally_by, tally_of};
 
 use batch::Edge;
-use codes::ids::{Order, compare, id_at};
+use codes::ids::{compare, id_at};
 use refusal::Refusal;
+use std::cmp::Ordering;
 
 // How an edge follows the one before: with a new key, with the same key, or wrongly, as it is not above it.
 #[derive(Drop)]
@@ -20,11 +21,11 @@ pub enum Follow {
     Wrong,
 }
 
-// What the check of a batch tells: its first fault, or how many keys it has and whether an edge is dead.
-#[derive(Drop)]
-pub enum Tally {
-    Fine { keys: usize, dead: bool },
-    Bad { refusal: Refusal },
+// What the check of a good batch tells: how many keys it has, and whether an edge is dead.
+#[derive(Clone, Copy, Debug, PartialEq, Eq)]
+pub struct Tally {
+    pub keys: usize,
+    pub dead: bool,
 }
 
 // How the edge in the record at j follows the one at i, by key, then partner. What else the records hold is not read.
@@ -33,12 +34,12 @@ fn follow_by(s: &[u8], i: usize, j: usize) -> Follow
     ensures { result ≡ follow_by (edge_at s.now i) (edge_at s.now j) }
 {
     match compare(id_at(s, i + Edge::KEY), id_at(s, j + Edge::KEY)) {
-        Order::Less => Follow::New,
-        Order::Greater => Follow::Wrong,
-        Order::Equal => match compare(id_at(s, i + Edge::PARTNER), id_at(s, j + Edge::PARTNER)) {
-            Order::Less => Follow::Same,
-            Order::Equal => Follow::Wrong,
-            Order::Greater => Follow::Wrong,
+        Ordering::Less => Follow::New,
+        Ordering::Greater => Follow::Wrong,
+        Ordering::Equal => match compare(id_at(s, i + Edge::PARTNER), id_at(s, j + Edge::PARTNER)) {
+            Ordering::Less => Follow::Same,
+            Ordering::Equal => Follow::Wrong,
+            Ordering::Greater => Follow::Wrong,
         },
     }
 }
@@ -61,30 +62,20 @@ fn is_edge(kind: u8) -> bool
     kind == Edge::LIVE || kind == Edge::DEAD
 }
 
-// Is a record of this kind dead, or was one before it?
-fn dead_too(dead: bool, kind: u8) -> bool
-    ensures { result ≡ (dead || eqb kind 2) }
+fn batch_fault(at: usize) -> Result<Tally, Refusal>
+    ensures { result ≡ Err (Refusal.Batch at) }
 {
-    dead || kind == Edge::DEAD
-}
-
-fn batch_fault(at: usize) -> Tally
-    ensures { result ≡ Tally.Bad (Refusal.Batch at) }
-{
-    Tally::Bad {
-        refusal: Refusal::Batch { at: at as u64 },
-    }
+    Err(Refusal::Batch { at: at as u64 })
 }
 
 // The first fault of n whole records, and of what lies after them; the keys and the dead are counted on the way.
-fn tally_records(s: &[u8], n: usize) -> Tally
+fn tally_records(s: &[u8], n: usize) -> Result<Tally, Refusal>
     requires { place n ≤ length s.now }
     ensures { result ≡ tally_by (fault_from n s.now 0) (edges_at n s.now 0) }
 {
-    let mut e: usize = 0;
     let mut keys: usize = 0;
     let mut dead = false;
-    while e < n {
+    for e in 0..n {
         let i = Edge::HEAD + Edge::RECORD * e;
         let kind = s[i];
         if !is_edge(kind) {
@@ -92,27 +83,24 @@ fn tally_records(s: &[u8], n: usize) -> Tally
         }
         match follow_at(s, e) {
             Follow::Wrong => {
-                return Tally::Bad {
-                    refusal: Refusal::Unordered { at: i as u64 },
-                };
+                return Err(Refusal::Unordered { at: i as u64 });
             }
             Follow::New => {
-                keys = keys + 1;
+                keys += 1;
             }
             Follow::Same => {}
         }
-        dead = dead_too(dead, kind);
-        e = e + 1;
+        dead |= kind == Edge::DEAD;
     }
     let end = Edge::HEAD + Edge::RECORD * n;
     if end != s.len() {
         return batch_fault(end);
     }
-    Tally::Fine { keys, dead }
+    Ok(Tally { keys, dead })
 }
 
 // The first fault of a batch, or its keys and whether an edge is dead.
-pub fn check_batch(s: &[u8]) -> Tally
+pub fn check_batch(s: &[u8]) -> Result<Tally, Refusal>
     ensures { result ≡ tally_of s.now }
 {
     if s.len() < Edge::HEAD {

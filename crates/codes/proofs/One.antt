@@ -2,21 +2,14 @@
 use mathlib.Core.Path.{refl, sym, ◌∙◌, ap}
 use mathlib.Core.List.{List}
 use Prim.Native.Nat.{ℕ}
+use denote.Param.{number}
+use mir.Syntax.{w64}
+use mir.Val.{Fits}
 use Rattle.base.proofs.Determined.{Determined}
 use Rattle.codes.specs.contracts.little.byte as byte
 use Rattle.codes.proofs.little.byte.Reads as byte_reads
-use Rattle.codes.specs.contracts.little.le16 as le16
-use Rattle.codes.proofs.little.le16.Reads as le16_reads
-use Rattle.codes.specs.contracts.little.le24 as le24
-use Rattle.codes.proofs.little.le24.Reads as le24_reads
-use Rattle.codes.specs.contracts.little.le32 as le32
-use Rattle.codes.proofs.little.le32.Reads as le32_reads
-use Rattle.codes.specs.contracts.little.le40 as le40
-use Rattle.codes.proofs.little.le40.Reads as le40_reads
-use Rattle.codes.specs.contracts.little.le48 as le48
-use Rattle.codes.proofs.little.le48.Reads as le48_reads
-use Rattle.codes.specs.contracts.little.le64 as le64
-use Rattle.codes.proofs.little.le64.Reads as le64_reads
+use Rattle.codes.specs.contracts.little.le as le
+use Rattle.codes.proofs.little.le.Reads as le_reads
 use Rattle.codes.specs.contracts.little.put_le as put_le
 use Rattle.codes.proofs.little.put_le.Reads as put_le_reads
 use Rattle.codes.specs.contracts.ids.be64 as be64
@@ -47,23 +40,9 @@ use Rattle.codes.proofs.varint.put_varint.Reads as put_varint_reads
 pub byte_determined : Determined byte.ended byte_reads.Pre byte_reads.Post
 byte_determined κs a pre r₁ r₂ w₁ w₂ p q = (p.0 ∙ sym q.0, refl)
 
-pub le16_determined : Determined le16.ended le16_reads.Pre le16_reads.Post
-le16_determined κs a pre r₁ r₂ w₁ w₂ p q = (p.0 ∙ sym q.0, refl)
-
-pub le24_determined : Determined le24.ended le24_reads.Pre le24_reads.Post
-le24_determined κs a pre r₁ r₂ w₁ w₂ p q = (p.0 ∙ sym q.0, refl)
-
-pub le32_determined : Determined le32.ended le32_reads.Pre le32_reads.Post
-le32_determined κs a pre r₁ r₂ w₁ w₂ p q = (p.0 ∙ sym q.0, refl)
-
-pub le40_determined : Determined le40.ended le40_reads.Pre le40_reads.Post
-le40_determined κs a pre r₁ r₂ w₁ w₂ p q = (p.0 ∙ sym q.0, refl)
-
-pub le48_determined : Determined le48.ended le48_reads.Pre le48_reads.Post
-le48_determined κs a pre r₁ r₂ w₁ w₂ p q = (p.0 ∙ sym q.0, refl)
-
-pub le64_determined : Determined le64.ended le64_reads.Pre le64_reads.Post
-le64_determined κs a pre r₁ r₂ w₁ w₂ p q = (p ∙ sym q, refl)
+-- of each width
+pub le_determined : (N : ℕ) (fits : Fits w64 N) → Determined (le.ended (number N)) (le_reads.Pre N fits) (le_reads.Post N fits)
+le_determined N fits κs a pre r₁ r₂ w₁ w₂ p q = (p.0 ∙ sym q.0, refl)
 
 pub put_le_determined : Determined put_le.ended put_le_reads.Pre put_le_reads.Post
 put_le_determined κs a pre r₁ r₂ w₁ w₂ p q = (refl, ap (λ (l : List ℕ). (l, (tt {0}, (tt {0}, (tt {0}, tt {0}))))) (p ∙ sym q))

@@ -1,7 +1,7 @@
 -- Ids of 16 bytes. An id compares as 16 bytes from the first, that is, as one big-endian number.
 use Rattle.std.specs.Prelude.{ℕ, zero, suc, ◌+◌, ◌*◌, ◌/◌, ◌%◌, ◌^◌, List, [], ◌∷◌, ◌++◌, get_or, ltb}
 use Rattle.base.specs.Pick.{pick}
-use Rattle.codes.specs.declared.ids.Order.{Order}
+use Rattle.std.specs.declared.cmp.Ordering.{Ordering}
 use Rattle.codes.specs.declared.ids.Id.{Id}
 pub mod Laws
 
@@ -37,5 +37,5 @@ unfoldable pub id_bytes : Id → List ℕ
 id_bytes d = be_bytes 8 d.hi ++ be_bytes 8 d.lo
 
 -- m against n
-unfoldable pub order : ℕ → ℕ → Order
-order m n = pick (ltb m n) Order.Less (pick (ltb n m) Order.Greater Order.Equal)
+unfoldable pub order : ℕ → ℕ → Ordering
+order m n = pick (ltb m n) Ordering.Less (pick (ltb n m) Ordering.Greater Ordering.Equal)

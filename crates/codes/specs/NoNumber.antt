@@ -1,5 +1,5 @@
 -- Why a varint is no number, in the documents' words: cut, not the shortest, too large, each told exactly then.
-use Rattle.std.specs.Prelude.{◌≡◌, refl, ◌↔◌, ◌⊎◌, List, length}
+use Rattle.std.specs.Prelude.{◌≡◌, refl, ◌↔◌, ◌⊎◌, List, length, Ok, Err}
 use Rattle.std.proofs.Common.{sym, subst, ◌∙◌, inl, inr, le_trans, add-zero, one-mul, pow-suc, zero-lt-suc, lit<}
 use Rattle.std.proofs.Math.Path.{ap}
 use Rattle.std.proofs.Math.Logic.{⊎_elim}
@@ -8,7 +8,6 @@ use Rattle.std.proofs.Math.Nat.{pow-le-pow_right}
 use Rattle.std.proofs.Math.Decide.{dec_lt, ℕ_discrete}
 use native.Mathlib.Omega.{arith}
 use Rattle.std.proofs.Math.ListN.{get_or}
-use Rattle.codes.specs.declared.varint.Varint.TheVariants.{Value, Bad}
 use Rattle.codes.specs.declared.varint.Unread.{Unread}
 use Rattle.codes.specs.Varint.{var_from, varint_at}
 use Rattle.codes.specs.Varint.Laws.{varint_from, from_none, from_cut, from_more, from_long, from_zero, from_value, from_large, digit_lt, weight_le}
@@ -60,7 +59,7 @@ first_weight : (w k : ℕ) → w ≡ 128 ^ k → 1 ≤ k → 1 < w
 first_weight w k e h = rw e (le_trans (lit< tt) (pow-le-pow_right (zero-lt-suc 127) h))
 
 module _ (s : List ℕ) (i : ℕ) where
-  no_told : (why : Unread) → NoNumber s i why → varint_at s i ≡ Bad why
+  no_told : (why : Unread) → NoNumber s i why → varint_at s i ≡ Err why
   unfolding NoNumber
   no_told Unread.Cut n =
       let t = so_far s i n.0 (le_trans n.1 (lit< tt)) n.2 in
@@ -110,16 +109,16 @@ ends s i (suc left) k sum g =
       ]
     ]
 
-module _ (s : List ℕ) (i : ℕ) (why : Unread) (e : varint_at s i ≡ Bad why) where
+module _ (s : List ℕ) (i : ℕ) (why : Unread) (e : varint_at s i ≡ Err why) where
   -- what is told is one thing
   told : (w : Unread) → NoNumber s i w → NoNumber s i why
   told w n =
-      let both : Bad w ≡ Bad why = sym (no_told s i w n) ∙ e in
+      let both : Err w ≡ Err why = sym (no_told s i w n) ∙ e in
       let same : w ≡ why = cc in
       subst (NoNumber s i) same n
 
   -- and not a number
-  read : (v n : ℕ) → varint_at s i ≡ Value v n → NoNumber s i why
+  read : (v n : ℕ) → varint_at s i ≡ Ok (v, n) → NoNumber s i why
   read v n q = let z : ◌≡◌ {A = ℕ} 0 1 = cc in absurd (omega arith)
 
   -- a last byte
@@ -179,5 +178,5 @@ module _ (s : List ℕ) (i : ℕ) (why : Unread) (e : varint_at s i ≡ Bad why)
       above b l = omega arith
 
 -- each is told exactly then
-pub no_number : (s : List ℕ) (i : ℕ) (why : Unread) → (varint_at s i ≡ Bad why) ↔ NoNumber s i why
+pub no_number : (s : List ℕ) (i : ℕ) (why : Unread) → (varint_at s i ≡ Err why) ↔ NoNumber s i why
 no_number s i why = (none s i why, no_told s i why)

@@ -1,10 +1,9 @@
 -- What is read as a number, an id or a varint is what is written for it: bytes that were read can be put back.
-use Rattle.std.specs.Prelude.{◌≡◌, ℕ, zero, suc, ◌+◌, ◌-◌, ◌*◌, ◌/◌, ◌%◌, ◌≤◌, List, ◌∷◌, ◌++◌, length, get_or, take, drop}
+use Rattle.std.specs.Prelude.{◌≡◌, ℕ, zero, suc, ◌+◌, ◌-◌, ◌*◌, ◌/◌, ◌%◌, ◌≤◌, List, ◌∷◌, ◌++◌, length, get_or, take, drop, Ok}
 use Rattle.std.proofs.Common.{sym, ap, ap₂, ◌∙◌, add-zero, add-one, arith, append_assoc, take-append-drop, drop-cons, drop-drop, take_at}
 use Rattle.std.proofs.Math.Seq.{append_snoc}
 use Rattle.std.proofs.Math.Arith.{digits_div, digits_mod}
 use Rattle.base.specs.Bytes.{Bytes}
-use Rattle.codes.specs.declared.varint.Varint.TheVariants.{Value}
 use Rattle.codes.specs.Little.{le_at, le_bytes}
 use Rattle.codes.specs.Little.Laws.{le_at_low, length_le_bytes}
 use Rattle.codes.specs.Ids.{be_at, be_bytes, id_bytes, halves_at}
@@ -50,7 +49,7 @@ id_stood g i b h =
     ∙ ap (λ (t : List ℕ). up ++ t) (be_stood 8 g (i + 8) b (omega arith) ∙ ap (λ (t : ℕ). low ++ drop t g) place)
     ∙ sym (append_assoc up low (drop (i + 16) g))
 
-pub varint_stood : (g : List ℕ) (i v n : ℕ) → Bytes g → varint_at g i ≡ Value v n → drop i g ≡ var_bytes v ++ drop n g
+pub varint_stood : (g : List ℕ) (i v n : ℕ) → Bytes g → varint_at g i ≡ Ok (v, n) → drop i g ≡ var_bytes v ++ drop n g
 varint_stood g i v n b e =
     let after = varint_next g i v n e in
     let place : i + (n - i) ≡ n = omega arith in

@@ -3,17 +3,11 @@ ghost use Rattle.std.specs.Prelude.{◌≡◌, ◌+◌, ◌≤◌, ◌<◌, ltb,
 ghost use Rattle.std.proofs.lemmas.List.Edits.{sets};
 ghost use Rattle.codes.specs.Ids.{be_at, be_bytes, turned, id_at, id_number, id_bytes, halves_at, order};
 
-use super::little::{le64, put_le};
-
-#[derive(Drop)]
-pub enum Order {
-    Less,
-    Equal,
-    Greater,
-}
+use super::little::{le, put_le};
+use std::cmp::Ordering;
 
 // An id as its upper and its lower half.
-#[derive(Clone, Copy)]
+#[derive(Clone, Copy, Debug, PartialEq, Eq, PartialOrd, Ord)]
 pub struct Id {
     pub hi: u64,
     pub lo: u64,
@@ -23,17 +17,7 @@ pub struct Id {
 fn swap(x: u64) -> u64
     ensures { result ≡ turned 8 x 0 }
 {
-    let b = x / 256;
-    let c = b / 256;
-    let d = c / 256;
-    let e = d / 256;
-    let f = e / 256;
-    let g = f / 256;
-    let h = g / 256;
-    let p = x % 256 * 256 + b % 256;
-    let q = (p * 256 + c % 256) * 256 + d % 256;
-    let r = (q * 256 + e % 256) * 256 + f % 256;
-    (r * 256 + g % 256) * 256 + h % 256
+    x.swap_bytes()
 }
 
 // The big-endian number of the eight bytes at `at`: one load and a swap.
@@ -41,7 +25,7 @@ pub fn be64(s: &[u8], at: usize) -> u64
     requires { at + 8 ≤ length s.now }
     ensures { result ≡ be_at s.now at 8 }
 {
-    swap(le64(s, at))
+    swap(le::<8>(s, at))
 }
 
 // The id at `at`.
@@ -55,26 +39,14 @@ pub fn id_at(s: &[u8], at: usize) -> Id
 }
 
 // Which of two ids comes first: the upper halves decide, and where they are equal the lower.
-pub fn compare(a: Id, b: Id) -> Order
+pub fn compare(a: Id, b: Id) -> Ordering
     ensures { result ≡ order (id_number a) (id_number b) }
 {
-    if a.hi < b.hi {
-        return Order::Less;
-    }
-    if b.hi < a.hi {
-        return Order::Greater;
-    }
-    if a.lo < b.lo {
-        return Order::Less;
-    }
-    if b.lo < a.lo {
-        return Order::Greater;
-    }
-    Order::Equal
+    a.cmp(&b)
 }
 
 // Does the id at i come before the one at j? Their upper halves are a and b; the lower ones are read only where these
-// are equal.
+// are equal. Stays by hand: `<` of two ids would read both halves of both.
 pub fn precedes(s: &[u8], i: usize, j: usize, a: u64, b: u64) -> bool
     requires { (i + 16 ≤ length s.now) × (j + 16 ≤ length s.now) × (a ≡ be_at s.now i 8) × (b ≡ be_at s.now j 8) }
     ensures { result ≡ ltb (id_at s.now i) (id_at s.now j) }
@@ -95,10 +67,8 @@ pub fn put_be(out: &mut [u8], at: usize, n: usize, x: u64)
     ensures { out.new ≡ sets out.old at (be_bytes n x) }
 {
     let mut y = x;
-    let mut k = n;
-    while 0 < k {
-        k = k - 1;
-        out[at + k] = (y % 256) as u8;
+    for k in 0..n {
+        out[at + (n - 1 - k)] = (y % 256) as u8;
         y = y / 256;
     }
 }
@@ -124,11 +94,5 @@ pub fn put_id(out: &mut [u8], at: usize, id: Id)
 pub fn same_id(a: Id, b: Id) -> bool
     ensures { result ≡ eqb (id_number a) (id_number b) }
 {
-    if a.hi != b.hi {
-        return false;
-    }
-    if a.lo != b.lo {
-        return false;
-    }
-    true
+    a == b
 }

@@ -5,7 +5,7 @@ ghost use Rattle.base.specs.Put.{Put};
 ghost use Rattle.codes.specs.Varint.{last_byte, var_from, varint_at, var_bytes};
 
 // Why no number is read.
-#[derive(Drop)]
+#[derive(Clone, Copy, Debug, PartialEq, Eq)]
 pub enum Unread {
     // nine bytes or fewer that all say "more", none too, and no byte after them
     Cut,
@@ -15,109 +15,82 @@ pub enum Unread {
     Large,
 }
 
-// A number and the place after it, or why there is none.
-#[derive(Drop)]
-pub enum Varint {
-    Value { value: u64, next: usize },
-    Bad { why: Unread },
-}
-
 // What the last byte b gives, byte k of the number (from 0), over x with the weight m. The tenth has room for one bit.
-fn last_byte(b: u64, i: usize, x: u64, m: u64, k: usize) -> Varint
+fn last_byte(b: u64, i: usize, x: u64, m: u64, k: usize) -> Result<(u64, usize), Unread>
     requires { (k ≤ 9) × (b < 128) × (x < m) × (m ≡ 128 ^ k) × (i + 1 < 2 ^ 64) }
     ensures { result ≡ last_byte b i x m }
 {
     if b == 0 {
         if 1 < m {
-            return Varint::Bad { why: Unread::Long };
+            return Err(Unread::Long);
         }
-        return Varint::Value {
-            value: x,
-            next: i + 1,
-        };
+        return Ok((x, i + 1));
     }
     if k == 9 {
         if 1 < b {
-            return Varint::Bad { why: Unread::Large };
+            return Err(Unread::Large);
         }
-        return Varint::Value {
-            value: x + m,
-            next: i + 1,
-        };
+        return Ok((x + m, i + 1));
     }
-    Varint::Value {
-        value: x + b * m,
-        next: i + 1,
-    }
+    Ok((x + b * m, i + 1))
 }
 
 // What the bytes after the first give, byte k of the number at `at` + k, over what the first gives. Places are counted from
 // the first byte, so that the compiler compares what is left with constants.
-fn more_at(s: &[u8], at: usize, low: u64) -> Varint
+fn more_at(s: &[u8], at: usize, low: u64) -> Result<(u64, usize), Unread>
     requires { (at < length s.now) × (low < 128) }
     ensures { result ≡ var_from 9 s.now (at + 1) low 128 }
 {
     let left = s.len() - at;
     let mut x = low;
     let mut m: u64 = 128;
-    let mut k: usize = 1;
-    while k < 10 {
+    for k in 1..10 {
         if left <= k {
-            return Varint::Bad { why: Unread::Cut };
+            return Err(Unread::Cut);
         }
         let b = s[at + k] as u64;
         if b < 128 {
             return last_byte(b, at + k, x, m, k);
         }
         if k == 9 {
-            return Varint::Bad { why: Unread::Large };
+            return Err(Unread::Large);
         }
         x = x + b % 128 * m;
         m = m * 128;
-        k = k + 1;
     }
-    Varint::Bad { why: Unread::Large }
+    Err(Unread::Large)
 }
 
 // The number at `at`, and the place after it.
-pub fn varint_at(s: &[u8], at: usize) -> Varint
+pub fn varint_at(s: &[u8], at: usize) -> Result<(u64, usize), Unread>
     ensures { result ≡ varint_at s.now at }
 {
     if s.len() <= at {
-        return Varint::Bad { why: Unread::Cut };
+        return Err(Unread::Cut);
     }
     let b = s[at] as u64;
     if b < 128 {
-        return Varint::Value {
-            value: b,
-            next: at + 1,
-        };
+        return Ok((b, at + 1));
     }
     more_at(s, at, b % 128)
 }
 
-// The same, but a number of two bytes is read without a call too.
-pub fn short_at(s: &[u8], at: usize) -> Varint
+// The same, but a number of two bytes is read without a call too. Stays beside `varint_at`: where all are read this way, code that reads only degrees grows.
+pub fn short_at(s: &[u8], at: usize) -> Result<(u64, usize), Unread>
     ensures { result ≡ varint_at s.now at }
 {
     if s.len() <= at {
-        return Varint::Bad { why: Unread::Cut };
+        return Err(Unread::Cut);
     }
     let b = s[at] as u64;
     if b < 128 {
-        return Varint::Value {
-            value: b,
-            next: at + 1,
-        };
+        return Ok((b, at + 1));
     }
     if at + 1 < s.len() {
         let c = s[at + 1] as u64;
         if 1 <= c {
             if c < 128 {
-                return Varint::Value {
-                    value: b % 128 + 128 * c,
-                    next: at + 2,
-                };
+                return Ok((b % 128 + 128 * c, at + 2));
             }
         }
     }
@@ -142,6 +115,7 @@ pub fn put_varint(out: &mut [u8], at: usize, x: u64) -> usize
 {
     let mut y = x;
     let mut i = at;
+    // Stays a loop by hand: it ends by what is left of the number, not after so many turns.
     while 128 <= y {
         out[i] = (y % 128 + 128) as u8;
         y = y / 128;

@@ -1,10 +1,9 @@
 -- Demand 2: "For each well-formed batch within the limits, given room, the file we write passes the full check, reads out to
 -- that same batch, and a lookup of any key gives exactly its written partners, in order, with log numbers and dead marks, or
 -- absence."
-use Rattle.std.specs.Prelude.{◌≡◌, ℕ, ◌*◌, ◌^◌, ◌≤◌, List, true, false, length, ltb}
+use Rattle.std.specs.Prelude.{◌≡◌, ℕ, ◌*◌, ◌^◌, ◌≤◌, List, true, false, length, ltb, Ok}
 use Rattle.base.specs.Pick.{pick}
 use Rattle.base.specs.Bytes.{Bytes}
-use Rattle.refusal.specs.declared.Check.{Check}
 use Rattle.frame.specs.Frame.{record_of}
 use Rattle.lookup.specs.Lookup.{Rooms, look_of, look_with}
 use Rattle.lookup.specs.Calls.{alone}
@@ -15,7 +14,6 @@ use Rattle.full_check.specs.Full.{full_check}
 use Rattle.readout.specs.ReadOut.{batch_in}
 use Rattle.agreement.specs.SameEdges.{of_key, Says, Enough}
 use Rattle.agreement.specs.Heading.{header_for}
-use Rattle.reader.specs.declared.header.HeaderRead.{HeaderRead}
 use Rattle.reader.specs.Header.{header_of}
 use Rattle.demand2.specs.Answers.{outcome_for}
 
@@ -41,15 +39,15 @@ pub record Limits (s : List ℕ) : Type 0 where
 -- a batch that demand 2 speaks of: bytes, without fault, within the limits; of either direction
 pub record Lawful (s : List ℕ) : Type 0 where
   pub bytes : Bytes s
-  pub fine : batch_check s ≡ Check.Fine
+  pub fine : batch_check s ≡ (Ok tt)
   pub limits : Limits s
 
 pub record Demand2 (s : List ℕ) : Type 0 where
-  pub passes_check : full_check (file_for s) ≡ Check.Fine
+  pub passes_check : full_check (file_for s) ≡ (Ok tt)
   -- the read-out is that same batch, byte for byte
   pub reads_out : batch_in (file_for s) ≡ s
   -- its header is the batch's heading, with the writer's minor version and flags
-  pub says_header : header_of (file_for s) ≡ HeaderRead.Good (header_for (minor_for s) (flags_for s) s)
+  pub says_header : header_of (file_for s) ≡ Ok (header_for (minor_for s) (flags_for s) s)
   -- it has a start index "from 1,025 keys up", and not below
   pub has_starts : (record_of (file_for s)).indexed ≡ ltb 1024 (length (groups_of (edges_of s)))
   -- a lookup with enough room says exactly the written edges of its key; also by the record that opening gave

@@ -8,20 +8,14 @@ use lib.ListN.{length}
 use Rattle.base.specs.Bytes.{Bytes}
 use Rattle.base.specs.Over.{part}
 use Rattle.codes.specs.Ids.{id_at}
-use Rattle.refusal.specs.declared.Check.{Check}
-use Rattle.frame.specs.declared.Opening.{Opening}
 use Rattle.frame.specs.Open.{open_of}
-use Rattle.reader.specs.declared.header.HeaderRead.{HeaderRead}
 use Rattle.reader.specs.Header.{header_of}
 use Rattle.lookup.specs.declared.Looked.{Looked}
 use Rattle.lookup.specs.Lookup.{looked_of, look_of, look_with}
 use Rattle.lookup.specs.Calls.{alone, lent, Alone, Whole}
 use Rattle.full_check.specs.Full.{full_check}
-use Rattle.readout.specs.declared.ReadOut.{ReadOut}
 use Rattle.readout.specs.ReadOut.{read_out_of, read_out_leaves}
-use Rattle.write_file.specs.declared.Written.{Written}
 use Rattle.write_file.specs.Written.{needed_of, written_of, Wrote}
-use Rattle.listing.specs.declared.Listed.{Listed}
 use Rattle.listing.specs.List as list
 use Rattle.xxh3_spec.specs.Xxh3.{xxh3}
 use Rattle.xxh3_running.specs.declared.Fed.{Fed}
@@ -37,10 +31,10 @@ use Rattle.edge_sst_c.specs.Desk.{check_told}
 use Rattle.edge_sst_c.proofs.Laws.Desk.{check_told_fine, check_told_bad}
 use Rattle.refusal.specs.declared.Refusal.{Refusal}
 use Rattle.edge_sst_c.specs.Look.{record_lent}
-use Rattle.edge_sst_c.specs.Back.{opening_from, header_from, looked_from, check_from, read_out_from, summarised_from, written_from, listed_from, EndsTold}
-use Rattle.edge_sst_c.proofs.Laws.Back.{opening_back, header_back, header_bytes, looked_back, check_back, read_out_back, summary_back, summary_zeros, summary_ends, written_back, listed_back}
+use Rattle.edge_sst_c.specs.Back.{opening_from, header_from, looked_from, check_from, done_from, summarised_from, listed_from, EndsTold}
+use Rattle.edge_sst_c.proofs.Laws.Back.{opening_back, header_back, header_bytes, looked_back, check_back, done_back, summary_back, summary_zeros, summary_ends, listed_back}
 use Rattle.edge_sst_c.specs.Refused.{Tells, Unfound}
-use Rattle.edge_sst_c.proofs.Laws.Refused.{opened_tells, header_tells, looked_tells, check_tells, summary_tells, read_tells, written_tells, listed_tells, partners_stay, edges_stay, read_stays, write_stays, sections_stay, running_stays}
+use Rattle.edge_sst_c.proofs.Laws.Refused.{opened_tells, header_tells, looked_tells, check_tells, summary_tells, done_tells, listed_tells, partners_stay, edges_stay, read_stays, write_stays, sections_stay, running_stays}
 use Rattle.base.proofs.Every.{Every}
 use Rattle.edge_sst_c.specs.contracts.edge_sst_open as c_open
 use Rattle.edge_sst_c.proofs.edge_sst_open.Reads as c_open_reads
@@ -72,6 +66,7 @@ use Rattle.edge_sst_c.specs.contracts.write.edge_sst_write as c_write
 use Rattle.edge_sst_c.proofs.write.edge_sst_write.Reads as c_write_reads
 use Rattle.edge_sst_c.specs.contracts.section_list.edge_sst_sections as c_sections
 use Rattle.edge_sst_c.proofs.section_list.edge_sst_sections.Reads as c_sections_reads
+use Rattle.std.specs.Prelude.{Err}
 
 -- ---- what is told
 
@@ -106,18 +101,18 @@ lookup_with_says κs a r e p = ap looked_from p.answer ∙ looked_back _
 pub check_says : Every c_check.ended c_check_reads.Post (λ κs a r e. check_from r ≡ full_check a.0.now)
 check_says κs a r e p = ap check_from p ∙ check_back _
 
-pub read_out_says : Every c_read_out.ended c_read_out_reads.Post (λ κs a r e. read_out_from r ≡ read_out_of a.0.now (length a.1.0.now))
-read_out_says κs a r e p = ap read_out_from p.0 ∙ read_out_back _
+pub read_out_says : Every c_read_out.ended c_read_out_reads.Post (λ κs a r e. done_from r ≡ read_out_of a.0.now (length a.1.0.now))
+read_out_says κs a r e p = ap done_from p.0 ∙ done_back _
 
 -- the lent bytes are bytes: the keys are told as theirs
 pub summary_says : Every c_summary.ended c_summary_reads.Post (λ κs a r e. Bytes a.0.now → summarised_from r ≡ summarised_of a.0.now)
 summary_says κs a r e p by = ap summarised_from p ∙ summary_back a.0.now by
 
-pub needed_says : Every c_needed.ended c_needed_reads.Post (λ κs a r e. written_from r ≡ needed_of a.0.now)
-needed_says κs a r e p = ap written_from p ∙ written_back _
+pub needed_says : Every c_needed.ended c_needed_reads.Post (λ κs a r e. done_from r ≡ needed_of a.0.now)
+needed_says κs a r e p = ap done_from p ∙ done_back _
 
-pub write_says : Every c_write.ended c_write_reads.Post (λ κs a r e. written_from r ≡ written_of a.0.now (length a.1.0.now))
-write_says κs a r e p = ap written_from p.answer ∙ written_back _
+pub write_says : Every c_write.ended c_write_reads.Post (λ κs a r e. done_from r ≡ written_of a.0.now (length a.1.0.now))
+write_says κs a r e p = ap done_from p.answer ∙ done_back _
 
 pub sections_says : Every c_sections.ended c_sections_reads.Post (λ κs a r e. listed_from r ≡ list.listed_of a.0.now (length a.1.0.now / 7))
 sections_says κs a r e p = ap listed_from p.0 ∙ listed_back _
@@ -127,56 +122,56 @@ running_says κs a r e p = ap check_from p.0 ∙ check_back _
 
 -- ---- number
 
-pub open_number : Every c_open.ended c_open_reads.Post (λ κs a r e. Tells Opening.Refused (open_of a.0.now) r.number)
+pub open_number : Every c_open.ended c_open_reads.Post (λ κs a r e. Tells Err (open_of a.0.now) r.number)
 open_number κs a r e p = rw p (opened_tells (open_of a.0.now))
 
-pub header_number : Every c_header.ended c_header_reads.Post (λ κs a r e. Tells HeaderRead.Refused (header_of a.0.now) r.number)
+pub header_number : Every c_header.ended c_header_reads.Post (λ κs a r e. Tells Err (header_of a.0.now) r.number)
 header_number κs a r e p = rw p (header_tells (header_of a.0.now))
 
 pub partners_number : Every c_partners.ended c_partners_reads.Post
-    (λ κs a r e. Tells Looked.Refused (looked_of (look_of false (alone (length a.1.1.0.now)) (id_at a.1.0.now 0) a.0.now)) r.number)
+    (λ κs a r e. Tells Err (looked_of (look_of false (alone (length a.1.1.0.now)) (id_at a.1.0.now 0) a.0.now)) r.number)
 partners_number κs a r e p = rw p.answer (looked_tells (looked_of _))
 
 pub partners_with_number : Every c_partners_with.ended c_partners_with_reads.Post
-    (λ κs a r e. Tells Looked.Refused (looked_of (look_with false (alone (length a.1.1.1.0.now)) (id_at a.1.1.0.now 0) a.0.now (record_lent a.1.0.now))) r.number)
+    (λ κs a r e. Tells Err (looked_of (look_with false (alone (length a.1.1.1.0.now)) (id_at a.1.1.0.now 0) a.0.now (record_lent a.1.0.now))) r.number)
 partners_with_number κs a r e p = rw p.answer (looked_tells (looked_of _))
 
 pub lookup_number : Every c_lookup.ended c_lookup_reads.Post
-    (λ κs a r e. Tells Looked.Refused (looked_of (look_of true (lent (length a.1.1.0.now) (length a.1.1.1.0.now) (length a.1.1.1.1.0.now)) (id_at a.1.0.now 0) a.0.now)) r.number)
+    (λ κs a r e. Tells Err (looked_of (look_of true (lent (length a.1.1.0.now) (length a.1.1.1.0.now) (length a.1.1.1.1.0.now)) (id_at a.1.0.now 0) a.0.now)) r.number)
 lookup_number κs a r e p = rw p.answer (looked_tells (looked_of _))
 
 pub lookup_with_number : Every c_lookup_with.ended c_lookup_with_reads.Post
-    (λ κs a r e. Tells Looked.Refused (looked_of (look_with true (lent (length a.1.1.1.0.now) (length a.1.1.1.1.0.now) (length a.1.1.1.1.1.0.now)) (id_at a.1.1.0.now 0) a.0.now (record_lent a.1.0.now))) r.number)
+    (λ κs a r e. Tells Err (looked_of (look_with true (lent (length a.1.1.1.0.now) (length a.1.1.1.1.0.now) (length a.1.1.1.1.1.0.now)) (id_at a.1.1.0.now 0) a.0.now (record_lent a.1.0.now))) r.number)
 lookup_with_number κs a r e p = rw p.answer (looked_tells (looked_of _))
 
-pub check_number : Every c_check.ended c_check_reads.Post (λ κs a r e. Tells Check.Bad (full_check a.0.now) r.number)
+pub check_number : Every c_check.ended c_check_reads.Post (λ κs a r e. Tells Err (full_check a.0.now) r.number)
 check_number κs a r e p = rw p (check_tells (full_check a.0.now))
 
-pub read_out_number : Every c_read_out.ended c_read_out_reads.Post (λ κs a r e. Tells ReadOut.Refused (read_out_of a.0.now (length a.1.0.now)) r.number)
-read_out_number κs a r e p = rw p.0 (read_tells (read_out_of a.0.now (length a.1.0.now)))
+pub read_out_number : Every c_read_out.ended c_read_out_reads.Post (λ κs a r e. Tells Err (read_out_of a.0.now (length a.1.0.now)) r.number)
+read_out_number κs a r e p = rw p.0 (done_tells (read_out_of a.0.now (length a.1.0.now)))
 
 -- that of the full check
-pub summary_number : Every c_summary.ended c_summary_reads.Post (λ κs a r e. Tells Check.Bad (full_check a.0.now) r.number)
+pub summary_number : Every c_summary.ended c_summary_reads.Post (λ κs a r e. Tells Err (full_check a.0.now) r.number)
 summary_number κs a r e p = rw p (summary_tells a.0.now)
 
 -- beside a refusal all is 0
-pub summary_refused : Every c_summary.ended c_summary_reads.Post (λ κs a r e. (q : Refusal) → full_check a.0.now ≡ Check.Bad q
-    → r ≡ figures_told (check_told (Check.Bad q)) nothing none_told)
+pub summary_refused : Every c_summary.ended c_summary_reads.Post (λ κs a r e. (q : Refusal) → full_check a.0.now ≡ Err q
+    → r ≡ figures_told (check_told (Err q)) nothing none_told)
 summary_refused κs a r e p q h = p ∙ summary_zeros a.0.now q h
 
 pub summary_extremes : Every c_summary.ended c_summary_reads.Post (λ κs a r e. EndsTold r)
 summary_extremes κs a r e p = rw p (summary_ends a.0.now)
 
-pub needed_number : Every c_needed.ended c_needed_reads.Post (λ κs a r e. Tells Written.Refused (needed_of a.0.now) r.number)
-needed_number κs a r e p = rw p (written_tells (needed_of a.0.now))
+pub needed_number : Every c_needed.ended c_needed_reads.Post (λ κs a r e. Tells Err (needed_of a.0.now) r.number)
+needed_number κs a r e p = rw p (done_tells (needed_of a.0.now))
 
-pub write_number : Every c_write.ended c_write_reads.Post (λ κs a r e. Tells Written.Refused (written_of a.0.now (length a.1.0.now)) r.number)
-write_number κs a r e p = rw p.answer (written_tells (written_of a.0.now (length a.1.0.now)))
+pub write_number : Every c_write.ended c_write_reads.Post (λ κs a r e. Tells Err (written_of a.0.now (length a.1.0.now)) r.number)
+write_number κs a r e p = rw p.answer (done_tells (written_of a.0.now (length a.1.0.now)))
 
-pub sections_number : Every c_sections.ended c_sections_reads.Post (λ κs a r e. Tells Listed.Refused (list.listed_of a.0.now (length a.1.0.now / 7)) r.number)
+pub sections_number : Every c_sections.ended c_sections_reads.Post (λ κs a r e. Tells Err (list.listed_of a.0.now (length a.1.0.now / 7)) r.number)
 sections_number κs a r e p = rw p.0 (listed_tells (list.listed_of a.0.now (length a.1.0.now / 7)))
 
-pub running_number : Every c_running.ended c_running_reads.Post (λ κs a r e. Tells Check.Bad (feed_of (state_of a.0.now a.1.0.now a.1.1.0.now) a.1.1.1.0.now).told r.number)
+pub running_number : Every c_running.ended c_running_reads.Post (λ κs a r e. Tells Err (feed_of (state_of a.0.now a.1.0.now a.1.1.0.now) a.1.1.1.0.now).told r.number)
 running_number κs a r e p = rw p.0 (check_tells (feed_of (state_of a.0.now a.1.0.now a.1.1.0.now) a.1.1.1.0.now).told)
 
 -- ---- outputs
@@ -229,10 +224,10 @@ pub lookup_with_same : Every c_lookup_with.ended c_lookup_with_reads.Post
 lookup_with_same κs a r e p = record { answer = lookup_with_says κs a r e p; partners = p.partners; numbers = p.numbers; dead = p.dead }
 
 pub read_out_same : Every c_read_out.ended c_read_out_reads.Post
-    (λ κs a r e. (read_out_from r ≡ read_out_of a.0.now (length a.1.0.now)) × (e.1.0.now ≡ read_out_leaves a.0.now a.1.0.now))
+    (λ κs a r e. (done_from r ≡ read_out_of a.0.now (length a.1.0.now)) × (e.1.0.now ≡ read_out_leaves a.0.now a.1.0.now))
 read_out_same κs a r e p = (read_out_says κs a r e p, p.1)
 
-pub write_same : Every c_write.ended c_write_reads.Post (λ κs a r e. Wrote a.0.now a.1.0.now (written_from r) e.1.0.now)
+pub write_same : Every c_write.ended c_write_reads.Post (λ κs a r e. Wrote a.0.now a.1.0.now (done_from r) e.1.0.now)
 write_same κs a r e p = record { answer = write_says κs a r e p; output = p.output }
 
 pub running_same : Every c_running.ended c_running_reads.Post (λ κs a r e. (check_from r ≡ (feed_of (state_of a.0.now a.1.0.now a.1.1.0.now) a.1.1.1.0.now).told) × Leaves (feed_of (state_of a.0.now a.1.0.now a.1.1.0.now) a.1.1.1.0.now) e.0.now e.1.0.now e.1.1.0.now)

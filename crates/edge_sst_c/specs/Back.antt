@@ -1,20 +1,14 @@
 -- What the calls for C tell, read back by the words of include/edge_sst.h: the library's answers, and the record of
 -- `edge_sst_open` where it is lent to a lookup.
-use Rattle.std.specs.Prelude.{◌≡◌, ℕ, ◌≤◌, List, [], ◌∷◌, replicate, ltb, eqb}
+use Rattle.std.specs.Prelude.{◌≡◌, ℕ, ◌≤◌, List, [], ◌∷◌, replicate, ltb, eqb, Ok, Option, Some, Result, None, Err}
 use Rattle.base.specs.Pick.{pick}
 use Rattle.codes.specs.Ids.{halves_at}
 use Rattle.refusal.specs.declared.Refusal.{Refusal}
-use Rattle.refusal.specs.declared.Check.{Check}
 use Rattle.refusal.specs.Refusal.{refusal_told}
 use Rattle.frame.specs.declared.Opened.{Opened}
-use Rattle.frame.specs.declared.Opening.{Opening}
 use Rattle.lookup.specs.declared.Looked.{Looked}
-use Rattle.reader.specs.declared.header.HeaderRead.{HeaderRead}
-use Rattle.readout.specs.declared.ReadOut.{ReadOut}
 use Rattle.summary.specs.declared.figures.Extremes.{Extremes}
-use Rattle.summary.specs.declared.Summarised.{Summarised}
-use Rattle.write_file.specs.declared.Written.{Written}
-use Rattle.listing.specs.declared.Listed.{Listed}
+use Rattle.summary.specs.declared.figures.Summary.{Summary}
 use Rattle.edge_sst_c.specs.declared.EdgeSstOpened.{EdgeSstOpened}
 use Rattle.edge_sst_c.specs.declared.header.EdgeSstHeader.{EdgeSstHeader}
 use Rattle.edge_sst_c.specs.declared.look.EdgeSstLooked.{EdgeSstLooked}
@@ -25,6 +19,9 @@ use Rattle.edge_sst_c.specs.declared.figures.ExtremesTold.{ExtremesTold}
 use Rattle.edge_sst_c.specs.declared.figures.EdgeSstSummary.{EdgeSstSummary}
 use Rattle.edge_sst_c.specs.Told.{refusal_with}
 use Rattle.edge_sst_c.specs.Look.{record_lent}
+use Rattle.frame.specs.Opening.{Opening}
+use Rattle.refusal.specs.Check.{Check}
+use Rattle.frame.specs.declared.ends.Header.{Header}
 
 -- ---- the answers
 
@@ -32,23 +29,20 @@ use Rattle.edge_sst_c.specs.Look.{record_lent}
 abbrev pub unless : {A : Type 0} → (Refusal → A) → ℕ → ℕ → ℕ → A → A
 unless bad number place beside x = pick (ltb 0 number) (bad (refusal_told number place beside)) x
 
-abbrev pub looked_from : EdgeSstLooked → Looked
-looked_from r = unless Looked.Refused r.number r.place r.beside (pick (ltb 0 r.found) (Looked.Found r.degree r.index r.compared) (Looked.Absent r.compared))
+abbrev pub looked_from : EdgeSstLooked → Result Looked Refusal
+looked_from r = unless Err r.number r.place r.beside (pick (ltb 0 r.found) (Ok (Looked.Found r.degree r.index r.compared)) (Ok (Looked.Absent r.compared)))
 
 abbrev pub check_from : EdgeSstTold → Check
-check_from r = unless Check.Bad r.number r.place r.beside Check.Fine
+check_from r = unless Err r.number r.place r.beside (Ok tt)
 
-abbrev pub read_out_from : EdgeSstDone → ReadOut
-read_out_from r = unless ReadOut.Refused r.number r.place r.beside (ReadOut.Done r.bytes)
+abbrev pub done_from : EdgeSstDone → Result ℕ Refusal
+done_from r = unless Err r.number r.place r.beside (Ok r.bytes)
 
-abbrev pub written_from : EdgeSstDone → Written
-written_from r = unless Written.Refused r.number r.place r.beside (Written.Done r.bytes)
+abbrev pub listed_from : EdgeSstListed → Result ℕ Refusal
+listed_from r = unless Err r.number r.place r.beside (Ok r.rows)
 
-abbrev pub listed_from : EdgeSstListed → Listed
-listed_from r = unless Listed.Refused r.number r.place r.beside (Listed.Done r.rows)
-
-abbrev pub header_from : EdgeSstHeader → HeaderRead
-header_from r = unless HeaderRead.Refused r.number r.place r.beside (HeaderRead.Good (record {
+abbrev pub header_from : EdgeSstHeader → Result Header Refusal
+header_from r = unless Err r.number r.place r.beside (Ok (record {
   minor = r.minor;
   direction = r.direction;
   flags = r.flags;
@@ -59,21 +53,21 @@ header_from r = unless HeaderRead.Refused r.number r.place r.beside (HeaderRead.
 
 -- ---- the summary
 
-abbrev pub extremes_from : ExtremesTold → Extremes
-extremes_from x = pick (eqb x.there 1) (Extremes.Some (halves_at x.smallestkey 0) (halves_at x.largestkey 0) x.smallestlog x.largestlog) Extremes.None
+abbrev pub extremes_from : ExtremesTold → Option Extremes
+extremes_from x =
+    pick (eqb x.there 1)
+    (Some (record { smallestkey = halves_at x.smallestkey 0; largestkey = halves_at x.largestkey 0; smallestlog = x.smallestlog; largestlog = x.largestlog }))
+    None
 
-abbrev pub summarised_from : EdgeSstSummary → Summarised
-summarised_from r = record {
-  told = check_from (record { number = r.number; place = r.place; beside = r.beside });
-  summary = record {
-    keycount = r.keycount;
-    edgecount = r.edgecount;
-    tombstones = r.tombstones;
-    largestdegree = r.largestdegree;
-    extremes = extremes_from (record { there = r.extremes; smallestkey = r.smallestkey; largestkey = r.largestkey; smallestlog = r.smallestlog; largestlog = r.largestlog });
-    buckets = r.buckets;
-  };
-}
+abbrev pub summarised_from : EdgeSstSummary → Result Summary Refusal
+summarised_from r = unless Err r.number r.place r.beside (Ok (record {
+  keycount = r.keycount;
+  edgecount = r.edgecount;
+  tombstones = r.tombstones;
+  largestdegree = r.largestdegree;
+  extremes = extremes_from (record { there = r.extremes; smallestkey = r.smallestkey; largestkey = r.largestkey; smallestlog = r.smallestlog; largestlog = r.largestlog });
+  buckets = r.buckets;
+}))
 
 -- `extremes` is 1 exactly where there are edges, and without edges all five fields are 0
 pub record EndsTold (t : EdgeSstSummary) : Type 0 where
@@ -95,4 +89,4 @@ none = record_lent (fields_of (refusal_with 0 0 0))
 
 -- and so the whole answer of `edge_sst_open`
 abbrev pub opening_from : EdgeSstOpened → Opening
-opening_from c = unless Opening.Refused c.number c.place c.beside (Opening.Good (record_lent (fields_of c)))
+opening_from c = unless Err c.number c.place c.beside (Ok (record_lent (fields_of c)))

@@ -1,10 +1,10 @@
 -- What the header's call for C tells of the library's answer.
-use Rattle.std.specs.Prelude.{ℕ, replicate}
+use Rattle.std.specs.Prelude.{ℕ, replicate, Result, Ok, Err}
 use Rattle.codes.specs.Ids.{id_bytes}
 use Rattle.refusal.specs.Refusal.{number_of, place_of, beside_of}
 use Rattle.frame.specs.declared.ends.Header.{Header}
-use Rattle.reader.specs.declared.header.HeaderRead.{HeaderRead}
 use Rattle.edge_sst_c.specs.declared.header.EdgeSstHeader.{EdgeSstHeader}
+use Rattle.refusal.specs.declared.Refusal.{Refusal}
 
 -- a header, each id as its 16 bytes
 abbrev pub fields_told : Header → EdgeSstHeader
@@ -34,6 +34,6 @@ without_fields number place beside = record {
   destination = replicate 16 0;
 }
 
-unfoldable pub header_told : HeaderRead → EdgeSstHeader
-header_told (HeaderRead.Good h) = fields_told h
-header_told (HeaderRead.Refused r) = without_fields (number_of r) (place_of r) (beside_of r)
+unfoldable pub header_told : (Result Header Refusal) → EdgeSstHeader
+header_told (Ok h) = fields_told h
+header_told (Err r) = without_fields (number_of r) (place_of r) (beside_of r)

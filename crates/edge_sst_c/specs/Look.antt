@@ -1,6 +1,7 @@
 -- What the C lookups tell of the library's answers, and which record C lends.
-use Rattle.std.specs.Prelude.{◌≡◌, ℕ, ◌+◌, List, length, get_or, ltb}
+use Rattle.std.specs.Prelude.{◌≡◌, ℕ, ◌+◌, List, length, get_or, ltb, Result, Ok, Err}
 use Rattle.base.specs.Pick.{pick}
+use Rattle.refusal.specs.declared.Refusal.{Refusal}
 use Rattle.refusal.specs.Refusal.{number_of, place_of, beside_of}
 use Rattle.frame.specs.declared.Opened.{Opened}
 use Rattle.frame.specs.declared.Range.{Range}
@@ -12,10 +13,10 @@ use Rattle.edge_sst_c.specs.declared.look.EdgeSstLooked.{EdgeSstLooked}
 abbrev pub refused_told : ℕ → ℕ → ℕ → EdgeSstLooked
 refused_told n p s = record { number = n; place = p; beside = s; found = 0; degree = 0; index = 0; compared = 0 }
 
-unfoldable pub looked_told : Looked → EdgeSstLooked
-looked_told (Looked.Found d i c) = record { number = 0; place = 0; beside = 0; found = 1; degree = d; index = i; compared = c }
-looked_told (Looked.Absent c) = record { number = 0; place = 0; beside = 0; found = 0; degree = 0; index = 0; compared = c }
-looked_told (Looked.Refused r) = refused_told (number_of r) (place_of r) (beside_of r)
+unfoldable pub looked_told : Result Looked Refusal → EdgeSstLooked
+looked_told (Ok (Looked.Found d i c)) = record { number = 0; place = 0; beside = 0; found = 1; degree = d; index = i; compared = c }
+looked_told (Ok (Looked.Absent c)) = record { number = 0; place = 0; beside = 0; found = 0; degree = 0; index = 0; compared = c }
+looked_told (Err r) = refused_told (number_of r) (place_of r) (beside_of r)
 
 -- offset bits above 255 are none
 unfoldable pub byte_or : ℕ → ℕ

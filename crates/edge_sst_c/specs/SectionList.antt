@@ -1,15 +1,15 @@
 -- What the section list for C tells of the library's answer, and the numbers that it leaves.
-use Rattle.std.specs.Prelude.{ℕ, zero, suc, ◌*◌, List, [], ◌∷◌, ◌++◌}
+use Rattle.std.specs.Prelude.{ℕ, zero, suc, ◌*◌, List, [], ◌∷◌, ◌++◌, Result, Ok, Err}
 use Rattle.std.proofs.lemmas.List.Edits.{sets}
 use Rattle.refusal.specs.Refusal.{number_of, place_of, beside_of}
 use Rattle.frame.specs.declared.Row.{Row}
-use Rattle.listing.specs.declared.Listed.{Listed}
 use Rattle.listing.specs.List.{row_is}
 use Rattle.edge_sst_c.specs.declared.section_list.EdgeSstListed.{EdgeSstListed}
+use Rattle.refusal.specs.declared.Refusal.{Refusal}
 
-unfoldable pub listed_told : Listed → EdgeSstListed
-listed_told (Listed.Done n) = record { number = 0; place = 0; beside = 0; rows = n }
-listed_told (Listed.Refused r) = record { number = number_of r; place = place_of r; beside = beside_of r; rows = 0 }
+unfoldable pub listed_told : Result ℕ Refusal → EdgeSstListed
+listed_told (Ok n) = record { number = 0; place = 0; beside = 0; rows = n }
+listed_told (Err r) = record { number = number_of r; place = place_of r; beside = beside_of r; rows = 0 }
 
 -- the seven numbers of a row, "kind, codec, name's place and length, offset, length, checksum"
 abbrev pub numbers_of : Row → List ℕ

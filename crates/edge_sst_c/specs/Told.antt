@@ -1,9 +1,9 @@
 -- What the C calls tell of the library's answers.
-use Rattle.std.specs.Prelude.{ℕ, Bool, true, false}
+use Rattle.std.specs.Prelude.{ℕ, Bool, true, false, Ok, Err}
 use Rattle.refusal.specs.Refusal.{number_of, place_of, beside_of}
 use Rattle.frame.specs.declared.Opened.{Opened}
-use Rattle.frame.specs.declared.Opening.{Opening}
 use Rattle.edge_sst_c.specs.declared.EdgeSstOpened.{EdgeSstOpened}
+use Rattle.frame.specs.Opening.{Opening}
 
 abbrev pub truth : Bool → ℕ
 truth true = 1
@@ -60,5 +60,5 @@ refusal_with number place beside = record {
 }
 
 unfoldable pub opened_told : Opening → EdgeSstOpened
-opened_told (Opening.Good o) = record_with o (truth o.marked) (truth o.indexed)
-opened_told (Opening.Refused r) = refusal_with (number_of r) (place_of r) (beside_of r)
+opened_told (Ok o) = record_with o (truth o.marked) (truth o.indexed)
+opened_told (Err r) = refusal_with (number_of r) (place_of r) (beside_of r)

@@ -2,11 +2,11 @@
 ghost use Rattle.std.specs.Prelude.{◌≡◌, length};
 ghost use Rattle.full_check.specs.Full.{full_check};
 ghost use Rattle.readout.specs.ReadOut.{read_out_of, read_out_leaves};
-ghost use Rattle.edge_sst_c.specs.Desk.{check_told, read_told};
+ghost use Rattle.edge_sst_c.specs.Desk.{check_told, done_told};
 
 use full_check::check;
-use readout::{ReadOut, read_out};
-use refusal::{Check, told_of};
+use readout::read_out;
+use refusal::{Refusal, told_of};
 
 // A refusal's number and places, zeros where there is none.
 #[repr(C)]
@@ -28,16 +28,16 @@ pub struct EdgeSstDone {
 }
 
 // What a rule says.
-pub fn check_told(c: Check) -> EdgeSstTold
+pub fn check_told(c: Result<(), Refusal>) -> EdgeSstTold
     ensures { result ≡ check_told c }
 {
     match c {
-        Check::Fine => EdgeSstTold {
+        Ok(()) => EdgeSstTold {
             number: 0,
             place: 0,
             beside: 0,
         },
-        Check::Bad { refusal } => {
+        Err(refusal) => {
             let t = told_of(refusal);
             EdgeSstTold {
                 number: t.number as u64,
@@ -56,19 +56,18 @@ pub extern "C" fn edge_sst_check(file: &[u8]) -> EdgeSstTold
     check_told(check(file))
 }
 
-// Reads a file out as a batch.
-#[unsafe(no_mangle)]
-pub extern "C" fn edge_sst_read_out(file: &[u8], out: &mut [u8]) -> EdgeSstDone
-    ensures { (result ≡ read_told (read_out_of file.now (length out.old))) × (out.new ≡ read_out_leaves file.now out.old) }
+// How many bytes were written, or would be.
+pub fn done_told(d: Result<u64, Refusal>) -> EdgeSstDone
+    ensures { result ≡ done_told d }
 {
-    match read_out(file, out) {
-        ReadOut::Done { bytes } => EdgeSstDone {
+    match d {
+        Ok(bytes) => EdgeSstDone {
             number: 0,
             place: 0,
             beside: 0,
             bytes,
         },
-        ReadOut::Refused { refusal } => {
+        Err(refusal) => {
             let t = told_of(refusal);
             EdgeSstDone {
                 number: t.number as u64,
@@ -78,4 +77,12 @@ pub extern "C" fn edge_sst_read_out(file: &[u8], out: &mut [u8]) -> EdgeSstDone
             }
         }
     }
+}
+
+// Reads a file out as a batch.
+#[unsafe(no_mangle)]
+pub extern "C" fn edge_sst_read_out(file: &[u8], out: &mut [u8]) -> EdgeSstDone
+    ensures { (result ≡ done_told (read_out_of file.now (length out.old))) × (out.new ≡ read_out_leaves file.now out.old) }
+{
+    done_told(read_out(file, out))
 }

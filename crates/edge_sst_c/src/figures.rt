@@ -1,10 +1,11 @@
 // The degree summary for C: numbers, and each key as its 16 bytes.
-ghost use Rattle.std.specs.Prelude.{◌≡◌};
-ghost use Rattle.summary.specs.Summary.{summarised_of};
-ghost use Rattle.edge_sst_c.specs.Summary.{extremes_told, figures_told, summary_told};
+ghost use Rattle.std.specs.Prelude.{◌≡◌, Ok, Err};
+ghost use Rattle.summary.specs.Summary.{nothing, summarised_of};
+ghost use Rattle.edge_sst_c.specs.Desk.{check_told};
+ghost use Rattle.edge_sst_c.specs.Summary.{none_told, extremes_told, figures_told, summary_told};
 
-use super::desk::{EdgeSstTold, check_told};
 use super::header::id_told;
+use refusal::{Refusal, told_of};
 use summary::figures::{Extremes, Summary};
 use summary::summary;
 
@@ -37,23 +38,25 @@ pub struct ExtremesTold {
     pub largestlog: u64,
 }
 
-fn extremes_told(x: Extremes) -> ExtremesTold
+fn extremes_told(x: Option<Extremes>) -> ExtremesTold
     ensures { result ≡ extremes_told x }
 {
     match x {
-        Extremes::None => ExtremesTold {
+        None => ExtremesTold {
             there: 0,
             smallestkey: [0u8; 16],
             largestkey: [0u8; 16],
             smallestlog: 0,
             largestlog: 0,
         },
-        Extremes::Some {
-            smallestkey,
-            largestkey,
-            smallestlog,
-            largestlog,
-        } => ExtremesTold {
+        Some(
+            Extremes {
+                smallestkey,
+                largestkey,
+                smallestlog,
+                largestlog,
+            },
+        ) => ExtremesTold {
             there: 1,
             smallestkey: id_told(smallestkey),
             largestkey: id_told(largestkey),
@@ -63,18 +66,18 @@ fn extremes_told(x: Extremes) -> ExtremesTold
     }
 }
 
-fn figures_told(told: EdgeSstTold, s: Summary) -> EdgeSstSummary
-    ensures { result ≡ figures_told told s (extremes_told s.extremes) }
+// What a summary says, beside no refusal.
+fn figures_told(s: Summary) -> EdgeSstSummary
+    ensures { result ≡ figures_told (check_told (Ok tt)) s (extremes_told s.extremes) }
 {
-    let extremes = s.extremes;
-    let x = extremes_told(extremes);
+    let x = extremes_told(s.extremes);
     let smallestkey = x.smallestkey;
     let largestkey = x.largestkey;
     let buckets = s.buckets;
     EdgeSstSummary {
-        number: told.number,
-        place: told.place,
-        beside: told.beside,
+        number: 0,
+        place: 0,
+        beside: 0,
         keycount: s.keycount,
         edgecount: s.edgecount,
         tombstones: s.tombstones,
@@ -88,13 +91,35 @@ fn figures_told(told: EdgeSstTold, s: Summary) -> EdgeSstSummary
     }
 }
 
+// A refusal, and zeros.
+fn no_figures(refusal: Refusal) -> EdgeSstSummary
+    ensures { result ≡ figures_told (check_told (Err refusal)) nothing none_told }
+{
+    let told = told_of(refusal);
+    EdgeSstSummary {
+        number: told.number as u64,
+        place: told.place,
+        beside: told.beside,
+        keycount: 0,
+        edgecount: 0,
+        tombstones: 0,
+        largestdegree: 0,
+        extremes: 0,
+        smallestkey: [0u8; 16],
+        largestkey: [0u8; 16],
+        smallestlog: 0,
+        largestlog: 0,
+        buckets: [0u64; 64],
+    }
+}
+
 // Sums a file's edges up, once the full check has passed.
 #[unsafe(no_mangle)]
 pub extern "C" fn edge_sst_summary(file: &[u8]) -> EdgeSstSummary
     ensures { result ≡ summary_told (summarised_of file.now) }
 {
-    let s = summary(file);
-    let told = s.told;
-    let figures = s.summary;
-    figures_told(check_told(told), figures)
+    match summary(file) {
+        Ok(figures) => figures_told(figures),
+        Err(refusal) => no_figures(refusal),
+    }
 }

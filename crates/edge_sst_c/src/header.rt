@@ -7,7 +7,7 @@ ghost use Rattle.edge_sst_c.specs.Header.{fields_told, without_fields, header_to
 
 use codes::ids::{Id, put_id};
 use frame::ends::Header;
-use reader::header::{HeaderRead, header};
+use reader::header::header;
 use refusal::{Refusal, told_of};
 
 // A refusal's number and places, or zeros and what the header says; where it is refused, all else is 0.
@@ -75,7 +75,7 @@ pub extern "C" fn edge_sst_header(file: &[u8]) -> EdgeSstHeader
     ensures { result ≡ header_told (header_of file.now) }
 {
     match header(file) {
-        HeaderRead::Good { header: h } => fields_told(h),
-        HeaderRead::Refused { refusal } => no_fields(refusal),
+        Ok(h) => fields_told(h),
+        Err(refusal) => no_fields(refusal),
     }
 }

@@ -15,7 +15,7 @@ pub mod running;
 pub mod section_list;
 pub mod write;
 
-use frame::{Opened, Opening};
+use frame::Opened;
 use reader::open::open;
 use refusal::{Refusal, told_of};
 
@@ -82,15 +82,6 @@ impl EdgeSstOpened {
     pub const INDEXED: usize = 19;
 }
 
-fn truth(b: bool) -> u64
-    ensures { result ≡ truth b }
-{
-    if b {
-        return 1;
-    }
-    0
-}
-
 fn record_told(o: Opened) -> EdgeSstOpened
     ensures { result ≡ record_with o (truth o.marked) (truth o.indexed) }
 {
@@ -114,13 +105,13 @@ fn record_told(o: Opened) -> EdgeSstOpened
         loglen: logs.len,
         deadstart: dead.start,
         deadlen: dead.len,
-        marked: truth(o.marked),
+        marked: u64::from(o.marked),
         keycount: o.keycount,
         edgecount: o.edgecount,
         bits: o.bits as u64,
         indexstart: starts.start,
         indexlen: starts.len,
-        indexed: truth(o.indexed),
+        indexed: u64::from(o.indexed),
     }
 }
 
@@ -158,7 +149,7 @@ pub extern "C" fn edge_sst_open(file: &[u8]) -> EdgeSstOpened
     ensures { result ≡ opened_told (open_of file.now) }
 {
     match open(file) {
-        Opening::Good { opened } => record_told(opened),
-        Opening::Refused { refusal } => refusal_told(refusal),
+        Ok(opened) => record_told(opened),
+        Err(refusal) => refusal_told(refusal),
     }
 }

@@ -1,5 +1,5 @@
 // Lookups for C: of a file, or by an opened record that the caller lends.
-ghost use Rattle.std.specs.Prelude.{◌≡◌, true, false, length, ltb};
+ghost use Rattle.std.specs.Prelude.{◌≡◌, true, false, length, ltb, Ok};
 ghost use Rattle.base.specs.Pick.{pick};
 ghost use Rattle.codes.specs.Ids.{id_at};
 ghost use Rattle.lookup.specs.Lookup.{look_of, look_with};
@@ -41,10 +41,11 @@ fn refused_told(r: Refusal) -> EdgeSstLooked
     }
 }
 
-fn looked_told(l: Looked) -> EdgeSstLooked
-    ensures { result ≡ looked_told l }
+// A key that is there, or is not.
+fn found_told(looked: Looked) -> EdgeSstLooked
+    ensures { result ≡ looked_told (Ok looked) }
 {
-    match l {
+    match looked {
         Looked::Found {
             degree,
             index,
@@ -67,7 +68,15 @@ fn looked_told(l: Looked) -> EdgeSstLooked
             index: 0,
             compared,
         },
-        Looked::Refused { refusal } => refused_told(refusal),
+    }
+}
+
+fn looked_told(l: Result<Looked, Refusal>) -> EdgeSstLooked
+    ensures { result ≡ looked_told l }
+{
+    match l {
+        Ok(looked) => found_told(looked),
+        Err(refusal) => refused_told(refusal),
     }
 }
 
@@ -75,6 +84,7 @@ fn looked_told(l: Looked) -> EdgeSstLooked
 fn byte_or(x: u64) -> u8
     ensures { result ≡ byte_or x }
 {
+    // Stays a test by hand: the bound is what the line above says, and `try_from` would not show it.
     if x < 256 {
         return x as u8;
     }

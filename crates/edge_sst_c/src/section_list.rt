@@ -1,12 +1,12 @@
 // The section list for C: each row is seven numbers.
 ghost use Rattle.std.specs.Prelude.{◌≡◌, ◌+◌, ◌*◌, ◌/◌, ◌≤◌, length};
 ghost use Rattle.std.proofs.lemmas.List.Edits.{sets};
-ghost use Rattle.listing.specs.List.{plan_of, listed_of};
+ghost use Rattle.listing.specs.List.{rows_written, listed_of};
 ghost use Rattle.edge_sst_c.specs.SectionList.{listed_told, numbers_of, numbered};
 
 use frame::Row;
-use listing::{Listed, plan_for, row_of};
-use refusal::told_of;
+use listing::{plan_for, row_of};
+use refusal::{Refusal, told_of};
 
 // A refusal's number and places, or zeros and how many rows were written; 0 where it is refused.
 #[repr(C)]
@@ -18,17 +18,17 @@ pub struct EdgeSstListed {
     pub rows: u64,
 }
 
-fn listed_told(l: Listed) -> EdgeSstListed
+fn listed_told(l: Result<u64, Refusal>) -> EdgeSstListed
     ensures { result ≡ listed_told l }
 {
     match l {
-        Listed::Done { rows } => EdgeSstListed {
+        Ok(rows) => EdgeSstListed {
             number: 0,
             place: 0,
             beside: 0,
             rows,
         },
-        Listed::Refused { refusal } => {
+        Err(refusal) => {
             let t = told_of(refusal);
             EdgeSstListed {
                 number: t.number as u64,
@@ -59,20 +59,17 @@ fn tell_rows(file: &[u8], out: &mut [u64], n: usize)
     requires { 7 * n ≤ length out.old }
     ensures { out.new ≡ numbered file.now n out.old }
 {
-    let mut i: usize = 0;
-    while i < n {
+    for i in 0..n {
         tell_row(out, 7 * i, row_of(file, i));
-        i = i + 1;
     }
 }
 
 // Lists a file's sections, seven numbers for each.
 #[unsafe(no_mangle)]
 pub extern "C" fn edge_sst_sections(file: &[u8], numbers: &mut [u64]) -> EdgeSstListed
-    ensures { (result ≡ listed_told (listed_of file.now (length numbers.old / 7))) × (numbers.new ≡ numbered file.now (plan_of file.now (length numbers.old / 7)).n numbers.old) }
+    ensures { (result ≡ listed_told (listed_of file.now (length numbers.old / 7))) × (numbers.new ≡ numbered file.now (rows_written (listed_of file.now (length numbers.old / 7))) numbers.old) }
 {
-    let p = plan_for(file, numbers.len() / 7);
-    tell_rows(file, numbers, p.n);
-    let answer = p.answer;
+    let answer = plan_for(file, numbers.len() / 7);
+    tell_rows(file, numbers, answer.unwrap_or(0) as usize);
     listed_told(answer)
 }

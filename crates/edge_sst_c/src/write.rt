@@ -2,41 +2,19 @@
 ghost use Rattle.std.specs.Prelude.{◌≡◌, length};
 ghost use Rattle.xxh3_spec.specs.Xxh3.{xxh3};
 ghost use Rattle.write_file.specs.Written.{needed_of};
-ghost use Rattle.edge_sst_c.specs.Write.{written_told, WroteTold};
+ghost use Rattle.edge_sst_c.specs.Desk.{done_told};
+ghost use Rattle.edge_sst_c.specs.Write.{WroteTold};
 
-use super::desk::EdgeSstDone;
-use refusal::told_of;
-use write_file::{Written, needed, write};
+use super::desk::{EdgeSstDone, done_told};
+use write_file::{needed, write};
 use xxh3_whole::xxh3;
-
-fn written_told(w: Written) -> EdgeSstDone
-    ensures { result ≡ written_told w }
-{
-    match w {
-        Written::Done { bytes } => EdgeSstDone {
-            number: 0,
-            place: 0,
-            beside: 0,
-            bytes,
-        },
-        Written::Refused { refusal } => {
-            let t = told_of(refusal);
-            EdgeSstDone {
-                number: t.number as u64,
-                place: t.place,
-                beside: t.beside,
-                bytes: 0,
-            }
-        }
-    }
-}
 
 // How many bytes the file of a batch takes.
 #[unsafe(no_mangle)]
 pub extern "C" fn edge_sst_needed(batch: &[u8]) -> EdgeSstDone
-    ensures { result ≡ written_told (needed_of batch.now) }
+    ensures { result ≡ done_told (needed_of batch.now) }
 {
-    written_told(needed(batch))
+    done_told(needed(batch))
 }
 
 // Writes the file of a batch over the start of `out`.
@@ -44,7 +22,7 @@ pub extern "C" fn edge_sst_needed(batch: &[u8]) -> EdgeSstDone
 pub extern "C" fn edge_sst_write(batch: &[u8], out: &mut [u8]) -> EdgeSstDone
     ensures { WroteTold batch.now out.old result out.new }
 {
-    written_told(write(batch, out))
+    done_told(write(batch, out))
 }
 
 // The XXH3-64 of any bytes.

@@ -10,7 +10,7 @@ ghost use Rattle.lookup.specs.Lookup.{look_of, look_with};
 ghost use Rattle.lookup.specs.Calls.{alone};
 ghost use Rattle.reader.specs.Header.{header_of};
 ghost use Rattle.full_check.specs.Full.{full_check};
-ghost use Rattle.listing.specs.List.{plan_of, listed_of};
+ghost use Rattle.listing.specs.List.{rows_written, listed_of};
 ghost use Rattle.readout.specs.ReadOut.{read_out_of, read_out_leaves};
 ghost use Rattle.summary.specs.Summary.{summarised_of};
 ghost use Rattle.write_file.specs.Written.{needed_of};
@@ -18,9 +18,9 @@ ghost use Rattle.edge_sst_c.specs.Told.{opened_told};
 ghost use Rattle.edge_sst_c.specs.Header.{header_told};
 ghost use Rattle.edge_sst_c.specs.SectionList.{listed_told, numbered};
 ghost use Rattle.edge_sst_c.specs.Look.{record_lent, PartnersTold, EdgesToldBy};
-ghost use Rattle.edge_sst_c.specs.Desk.{check_told, read_told};
+ghost use Rattle.edge_sst_c.specs.Desk.{check_told, done_told};
 ghost use Rattle.edge_sst_c.specs.Summary.{summary_told};
-ghost use Rattle.edge_sst_c.specs.Write.{written_told, WroteTold};
+ghost use Rattle.edge_sst_c.specs.Write.{WroteTold};
 
 use edge_sst_c::EdgeSstOpened;
 use edge_sst_c::desk::{EdgeSstDone, EdgeSstTold};
@@ -49,7 +49,7 @@ pub extern "C" fn edge_sst_header(file: &[u8]) -> EdgeSstHeader
 // Lists a file's sections, seven numbers for each.
 #[unsafe(no_mangle)]
 pub extern "C" fn edge_sst_sections(file: &[u8], numbers: &mut [u64]) -> EdgeSstListed
-    ensures { (result ≡ listed_told (listed_of file.now (length numbers.old / 7))) × (numbers.new ≡ numbered file.now (plan_of file.now (length numbers.old / 7)).n numbers.old) }
+    ensures { (result ≡ listed_told (listed_of file.now (length numbers.old / 7))) × (numbers.new ≡ numbered file.now (rows_written (listed_of file.now (length numbers.old / 7))) numbers.old) }
 {
     edge_sst_c::section_list::edge_sst_sections(file, numbers)
 }
@@ -115,7 +115,7 @@ pub extern "C" fn edge_sst_check(file: &[u8]) -> EdgeSstTold
 // Reads a file out as a batch.
 #[unsafe(no_mangle)]
 pub extern "C" fn edge_sst_read_out(file: &[u8], out: &mut [u8]) -> EdgeSstDone
-    ensures { (result ≡ read_told (read_out_of file.now (length out.old))) × (out.new ≡ read_out_leaves file.now out.old) }
+    ensures { (result ≡ done_told (read_out_of file.now (length out.old))) × (out.new ≡ read_out_leaves file.now out.old) }
 {
     edge_sst_c::desk::edge_sst_read_out(file, out)
 }
@@ -131,7 +131,7 @@ pub extern "C" fn edge_sst_summary(file: &[u8]) -> EdgeSstSummary
 // How many bytes the file of a batch takes.
 #[unsafe(no_mangle)]
 pub extern "C" fn edge_sst_needed(batch: &[u8]) -> EdgeSstDone
-    ensures { result ≡ written_told (needed_of batch.now) }
+    ensures { result ≡ done_told (needed_of batch.now) }
 {
     edge_sst_c::write::edge_sst_needed(batch)
 }

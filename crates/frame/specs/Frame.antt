@@ -1,6 +1,6 @@
 -- Rules 1 to 12 and 36 of opening. They see the file's size, its first bytes h and its last bytes t, and no more; for a whole
 -- file f both are f. Every definition is total: past the end of a list there are zeros.
-use Rattle.std.specs.Prelude.{ℕ, zero, suc, ◌+◌, ◌-◌, ◌/◌, ◌%◌, ◌^◌, List, [], ◌∷◌, Bool, true, false, not, ◌&&◌, ◌||◌, length, get_or, ltb, leb, eqb}
+use Rattle.std.specs.Prelude.{ℕ, zero, suc, ◌+◌, ◌-◌, ◌/◌, ◌%◌, ◌^◌, List, [], ◌∷◌, Bool, true, false, not, ◌&&◌, ◌||◌, length, get_or, ltb, leb, eqb, Ok, Err}
 use Rattle.std.specs.Bool.{beq}
 use Rattle.base.specs.Pick.{pick}
 use Rattle.base.specs.Over.{part}
@@ -8,8 +8,7 @@ use Rattle.codes.specs.Little.{le_at}
 use Rattle.codes.specs.Ids.{halves_at}
 use Rattle.xxh3_spec.specs.Xxh3.{xxh3}
 use Rattle.refusal.specs.declared.Refusal.{Refusal}
-use Rattle.refusal.specs.declared.Check.{Check}
-use Rattle.refusal.specs.Check.{◌⊳◌, refuse}
+use Rattle.refusal.specs.Check.{◌⊳◌, refuse, Check}
 use Rattle.frame.specs.declared.Row.{Row}
 use Rattle.frame.specs.declared.Range.{Range}
 use Rattle.frame.specs.declared.Opened.{Opened}
@@ -145,8 +144,8 @@ table_good b =
 
 -- each entry is good, or the first that is not is told; the first of them is entry k
 unfoldable pub each_row : (Row → Bool) → (ℕ → Refusal) → List Row → ℕ → Check
-each_row good told [] k = Check.Fine
-each_row good told (r ∷ rs) k = pick (good r) (each_row good told rs (k + 1)) (Check.Bad (told k))
+each_row good told [] k = Ok tt
+each_row good told (r ∷ rs) k = pick (good r) (each_row good told rs (k + 1)) (Err (told k))
 
 -- a kind outside the reserved range
 abbrev pub kind_good : Row → Bool
@@ -161,9 +160,9 @@ abbrev pub range_good : ℕ → ℕ → Row → Bool
 range_good limit floor r = leb floor r.start && leb (r.start + r.len) limit
 
 unfoldable pub ranges : ℕ → List Row → ℕ → ℕ → Check
-ranges limit [] floor k = Check.Fine
+ranges limit [] floor k = Ok tt
 ranges limit (r ∷ rs) floor k =
-    pick (range_good limit floor r) (ranges limit rs (r.start + r.len) (k + 1)) (Check.Bad (Refusal.Range k))
+    pick (range_good limit floor r) (ranges limit rs (r.start + r.len) (k + 1)) (Err (Refusal.Range k))
 
 -- ---- rule 12
 

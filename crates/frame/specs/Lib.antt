@@ -1,5 +1,6 @@
 pub mod Kind
 pub mod Frame
+pub mod Opening
 pub mod Open
 pub mod Given
 pub mod Header

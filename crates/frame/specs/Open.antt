@@ -1,19 +1,17 @@
 -- Opening: what the frame gives, rules 13 to 15 and 37 over the contents of the sections, and the answer.
-use Rattle.std.specs.Prelude.{ℕ, zero, suc, ◌+◌, ◌-◌, ◌*◌, ◌/◌, List, [], Bool, true, not, ◌&&◌, ◌||◌, length, ltb, leb, eqb}
+use Rattle.std.specs.Prelude.{ℕ, zero, suc, ◌+◌, ◌-◌, ◌*◌, ◌/◌, List, [], Bool, true, not, ◌&&◌, ◌||◌, length, ltb, leb, eqb, Ok, Err}
 use Rattle.base.specs.Pick.{pick}
 use Rattle.base.specs.Over.{part}
 use Rattle.codes.specs.Little.{le_at}
 use Rattle.codes.specs.Ids.{id_at}
 use Rattle.refusal.specs.declared.Refusal.{Refusal}
-use Rattle.refusal.specs.declared.Check.{Check}
-use Rattle.refusal.specs.Check.{◌⊳◌, refuse}
+use Rattle.refusal.specs.Check.{◌⊳◌, refuse, Check}
 use Rattle.frame.specs.declared.Range.{Range}
 use Rattle.frame.specs.declared.Opened.{Opened}
 use Rattle.frame.specs.declared.Framed.{Framed}
-use Rattle.frame.specs.declared.Framing.{Framing}
-use Rattle.frame.specs.declared.Opening.{Opening}
 use Rattle.frame.specs.Kind as kind
 use Rattle.frame.specs.Frame.{width_good, sizes_good, frame_check}
+use Rattle.frame.specs.Opening.{Opening, Framing}
 unfoldable pub use Rattle.frame.specs.Frame.{record_from, record_of, framed_from, framed_of}
 pub mod Laws
 
@@ -80,8 +78,8 @@ abbrev pub key_at : List ℕ → ℕ → ℕ
 key_at s k = id_at s (k * kind.key_size)
 
 unfoldable pub keys_from : ℕ → List ℕ → ℕ → Check
-keys_from zero s k = Check.Fine
-keys_from (suc d) s k = pick (ltb (key_at s (k - 1)) (key_at s k)) (keys_from d s (k + 1)) (Check.Bad (Refusal.Key k))
+keys_from zero s k = Ok tt
+keys_from (suc d) s k = pick (ltb (key_at s (k - 1)) (key_at s k)) (keys_from d s (k + 1)) (Err (Refusal.Key k))
 
 -- ---- rules 14 and 37: of n + 1 numbers of w bytes "the first is 0, each is above the one before, the last is" a number that
 -- is known
@@ -96,8 +94,8 @@ offset_good o w n len i =
 
 -- d of them from i on: the first that is not good is told
 unfoldable pub rising_from : (ℕ → Refusal) → ℕ → List ℕ → ℕ → ℕ → ℕ → ℕ → Check
-rising_from told zero o w n len i = Check.Fine
-rising_from told (suc d) o w n len i = pick (offset_good o w n len i) (rising_from told d o w n len (i + 1)) (Check.Bad (told i))
+rising_from told zero o w n len i = Ok tt
+rising_from told (suc d) o w n len i = pick (offset_good o w n len i) (rising_from told d o w n len (i + 1)) (Err (told i))
 
 -- 14: offsets of w bytes; "the last is the partner section's length"
 abbrev pub offsets_check : List ℕ → ℕ → ℕ → ℕ → Check
@@ -138,7 +136,7 @@ fences_good x keys n =
 
 -- 37, where there is a start index
 abbrev pub indexed_check : Known → Check
-indexed_check k = pick k.indexed (starts_check k.starts k.keycount k.edgecount) Check.Fine
+indexed_check k = pick k.indexed (starts_check k.starts k.keycount k.edgecount) (Ok tt)
 
 -- rules 13 to 15, then 37
 unfoldable pub content_check : Known → Bool → List ℕ → Check
@@ -155,12 +153,12 @@ file_check f =
 
 -- the answers: what there is where no rule is broken, or the first refusal
 unfoldable pub framing : Check → Framed → Framing
-framing Check.Fine x = Framing.Good x
-framing (Check.Bad r) x = Framing.Refused r
+framing (Ok _) x = Ok x
+framing (Err r) x = Err r
 
 unfoldable pub opening : Check → Opened → Opening
-opening Check.Fine o = Opening.Good o
-opening (Check.Bad r) o = Opening.Refused r
+opening (Ok _) o = Ok o
+opening (Err r) o = Err r
 
 unfoldable pub open_of : List ℕ → Opening
 open_of f = opening (file_check f) (record_of f)

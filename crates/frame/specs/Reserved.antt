@@ -1,6 +1,5 @@
 -- Sections of the reserved range: when opening gives 36, exactly, and that no file with such a section opens.
-use Rattle.std.specs.Prelude.{◌≡◌, ℕ, zero, suc, ◌<◌, List, [], ◌∷◌, false, length}
-use Rattle.refusal.specs.declared.Check.{Check}
+use Rattle.std.specs.Prelude.{◌≡◌, ℕ, zero, suc, ◌<◌, List, [], ◌∷◌, false, length, Ok}
 use Rattle.frame.specs.declared.Row.{Row}
 use Rattle.frame.specs.Kind as kind
 use Rattle.frame.specs.Frame.{rows_of, body_of, size_check, head_check, tail_check, sum_check}
@@ -29,10 +28,10 @@ pub data ButUnread : List Row → List Row → Type 0 where
 
 -- rules 1 to 9 pass
 pub record Tabled (f : List ℕ) : Type 0 where
-  pub size : size_check (length f) ≡ Check.Fine
-  pub head : head_check f ≡ Check.Fine
-  pub tail : tail_check (length f) f ≡ Check.Fine
-  pub sum : sum_check f ≡ Check.Fine
+  pub size : size_check (length f) ≡ (Ok tt)
+  pub head : head_check f ≡ (Ok tt)
+  pub tail : tail_check (length f) f ≡ (Ok tt)
+  pub sum : sum_check f ≡ (Ok tt)
   pub table : Table (body_of f)
 
 -- "36, place the first such entry, after 9 and before 10"

@@ -4,7 +4,7 @@ ghost use Rattle.frame.specs.Kind as kind;
 ghost use Rattle.frame.specs.Frame.{foot_len, body_of};
 
 use codes::ids::Id;
-use codes::little::le32;
+use codes::little::le;
 
 // What the header says, beside its magic, major version and size, which opening asks.
 #[derive(Drop)]
@@ -69,7 +69,7 @@ pub fn foot_len(t: &[u8]) -> usize
     requires { kind.trailer_size ≤ length t.now }
     ensures { result ≡ foot_len t.now }
 {
-    le32(t, t.len() - 12) as usize
+    le::<4>(t, t.len() - 12) as usize
 }
 
 // Where the footer begins in them.

@@ -6,8 +6,6 @@ ghost use Rattle.std.specs.Prelude.{◌≡◌, ◌+◌, ◌≤◌, length};
 ghost use Rattle.frame.specs.Frame.{raw_row};
 ghost use Rattle.frame.specs.Open.{bytes_at};
 
-use refusal::Refusal;
-
 pub mod bounds;
 pub mod ends;
 pub mod kind;
@@ -68,6 +66,8 @@ impl Row {
 // What a lookup reads of a file: where the sections lie, the counts, the offset bits. Anyone may fill one. The small fields stand
 // together: of more than 128 bytes the compiler makes a call of each copy.
 // A section that is not there is an empty range; `marked` says whether there are tombstones, `indexed` whether there is a start index.
+// Stay flags beside ranges: any flag with any range is a record that may be lent (`record_within`, C's twenty numbers), and two
+// `Option`s would pass 128 bytes.
 #[derive(Clone, Copy)]
 pub struct Opened {
     pub keys: Range,
@@ -90,19 +90,6 @@ pub struct Framed {
     pub fenced: bool,
     pub fences: Range,
     pub streams: bool,
-}
-
-// The frame's answer, and that of opening.
-#[derive(Drop)]
-pub enum Framing {
-    Good { framed: Framed },
-    Refused { refusal: Refusal },
-}
-
-#[derive(Drop)]
-pub enum Opening {
-    Good { opened: Opened },
-    Refused { refusal: Refusal },
 }
 
 // The bytes of a section that lies within the file.

@@ -1,20 +1,19 @@
 -- The full check: "opening, 22, all groups, 23".
-use Rattle.std.specs.Prelude.{ℕ, zero, suc, ◌+◌, ◌-◌, ◌*◌, ◌/◌, List, [], ◌∷◌, Bool, false, not, ◌&&◌, ◌||◌, length, eqb}
+use Rattle.std.specs.Prelude.{ℕ, zero, suc, ◌+◌, ◌-◌, ◌*◌, ◌/◌, List, [], ◌∷◌, Bool, false, not, ◌&&◌, ◌||◌, length, eqb, Result, Ok, Err}
 use Rattle.std.specs.Bool.{beq}
 use Rattle.base.specs.Pick.{pick}
 use Rattle.xxh3_spec.specs.Xxh3.{xxh3}
 use Rattle.refusal.specs.declared.Refusal.{Refusal}
-use Rattle.refusal.specs.declared.Check.{Check}
-use Rattle.refusal.specs.Check.{◌⊳◌, refuse}
+use Rattle.refusal.specs.Check.{◌⊳◌, refuse, Check}
 use Rattle.frame.specs.declared.Row.{Row}
 use Rattle.frame.specs.Frame.{range_of, rows_of, flag, flags_of, body_of, record_of}
-use Rattle.frame.specs.declared.Opening.{Opening}
 use Rattle.frame.specs.Open.{Known, known_of, bytes_at, start_at, file_check, opening}
 use Rattle.degrees.specs.Degrees.{group_at}
 use Rattle.group.specs.Group.{Decoded, good, bad, group_of, partners_of}
 use Rattle.lookup.specs.Lookup.{group_check, mark_at}
 use Rattle.full_check.specs.declared.groups.Groups.{Groups}
 use Rattle.full_check.specs.declared.marks.Marks.{Marks}
+use Rattle.frame.specs.Opening.{Opening}
 pub mod Laws
 
 -- ---- 22: "a section's checksum, skipped kinds too", at the "first entry"
@@ -23,8 +22,8 @@ abbrev pub sum_good : List ℕ → Row → Bool
 sum_good f r = eqb (xxh3 (bytes_at f (range_of r))) r.sum
 
 unfoldable pub sums_from : List ℕ → List Row → ℕ → Check
-sums_from f [] k = Check.Fine
-sums_from f (r ∷ rs) k = pick (sum_good f r) (sums_from f rs (k + 1)) (Check.Bad (Refusal.Sum k))
+sums_from f [] k = Ok tt
+sums_from f (r ∷ rs) k = pick (sum_good f r) (sums_from f rs (k + 1)) (Err (Refusal.Sum k))
 
 -- ---- a group is dense
 
@@ -40,7 +39,7 @@ module _ (p o : List ℕ) (w : ℕ) where
   group_in i = group_of (group_at p o w i)
 
   unfoldable pub groups_from : ℕ → ℕ → Check
-  groups_from zero i = Check.Fine
+  groups_from zero i = Ok tt
   groups_from (suc d) i = group_check i (group_in i) ⊳ groups_from d (i + 1)
 
   -- the sum of their degrees
@@ -97,12 +96,12 @@ full_check f =
 
 -- ---- what the pass over the groups answers
 
-unfoldable pub groups_told : Check → ℕ → Bool → Bool → Groups
-groups_told Check.Fine sum dense stray = Groups.Good sum dense stray
-groups_told (Check.Bad r) sum dense stray = Groups.Refused r
+unfoldable pub groups_told : Check → ℕ → Bool → Bool → Result Groups Refusal
+groups_told (Ok _) sum dense stray = Ok (record { edges = sum; dense = dense; stray = stray })
+groups_told (Err r) sum dense stray = Err r
 
 -- with the start index s, where it is there
-unfoldable pub groups_seen : List ℕ → List ℕ → ℕ → ℕ → Bool → List ℕ → Groups
+unfoldable pub groups_seen : List ℕ → List ℕ → ℕ → ℕ → Bool → List ℕ → Result Groups Refusal
 groups_seen p o w n there s = groups_told (groups_from p o w n 0) (degrees_from p o w n 0) (dense_from p o w n 0) (there && stray_from p o w s n 0 0)
 
 -- the record of a file that passes

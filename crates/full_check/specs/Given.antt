@@ -1,13 +1,12 @@
 -- Which refusals the full check gives after opening, and when it tells a fault of a group, exactly.
 use Rattle.std.proofs.Math.Path.{◌≡◌, refl}
 use Rattle.std.proofs.Common.{ap, ◌∙◌, arith}
-use Rattle.std.specs.Prelude.{◌↔◌, List, [], ◌∷◌, Bool, true, not}
+use Rattle.std.specs.Prelude.{◌↔◌, List, [], ◌∷◌, Bool, true, not, Ok, Err}
 use Prim.Native.Nat.{ℕ, zero, suc, ◌+◌, ◌/◌, ◌≤◌, ◌<◌}
 use Rattle.std.proofs.Math.Decide.{ℕ_discrete}
 use Rattle.refusal.specs.declared.Refusal.{Refusal}
-use Rattle.refusal.specs.declared.Check.{Check}
 use Rattle.refusal.specs.Refusal.{number_of}
-use Rattle.refusal.specs.Check.{◌⊳◌, refuse}
+use Rattle.refusal.specs.Check.{◌⊳◌, refuse, Check}
 use Rattle.refusal.proofs.Laws.Check.{bad_then, fine_then, by_first, by_second, listed, none_listed, Numbers, numbers_fine, numbers_bad, numbers_refuse, numbers_then, numbers_pick, numbers_more, not_given}
 use Rattle.frame.specs.declared.Row.{Row}
 use Rattle.frame.specs.Frame.{rows_of, flags_of, body_of, record_of}
@@ -47,7 +46,7 @@ module _ (p o : List ℕ) (w : ℕ) where
     pub fault : group_of (group_at p o w i) ≡ bad f
 
   -- a fault of group i, exactly
-  groups_fault : (d b i : ℕ) (f : Fault) → (groups_from p o w d b ≡ Check.Bad (refusal_of i f)) ↔ FaultFrom d b i f
+  groups_fault : (d b i : ℕ) (f : Fault) → (groups_from p o w d b ≡ Err (refusal_of i f)) ↔ FaultFrom d b i f
   unfolding groups_from group_check is_good
   groups_fault zero b i f =
       (λ e. let z : ◌≡◌ {A = ℕ} 0 1 = cc in absurd (omega arith), λ t. let l = t.least in let h = t.within in absurd (omega arith))
@@ -78,12 +77,12 @@ module _ (p o : List ℕ) (w : ℕ) where
             fault = t.fault;
           }
 
-      there : (x : Decoded) → group_in p o w b ≡ x → (rest ≡ Check.Bad (refusal_of i f) → FaultFrom d (b + 1) i f)
-          → group_check b x ⊳ rest ≡ Check.Bad (refusal_of i f) → FaultFrom (suc d) b i f
+      there : (x : Decoded) → group_in p o w b ≡ x → (rest ≡ Err (refusal_of i f) → FaultFrom d (b + 1) i f)
+          → group_check b x ⊳ rest ≡ Err (refusal_of i f) → FaultFrom (suc d) b i f
       there (good dense ps) q ih e = later (ap is_good q) (ih e)
       there (bad x) q ih e = let same : refusal_of b x ≡ refusal_of i f = cc in let t = fault_once b i x f same in first (q ∙ ap bad t.0) t.1
 
-      back : FaultFrom (suc d) b i f → (FaultFrom d (b + 1) i f → rest ≡ Check.Bad (refusal_of i f)) → group_check b (group_in p o w b) ⊳ rest ≡ Check.Bad (refusal_of i f)
+      back : FaultFrom (suc d) b i f → (FaultFrom d (b + 1) i f → rest ≡ Err (refusal_of i f)) → group_check b (group_in p o w b) ⊳ rest ≡ Err (refusal_of i f)
       back t ih =
           let least = t.least in
           let within = t.within in
@@ -124,18 +123,18 @@ module _ (f : List ℕ) where
   rest_numbers_lem = numbers_then full_numbers sums edges (numbers_more (22 ∷ []) full_numbers refl (sums_numbers f (rows_of (body_of f)) 0)) edges_numbers
 
   -- a refusal of opening is the full check's
-  pub full_opening : (r : Refusal) → listed (number_of r) opening_numbers ≡ true → (full_check f ≡ Check.Bad r) ↔ (file_check f ≡ Check.Bad r)
+  pub full_opening : (r : Refusal) → listed (number_of r) opening_numbers ≡ true → (full_check f ≡ Err r) ↔ (file_check f ≡ Err r)
   unfolding full_check
   full_opening r h = by_first (file_check f) (sums ⊳ edges) r (not_given full_numbers rest_numbers_lem r (none_listed opening_numbers full_numbers (number_of r) refl h))
 
   -- opening and 22 pass, and of all groups group i is the first with a fault, of which f is the first
   pub record FaultFirst (i : ℕ) (fault : Fault) : Type 0 where
-    pub opens : file_check f ≡ Check.Fine
-    pub summed : sums_from f (rows_of (body_of f)) 0 ≡ Check.Fine
+    pub opens : file_check f ≡ (Ok tt)
+    pub summed : sums_from f (rows_of (body_of f)) 0 ≡ (Ok tt)
     pub groups : FaultFrom (bytes_at f (record_of f).partners) (bytes_at f (record_of f).offsets) ((record_of f).bits / 8) (record_of f).keycount 0 i fault
 
   -- a fault of group i, exactly
-  pub full_fault : (i : ℕ) (fault : Fault) → (full_check f ≡ Check.Bad (refusal_of i fault)) ↔ FaultFirst i fault
+  pub full_fault : (i : ℕ) (fault : Fault) → (full_check f ≡ Err (refusal_of i fault)) ↔ FaultFirst i fault
   unfolding full_check edges_check known_of
   full_fault i fault =
       let r : Refusal = refusal_of i fault in

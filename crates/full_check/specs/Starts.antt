@@ -1,5 +1,5 @@
 -- The start index against the degrees: rule 23 finds no stray entry exactly if each says how many edges stand before its group.
-use Rattle.std.specs.Prelude.{◌≡◌, refl, ◌↔◌, List, [], Bool, true, false, not, ◌&&◌, ◌||◌, eqb}
+use Rattle.std.specs.Prelude.{◌≡◌, refl, ◌↔◌, List, [], Bool, true, false, not, ◌&&◌, ◌||◌, eqb, Ok, Err}
 use Rattle.std.proofs.Math.Path.{sym, ap}
 use Rattle.std.proofs.Common.{◌∙◌, zero-add, eqb-true, eq-eqb}
 use Prim.Native.Nat.{ℕ, zero, suc, ◌+◌, ◌/◌, ◌≤◌}
@@ -9,8 +9,7 @@ use Rattle.std.specs.Bool.{beq}
 use Rattle.std.proofs.Math.ListN.{length}
 use Rattle.std.proofs.lemmas.Bool.{not-false}
 use Rattle.refusal.specs.declared.Refusal.{Refusal}
-use Rattle.refusal.specs.declared.Check.{Check}
-use Rattle.refusal.specs.Check.{refuse}
+use Rattle.refusal.specs.Check.{refuse, Check}
 use Rattle.refusal.proofs.Laws.Check.{fine_parts, fine_both, fine_then, good_parts, good_fine}
 use Rattle.frame.specs.Frame.{flag}
 use Rattle.frame.specs.Open.{Known, start_at}
@@ -107,8 +106,8 @@ stray_exactly k = go k.indexed
     go false = (λ e m. let z : ◌≡◌ {A = ℕ} 0 1 = cc in absurd (omega arith), λ h. refl)
 
 pub edges_exactly : (flags : ℕ) (k : Known)
-    → (edges_check flags k ≡ Check.Fine)
-    ↔ ((edges_check flags (hidden k) ≡ Check.Fine)
+    → (edges_check flags k ≡ (Ok tt))
+    ↔ ((edges_check flags (hidden k) ≡ (Ok tt))
     × (k.indexed ≡ true → (j : ℕ) → j ≤ k.keycount → start_at k.starts j ≡ degrees_from k.partners k.offsets (k.bits / 8) j 0))
 unfolding edges_check
 edges_exactly flags k =
@@ -126,12 +125,12 @@ edges_exactly flags k =
     )
 
 -- and a stray entry, where all groups are good, is told by 23
-pub stray_told : (flags : ℕ) (k : Known) → groups_from k.partners k.offsets (k.bits / 8) k.keycount 0 ≡ Check.Fine → stray_in k ≡ true → edges_check flags k ≡ Check.Bad Refusal.Data
+pub stray_told : (flags : ℕ) (k : Known) → groups_from k.partners k.offsets (k.bits / 8) k.keycount 0 ≡ (Ok tt) → stray_in k ≡ true → edges_check flags k ≡ Err Refusal.Data
 unfolding edges_check
 stray_told flags k fine e =
     fine_then _ fine ∙ go (data_good flags k.edgecount k.dead (degrees_from k.partners k.offsets (k.bits / 8) k.keycount 0) (dense_from k.partners k.offsets (k.bits / 8) k.keycount 0) (stray_in k)) refl
   where
     go : (b : Bool) → data_good flags k.edgecount k.dead (degrees_from k.partners k.offsets (k.bits / 8) k.keycount 0) (dense_from k.partners k.offsets (k.bits / 8) k.keycount 0) (stray_in k) ≡ b
-        → refuse Refusal.Data (not b) ≡ Check.Bad Refusal.Data
+        → refuse Refusal.Data (not b) ≡ Err Refusal.Data
     go true g = let x = ((data_by flags k.edgecount k.dead (degrees_from k.partners k.offsets (k.bits / 8) k.keycount 0) (dense_from k.partners k.offsets (k.bits / 8) k.keycount 0) (stray_in k)).0 g).1 in let z : ◌≡◌ {A = ℕ} 0 1 = cc (e, x) in absurd (omega arith)
     go false g = refl

@@ -17,12 +17,10 @@ fn some_dead(s: &[u8], e: usize, d: usize) -> bool
     requires { (e ≤ most_edges) × (d ≤ most_edges) }
     ensures { result ≡ dead_from d s.now e }
 {
-    let mut j: usize = 0;
-    while j < d {
+    for j in 0..d {
         if mark_at(s, e + j) == 1 {
             return true;
         }
-        j = j + 1;
     }
     false
 }
@@ -32,12 +30,10 @@ fn bytes_dead(s: &[u8], m: usize) -> bool
     requires { m ≤ length s.now }
     ensures { result ≡ dead_from (8 * m) s.now 0 }
 {
-    let mut b: usize = 0;
-    while b < m {
+    for b in 0..m {
         if s[b] != 0 {
             return true;
         }
-        b = b + 1;
     }
     false
 }
@@ -47,10 +43,7 @@ fn edges_dead(s: &[u8], n: usize) -> bool
     requires { (n ≤ most_edges) × (n / 8 ≤ length s.now) }
     ensures { result ≡ dead_from n s.now 0 }
 {
-    if bytes_dead(s, n / 8) {
-        return true;
-    }
-    some_dead(s, n / 8 * 8, n % 8)
+    bytes_dead(s, n / 8) || some_dead(s, n / 8 * 8, n % 8)
 }
 
 // The marks of n edges, which fill s but for unused bits.
@@ -58,7 +51,8 @@ pub fn marks_of(s: &[u8], n: usize) -> Marks
     requires { (n ≤ most_edges) × (length s.now ≡ (n + 7) / 8) }
     ensures { result ≡ marks_of s.now n }
 {
-    let dead = edges_dead(s, n);
-    let unused = some_dead(s, n, 8 * s.len() - n);
-    Marks { dead, unused }
+    Marks {
+        dead: edges_dead(s, n),
+        unused: some_dead(s, n, 8 * s.len() - n),
+    }
 }

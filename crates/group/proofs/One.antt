@@ -7,8 +7,6 @@ use Rattle.group.specs.contracts.fault.refusal_of as refusal_of
 use Rattle.group.proofs.fault.refusal_of.Reads as refusal_of_reads
 use Rattle.group.specs.contracts.head.head_of as head_of
 use Rattle.group.proofs.head.head_of.Reads as head_of_reads
-use Rattle.group.specs.contracts.split.bad_step as bad_step
-use Rattle.group.proofs.split.bad_step.Reads as bad_step_reads
 use Rattle.group.specs.contracts.split.split_step as split_step
 use Rattle.group.proofs.split.split_step.Reads as split_step_reads
 use Rattle.group.specs.contracts.split.check_split as check_split
@@ -29,9 +27,6 @@ refusal_of_determined κs a pre r₁ r₂ w₁ w₂ p q = (p ∙ sym q, refl)
 
 pub head_of_determined : Determined head_of.ended head_of_reads.Pre head_of_reads.Post
 head_of_determined κs a pre r₁ r₂ w₁ w₂ p q = (p ∙ sym q, refl)
-
-pub bad_step_determined : Determined bad_step.ended bad_step_reads.Pre bad_step_reads.Post
-bad_step_determined κs a pre r₁ r₂ w₁ w₂ p q = (p ∙ sym q, refl)
 
 pub split_step_determined : Determined split_step.ended split_step_reads.Pre split_step_reads.Post
 split_step_determined κs a pre r₁ r₂ w₁ w₂ p q = (p ∙ sym q, refl)

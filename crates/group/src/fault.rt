@@ -1,12 +1,12 @@
 // What is wrong with a group, and where. A fault is made where it is met and handed on as it is; only `refusal_of` takes it apart.
 ghost use Rattle.std.specs.Prelude.{◌≡◌};
-ghost use Rattle.group.specs.Fault.{unread_of, refusal_of};
+ghost use Rattle.group.specs.Fault.{fault_at, unread_of, refusal_of};
 
 use codes::varint::Unread;
 use refusal::Refusal;
 
 // What is wrong.
-#[derive(Drop)]
+#[derive(Clone, Copy, Debug, PartialEq, Eq)]
 pub enum Flaw {
     // the tag is unknown
     Tag,
@@ -26,10 +26,19 @@ pub enum Flaw {
 
 // The first fault in reading order. `at` counts from the group's first byte: the varint's first byte (its own flaws, the
 // degree's, the upper half's), the partner's (order, cut), the tag's (unknown, missing), or the first spare one.
-#[derive(Drop)]
+#[derive(Clone, Copy, Debug, PartialEq, Eq)]
 pub struct Fault {
     pub flaw: Flaw,
     pub at: usize,
+}
+
+impl Flaw {
+    // This flaw at a byte of the group.
+    pub fn at(self, at: usize) -> Fault
+        ensures { result ≡ fault_at self at }
+    {
+        Fault { flaw: self, at }
+    }
 }
 
 // The refusal of a varint that is no number.

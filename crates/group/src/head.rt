@@ -1,13 +1,11 @@
 // What stands before the partners: the degree as a varint, and the tag.
 ghost use Rattle.std.specs.Prelude.{◌≡◌};
-ghost use Rattle.group.specs.declared.head.Head.{Head};
-ghost use Rattle.group.specs.Fault.{fault_at};
 ghost use Rattle.group.specs.Group.{head_of};
 
 use super::fault::{Fault, Flaw};
-use codes::varint::{Varint, short_at};
+use codes::varint::short_at;
 
-// The two tags.
+// The two tags. They stay bytes: one is matched where it is read, and written as it stands.
 #[derive(Drop)]
 pub struct Tag {}
 
@@ -18,44 +16,27 @@ impl Tag {
 }
 
 // The degree and where the payload begins, by the tag.
-#[derive(Drop)]
+#[derive(Clone, Copy, Debug, PartialEq, Eq)]
 pub enum Head {
     Split { degree: u64, at: usize },
     Dense { degree: u64, at: usize },
-    Bad { fault: Fault },
-}
-
-// A flaw at a byte of the head.
-fn bad_head(flaw: Flaw, at: usize) -> Head
-    ensures { result ≡ Head.Bad (fault_at flaw at) }
-{
-    Head::Bad {
-        fault: Fault { flaw, at },
-    }
 }
 
 // Degree 0 is told before the tag is looked at.
-pub fn head_of(g: &[u8]) -> Head
+pub fn head_of(g: &[u8]) -> Result<Head, Fault>
     ensures { result ≡ head_of g.now }
 {
-    match short_at(g, 0) {
-        Varint::Value { value, next } => {
-            if value == 0 {
-                return bad_head(Flaw::Degree, 0);
-            }
-            if g.len() <= next {
-                return bad_head(Flaw::Cut, next);
-            }
-            let tag = g[next];
-            let at = next + 1;
-            if tag == Tag::SPLIT {
-                return Head::Split { degree: value, at };
-            }
-            if tag == Tag::DENSE {
-                return Head::Dense { degree: value, at };
-            }
-            bad_head(Flaw::Tag, next)
-        }
-        Varint::Bad { why } => bad_head(Flaw::Number { why }, 0),
+    let (degree, tag) = short_at(g, 0).map_err(|why| Flaw::Number { why }.at(0))?;
+    if degree == 0 {
+        return Err(Flaw::Degree.at(0));
+    }
+    if g.len() <= tag {
+        return Err(Flaw::Cut.at(tag));
+    }
+    let at = tag + 1;
+    match g[tag] {
+        Tag::SPLIT => Ok(Head::Split { degree, at }),
+        Tag::DENSE => Ok(Head::Dense { degree, at }),
+        _ => Err(Flaw::Tag.at(tag)),
     }
 }

@@ -2,11 +2,8 @@
 // its offset range ends. The check reads them once and writes nothing; only a group that it found good is then written out.
 #![tactic(auto)]
 
-ghost use Rattle.std.specs.Prelude.{◌≡◌, true, ◌*◌, ◌≤◌, length, ltb};
+ghost use Rattle.std.specs.Prelude.{◌≡◌, true, ◌*◌, ◌≤◌, length};
 ghost use Rattle.base.specs.Over.{over};
-ghost use Rattle.codes.specs.Ids.{id_number};
-ghost use Rattle.group.specs.declared.GroupVerdict.{GroupVerdict};
-ghost use Rattle.group.specs.Fault.{fault_at};
 ghost use Rattle.group.specs.Group.{dense_size, group_of, verdict_of, is_good, partners_of, bytes_of};
 
 pub mod dense;
@@ -14,9 +11,8 @@ pub mod fault;
 pub mod head;
 pub mod split;
 
-use codes::ids::Id;
 use dense::{check_dense, fill_dense};
-use fault::{Fault, Flaw};
+use fault::Fault;
 use head::{Head, head_of};
 use split::{check_split, fill_split};
 
@@ -30,43 +26,20 @@ impl Partner {
     pub const LOWER: usize = 8;
 }
 
-// A group's partners are good, or its first fault in reading order.
-#[derive(Drop)]
-pub enum GroupVerdict {
-    Good { degree: u64, dense: bool },
-    Bad { fault: Fault },
-}
-
-// A flaw at a byte of the group.
-fn bad_group(flaw: Flaw, at: usize) -> GroupVerdict
-    ensures { result ≡ GroupVerdict.Bad (fault_at flaw at) }
-{
-    GroupVerdict::Bad {
-        fault: Fault { flaw, at },
-    }
-}
-
-// Is a partner above the last one?
-fn rises(last: Id, id: Id) -> bool
-    ensures { result ≡ ltb (id_number last) (id_number id) }
-{
-    if last.hi < id.hi {
-        return true;
-    }
-    if id.hi < last.hi {
-        return false;
-    }
-    last.lo < id.lo
+// What the check of a good group tells: how many partners it has, and whether it is dense.
+#[derive(Clone, Copy, Debug, PartialEq, Eq)]
+pub struct Group {
+    pub degree: u64,
+    pub dense: bool,
 }
 
 // Is g a group, and of how many partners?
-pub fn check_group(g: &[u8]) -> GroupVerdict
+pub fn check_group(g: &[u8]) -> Result<Group, Fault>
     ensures { result ≡ verdict_of (group_of g.now) }
 {
-    match head_of(g) {
+    match head_of(g)? {
         Head::Split { degree, at } => check_split(g, at, degree),
         Head::Dense { degree, at } => check_dense(g, at, degree),
-        Head::Bad { fault } => GroupVerdict::Bad { fault },
     }
 }
 
@@ -76,14 +49,8 @@ pub fn fill_group(g: &[u8], out: &mut [u8])
     ensures { out.new ≡ over (bytes_of (partners_of (group_of g.now))) out.old }
 {
     match head_of(g) {
-        Head::Split { degree, at } => {
-            fill_split(g, at, degree, out);
-        }
-        Head::Dense { degree: _, at } => {
-            fill_dense(g, at, out);
-        }
-        Head::Bad { fault: _ } => {
-            return;
-        }
+        Ok(Head::Split { degree, at }) => fill_split(g, at, degree, out),
+        Ok(Head::Dense { at, .. }) => fill_dense(g, at, out),
+        Err(_) => {}
     }
 }

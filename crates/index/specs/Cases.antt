@@ -1,6 +1,7 @@
 -- Rules 13 to 15 and 37 by their cases, as the loops meet them.
-use Rattle.std.specs.Prelude.{◌≡◌, List, Bool, true, false, ◌&&◌, length, ltb, eqb}
-use Rattle.std.proofs.Common.{sym, ap, ◌∙◌, div-add-mod', mul-le-mul_left, mul-le-mul_right}
+use Rattle.std.proofs.lemmas.Nat.{div-mul-add}
+use Rattle.std.specs.Prelude.{◌≡◌, List, Bool, true, false, min, ◌&&◌, length, ltb, eqb, Result, Ok, Err}
+use Rattle.std.proofs.Common.{sym, ap, ◌∙◌, div-add-mod'}
 use Prim.Native.Nat.{ℕ, suc, ◌+◌, ◌-◌, ◌*◌, ◌/◌, ◌%◌, ◌≤◌, ◌<◌}
 use native.Mathlib.Omega.{arith}
 use Rattle.std.proofs.Math.Decide.{dec_lt}
@@ -8,13 +9,13 @@ use borrow.Author.Tests.{lt-ltb, le-ltb, lt-leb, le-leb, eq-eqb, ne_eqb}
 use Rattle.base.specs.Pick.{pick}
 use Rattle.codes.specs.Little.{le_at}
 use Rattle.refusal.specs.declared.Refusal.{Refusal}
-use Rattle.refusal.specs.declared.Check.{Check}
+use Rattle.refusal.specs.Check.{Check}
 use Rattle.frame.specs.Open.{key_at, keys_from, offset_at, offset_good, rising_from, fence_good, fences_from, fences_good, stride_of, fences_told}
 
 -- ---- rule 13: of n keys, k is the next
 
 module _ (s : List ℕ) (n k : ℕ) (lt : k < n) where
-  pub keys_bad : ltb (key_at s (k - 1)) (key_at s k) ≡ false → keys_from (n - k) s k ≡ Check.Bad (Refusal.Key k)
+  pub keys_bad : ltb (key_at s (k - 1)) (key_at s k) ≡ false → keys_from (n - k) s k ≡ Err (Refusal.Key k)
   unfolding keys_from
   keys_bad e = let d : n - k ≡ suc (n - (k + 1)) = omega arith in rw (d, e)
 
@@ -22,15 +23,15 @@ module _ (s : List ℕ) (n k : ℕ) (lt : k < n) where
   unfolding keys_from
   keys_on e = let d : n - k ≡ suc (n - (k + 1)) = omega arith in rw (d, e)
 
-pub keys_none : (s : List ℕ) (n k : ℕ) → n ≤ k → keys_from (n - k) s k ≡ Check.Fine
+pub keys_none : (s : List ℕ) (n k : ℕ) → n ≤ k → keys_from (n - k) s k ≡ (Ok tt)
 unfolding keys_from
 keys_none s n k h = let d : n - k ≡ 0 = omega arith in rw d
 
 -- ---- rules 14 and 37: offset i is the last that was read
 
--- an offset as the number of so many bytes
-pub of_width : (o : List ℕ) (w i b : ℕ) → w ≡ b → le_at o (i * w) b ≡ offset_at o w i
-of_width o w i b e = ap (le_at o (i * w)) (sym e)
+-- the first, where its place is not counted
+pub first_at : (o : List ℕ) (w : ℕ) → le_at o 0 w ≡ offset_at o w 0
+first_at o w = let e : 0 ≡ 0 * w = omega arith in ap (λ (t : ℕ). le_at o t w) e
 
 -- the first is 0, another is above the one before
 abbrev pub rising_keys : List ℕ → ℕ → ℕ → Bool
@@ -44,8 +45,13 @@ next_rises o w i h =
     let e : i + 1 - 1 ≡ i = omega arith in
     rw e (simp (ne_eqb (i + 1) 0 (λ q. omega arith), lt-ltb (offset_at o w i) (offset_at o w (i + 1)) h))
 
+-- the refusal of the first that is not good
+abbrev pub told_by : (ℕ → Refusal) → Result Unit ℕ → Check
+told_by told (Ok _) = Ok tt
+told_by told (Err i) = Err (told i)
+
 module _ (told : ℕ → Refusal) (o : List ℕ) (w n len : ℕ) where
-  pub rising_first : (offset_at o w 0 ≡ 0 → ⊥) → rising_from told (n + 1) o w n len 0 ≡ Check.Bad (told 0)
+  pub rising_first : (offset_at o w 0 ≡ 0 → ⊥) → rising_from told (n + 1) o w n len 0 ≡ Err (told 0)
   unfolding rising_from offset_good
   rising_first ne = let d : n + 1 ≡ suc n = omega arith in rw d (simp (ne_eqb (offset_at o w 0) 0 ne))
 
@@ -57,7 +63,7 @@ module _ (told : ℕ → Refusal) (o : List ℕ) (w n len : ℕ) where
         let d : n + 1 - i ≡ suc (n + 1 - (i + 1)) = omega arith in
         rw (d, up) (simp (ne_eqb i n (λ q. omega arith)))
 
-    pub rising_bad : offset_at o w (i + 1) ≤ offset_at o w i → rising_from told (n + 1 - i) o w n len i ≡ Check.Bad (told (i + 1))
+    pub rising_bad : offset_at o w (i + 1) ≤ offset_at o w i → rising_from told (n + 1 - i) o w n len i ≡ Err (told (i + 1))
     unfolding rising_from offset_good
     rising_bad h =
         let d : n + 1 - (i + 1) ≡ suc (n - (i + 1)) = omega arith in
@@ -66,7 +72,7 @@ module _ (told : ℕ → Refusal) (o : List ℕ) (w n len : ℕ) where
 
   -- the last one rises: its value decides
   module _ (i : ℕ) (eq : i ≡ n) (up : rising_keys o w i ≡ true) where
-    pub rising_end : (b : Bool) → eqb (offset_at o w i) len ≡ b → rising_from told (n + 1 - i) o w n len i ≡ pick b Check.Fine (Check.Bad (told n))
+    pub rising_end : (b : Bool) → eqb (offset_at o w i) len ≡ b → rising_from told (n + 1 - i) o w n len i ≡ pick b (Ok tt) (Err (told n))
     unfolding rising_from offset_good
     rising_end b e =
         let d : n + 1 - i ≡ suc 0 = omega arith in
@@ -89,10 +95,6 @@ fences_none x keys stride m i h = let d : m - i ≡ 0 = omega arith in rw d
 
 -- the tests before the walk, in their order: s is the stride, k the count
 module _ (x keys : List ℕ) (n : ℕ) where
-  pub fences_short : length x < 8 → fences_good x keys n ≡ false
-  unfolding fences_good
-  fences_short h = simp (lt-leb 8 (length x) h)
-
   module _ (long : 8 ≤ length x) (s : ℕ) (es : s ≡ stride_of x) where
     pub fences_stride : s < 1 → fences_good x keys n ≡ false
     unfolding fences_good
@@ -113,14 +115,15 @@ module _ (x keys : List ℕ) (n : ℕ) where
         pub fences_walked : length x ≡ 8 + 24 * k → {r : Bool} → r ≡ fences_from k x keys s 0 → r ≡ fences_good x keys n
         fences_walked eq e = e ∙ sym (fences_are ∙ simp (eq-eqb k ((n + (s - 1)) / s) up, eq-eqb (length x) (8 + 24 * k) eq))
 
--- a count k of n keys divided by the stride s, rounded up: the last fence still is one of the keys
-pub rounded_up : (n s k : ℕ) → 1 ≤ s → k ≡ (n + (s - 1)) / s → (k * s < n + s) × (k ≤ n)
-rounded_up n s k h e =
-    let d : k * s + (n + (s - 1)) % s ≡ n + (s - 1) = rw e (div-add-mod' (n + (s - 1)) s) in
-    let b : k * s < n + s = omega arith in (
-      b,
-      elim (dec_lt n k) [
-        | yes l ↦ absurd (omega (arith, mul-le-mul_right s l, mul-le-mul_left n h))
-        | no l ↦ omega arith
-      ],
-    )
+-- a quotient rounded up, by the remainder
+pub rounded : (n s : ℕ) → 1 ≤ s → n / s + min 1 (n % s) ≡ (n + (s - 1)) / s
+rounded n s h =
+    let e : n / s * s + n % s ≡ n = div-add-mod' n s in
+    elim (dec_lt 0 (n % s)) [
+      | yes p ↦
+          let d : n + (s - 1) ≡ (n / s + 1) * s + (n % s - 1) = omega arith in
+          rw d (omega (arith, div-mul-add (n / s + 1) s (n % s - 1) (omega arith)))
+      | no p ↦
+          let d : n + (s - 1) ≡ n / s * s + (s - 1) = omega arith in
+          rw d (omega (arith, div-mul-add (n / s) s (s - 1) (omega arith)))
+    ]

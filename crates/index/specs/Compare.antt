@@ -2,7 +2,7 @@
 use Rattle.std.specs.Prelude.{◌≡◌, ℕ, ◌<◌, List, Bool, eqb}
 use Rattle.std.proofs.Common.{sym, ap, ap₂, ◌∙◌, arith}
 use Rattle.std.proofs.Math.Decide.{dec_lt}
-use Rattle.codes.specs.declared.ids.Order.{Order}
+use Rattle.std.specs.declared.cmp.Ordering.{Ordering}
 use Rattle.codes.specs.declared.ids.Id.{Id}
 use Rattle.codes.specs.Ids.{id_at, id_number, halves_at, order}
 use Rattle.codes.specs.Ids.Laws.{number_halves}
@@ -17,7 +17,7 @@ pub number_is : (s : List ℕ) (i : ℕ) {d : Id} → d ≡ halves_at s i → id
 number_is s i e = ap id_number e ∙ number_halves s i
 
 module _ (s : List ℕ) (i : ℕ) {d : Id} (e : d ≡ halves_at s i) where
-  pub order_read : (k : ℕ) {o : Order} (p : Order) → o ≡ order (id_number d) k → o ≡ p → order (id_at s i) k ≡ p
+  pub order_read : (k : ℕ) {o : Ordering} (p : Ordering) → o ≡ order (id_number d) k → o ≡ p → order (id_at s i) k ≡ p
   order_read k p g q = sym (ap (λ (t : ℕ). order t k) (number_is s i e)) ∙ sym g ∙ q
 
   module _ (t : List ℕ) (j : ℕ) {f : Id} (h : f ≡ halves_at t j) {b c : Bool} where

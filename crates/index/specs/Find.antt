@@ -3,7 +3,7 @@
 -- compared".
 use Rattle.std.specs.Prelude.{ℕ, zero, suc, ◌+◌, ◌-◌, ◌/◌, List, ltb}
 use Rattle.base.specs.Pick.{pick}
-use Rattle.codes.specs.declared.ids.Order.{Order}
+use Rattle.std.specs.declared.cmp.Ordering.{Ordering}
 use Rattle.codes.specs.Ids.{order}
 use Rattle.frame.specs.Open.{key_at}
 use Rattle.index.specs.declared.keys.Found.{Found}
@@ -13,10 +13,10 @@ abbrev pub middle : ℕ → ℕ → ℕ
 middle low high = low + (high - low) / 2
 
 -- the key that was compared is smaller: the search goes on above it; equal: it ends here; larger: it goes on below it
-unfoldable pub narrowed : Order → Found → Found → Found → Found
-narrowed Order.Less above here below = above
-narrowed Order.Equal above here below = here
-narrowed Order.Greater above here below = below
+unfoldable pub narrowed : Ordering → Found → Found → Found → Found
+narrowed Ordering.Less above here below = above
+narrowed Ordering.Equal above here below = here
+narrowed Ordering.Greater above here below = below
 
 -- at most d turns of the search for k from low to high, c keys having been compared
 unfoldable pub find_from : ℕ → List ℕ → ℕ → ℕ → ℕ → ℕ → Found

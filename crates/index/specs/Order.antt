@@ -1,12 +1,11 @@
 -- What rules 13, 14 and 37 leave where they are not broken: keys strictly increase, offsets rise from 0 to the partners' length, and
 -- the entries of the start index to the edge count.
-use Rattle.std.specs.Prelude.{◌≡◌, refl, List, true, not, ◌||◌, ltb}
+use Rattle.std.specs.Prelude.{◌≡◌, refl, List, true, not, ◌||◌, ltb, Ok}
 use Rattle.std.proofs.Common.{ap, arith}
 use Prim.Native.Nat.{ℕ, zero, suc, ◌+◌, ◌-◌, ◌≤◌, ◌<◌}
 use Rattle.std.proofs.Math.Dec.{eqb}
 use borrow.Author.Tests.{ltb-true, eqb-true, eq-eqb, ne_eqb}
 use Rattle.refusal.specs.declared.Refusal.{Refusal}
-use Rattle.refusal.specs.declared.Check.{Check}
 use Rattle.refusal.proofs.Laws.Check.{pick_fine, and_parts}
 use Rattle.frame.specs.Open.{key_at, keys_from, offset_at, offset_good, rising_from}
 use Rattle.index.specs.Compare.{tri}
@@ -18,7 +17,7 @@ abbrev pub KeysRise : List ℕ → ℕ → Type 0
 KeysRise s n = (i j : ℕ) → i < j → j < n → key_at s i < key_at s j
 
 -- of d keys from k on, each is above the one before
-keys_above : (d : ℕ) (s : List ℕ) (k : ℕ) → keys_from d s k ≡ Check.Fine → (j : ℕ) → k ≤ j → j < k + d → key_at s (j - 1) < key_at s j
+keys_above : (d : ℕ) (s : List ℕ) (k : ℕ) → keys_from d s k ≡ (Ok tt) → (j : ℕ) → k ≤ j → j < k + d → key_at s (j - 1) < key_at s j
 unfolding keys_from
 keys_above zero s k e j a b = absurd (omega arith)
 keys_above (suc d) s k e j a b =
@@ -27,7 +26,7 @@ keys_above (suc d) s k e j a b =
     let others = keys_above d s (k + 1) p.1 j in
     tri k j (λ lt. others (omega arith) (omega arith)) (λ eq. (rw eq at first)) (λ gt. absurd (omega arith))
 
-pub keys_rise : (s : List ℕ) (n : ℕ) → keys_from (n - 1) s 1 ≡ Check.Fine → KeysRise s n
+pub keys_rise : (s : List ℕ) (n : ℕ) → keys_from (n - 1) s 1 ≡ (Ok tt) → KeysRise s n
 keys_rise s n e i zero lt ltn = absurd (omega arith)
 keys_rise s n e i (suc j) lt ltn =
     let back : suc j - 1 ≡ j = omega arith in
@@ -53,7 +52,7 @@ pub record OffsetsRise (o : List ℕ) (w n len : ℕ) : Type 0 where
 
 module _ (told : ℕ → Refusal) (o : List ℕ) (w n len : ℕ) where
   -- of d offsets from i on, each is good
-  offsets_good : (d i : ℕ) → rising_from told d o w n len i ≡ Check.Fine → (j : ℕ) → i ≤ j → j < i + d → offset_good o w n len j ≡ true
+  offsets_good : (d i : ℕ) → rising_from told d o w n len i ≡ (Ok tt) → (j : ℕ) → i ≤ j → j < i + d → offset_good o w n len j ≡ true
   unfolding rising_from
   offsets_good zero i e j a b = absurd (omega arith)
   offsets_good (suc d) i e j a b =
@@ -82,7 +81,7 @@ module _ (told : ℕ → Refusal) (o : List ℕ) (w n len : ℕ) where
   within_from up zero i q = let e : i ≡ n = omega arith in rw e (omega arith)
   within_from up (suc d) i q = omega (arith, up i (omega arith), within_from up d (i + 1) (omega arith))
 
-  pub offsets_rise : rising_from told (n + 1) o w n len 0 ≡ Check.Fine → OffsetsRise o w n len
+  pub offsets_rise : rising_from told (n + 1) o w n len 0 ≡ (Ok tt) → OffsetsRise o w n len
   offsets_rise e =
       let good : (i : ℕ) → i ≤ n → offset_good o w n len i ≡ true = λ i h. offsets_good (n + 1) 0 e i (omega arith) (omega arith) in
       let up : (i : ℕ) → i < n → offset_at o w i < offset_at o w (i + 1) = λ i h. rises_above i (good_rises (i + 1) (good (i + 1) (omega arith))) in

@@ -5,12 +5,13 @@ ghost use Rattle.frame.specs.Kind as kind;
 ghost use Rattle.frame.specs.Open.{keys_from};
 ghost use Rattle.index.specs.Find.{find_in};
 
-use codes::ids::{Id, Order, be64, compare, id_at, precedes};
+use codes::ids::{Id, be64, compare, id_at, precedes};
 use frame::kind::Keys;
-use refusal::{Check, Refusal};
+use refusal::Refusal;
+use std::cmp::Ordering;
 
 // Where a key stands, or that it is not there; and how many keys were compared.
-#[derive(Drop)]
+#[derive(Clone, Copy, Debug, PartialEq, Eq)]
 pub enum Found {
     At { index: u64, compared: u64 },
     Absent { compared: u64 },
@@ -26,27 +27,23 @@ pub fn key_at(keys: &[u8], k: usize) -> Id
 
 // Rule 13: the first of n keys that is not above the one before it. Upper halves are read once, and lower ones only where
 // these are equal.
-pub fn keys_check(keys: &[u8], n: usize) -> Check
+pub fn keys_check(keys: &[u8], n: usize) -> Result<(), Refusal>
     requires { (n ≤ kind.most_keys) × (n * kind.key_size ≤ length keys.now) }
     ensures { result ≡ keys_from (n - 1) keys.now 1 }
 {
     if n == 0 {
-        return Check::Fine;
+        return Ok(());
     }
     let mut last = be64(keys, 0);
-    let mut k: usize = 1;
-    while k < n {
+    for k in 1..n {
         let i = k * (Keys::ROW as usize);
         let hi = be64(keys, i);
         if !precedes(keys, i - (Keys::ROW as usize), i, last, hi) {
-            return Check::Bad {
-                refusal: Refusal::Key { index: k as u64 },
-            };
+            return Err(Refusal::Key { index: k as u64 });
         }
         last = hi;
-        k = k + 1;
     }
-    Check::Fine
+    Ok(())
 }
 
 // The place of a key among n keys. The count is of keys compared, the one that was found too.
@@ -57,17 +54,18 @@ pub fn find(keys: &[u8], n: usize, key: Id) -> Found
     let mut low: usize = 0;
     let mut high = n;
     let mut compared: u64 = 0;
+    // Stays a loop by hand: it halves, and its turns are counted (the library's search tells no count).
     while low < high {
         let middle = low + (high - low) / 2;
-        compared = compared + 1;
+        compared += 1;
         match compare(key_at(keys, middle), key) {
-            Order::Less => {
+            Ordering::Less => {
                 low = middle + 1;
             }
-            Order::Greater => {
+            Ordering::Greater => {
                 high = middle;
             }
-            Order::Equal => {
+            Ordering::Equal => {
                 return Found::At {
                     index: middle as u64,
                     compared,

@@ -6,4 +6,5 @@
 pub mod fences;
 pub mod keys;
 pub mod offsets;
+mod rising;
 pub mod starts;

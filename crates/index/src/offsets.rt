@@ -1,59 +1,36 @@
 // Offsets: where each key's group begins among the partners, and after the last one their length.
-ghost use Rattle.std.specs.Prelude.{◌≡◌, ◌+◌, ◌*◌, ◌^◌, ◌<◌, ◌≤◌, length};
+ghost use Rattle.std.specs.Prelude.{◌≡◌, ◌+◌, ◌*◌, ◌^◌, ◌<◌, ◌≤◌, length, Err};
 ghost use Rattle.frame.specs.Kind as kind;
 ghost use Rattle.frame.specs.Open.{offset_at, offsets_check};
 
-use codes::little::{le24, le32, le40, le48};
-use refusal::{Check, Refusal};
+use super::rising::rising;
+use codes::little::le;
+use refusal::Refusal;
 
-// Offset i, of w bytes. Each width has its own loads; a loop over offsets becomes four, one for each width.
+// Offset i, of w bytes. Each width has its own loads.
 pub fn offset_at(offs: &[u8], w: usize, i: usize) -> u64
     requires { (3 ≤ w) × (w ≤ 6) × (i ≤ kind.most_keys) × (i * w + w ≤ length offs.now) }
     ensures { (result ≡ offset_at offs.now w i) × (result < 2 ^ 48) }
 {
     let at = i * w;
-    if w <= 3 {
-        return le24(offs, at);
-    }
-    if w <= 4 {
-        return le32(offs, at);
-    }
-    if w <= 5 {
-        return le40(offs, at);
-    }
-    le48(offs, at)
-}
-
-// Offset i breaks the rule.
-fn refused(i: usize) -> Check
-    ensures { result ≡ Check.Bad (Refusal.Offset i) }
-{
-    Check::Bad {
-        refusal: Refusal::Offset { index: i as u64 },
+    match w {
+        3 => le::<3>(offs, at),
+        4 => le::<4>(offs, at),
+        5 => le::<5>(offs, at),
+        _ => le::<6>(offs, at),
     }
 }
 
-// Rule 14 of n + 1 offsets: the first is 0, each is above the one before, the last is len. Each offset is read once: `last`
-// is offset i, which rises, and only the very last is held against len.
-pub fn offsets_check(offs: &[u8], w: usize, n: usize, len: u64) -> Check
+// Rule 14 of n + 1 offsets: the first is 0, each is above the one before, the last is len.
+pub fn offsets_check(offs: &[u8], w: usize, n: usize, len: u64) -> Result<(), Refusal>
     requires { (3 ≤ w) × (w ≤ 6) × (n ≤ kind.most_keys) × (kind.offsets_len n w ≤ length offs.now) }
     ensures { result ≡ offsets_check offs.now w n len }
 {
-    let mut last = offset_at(offs, w, 0);
-    if last != 0 {
-        return refused(0);
-    }
-    let mut i: usize = 0;
-    while i < n {
-        let next = offset_at(offs, w, i + 1);
-        if next <= last {
-            return refused(i + 1);
-        }
-        last = next;
-        i = i + 1;
-    }
-    if last != len {
-        return refused(n);
-    }
-    Check::Fine
+    let rise = match w {
+        3 => rising::<3>(offs, n, len),
+        4 => rising::<4>(offs, n, len),
+        5 => rising::<5>(offs, n, len),
+        _ => rising::<6>(offs, n, len),
+    };
+    rise.map_err(|index| Refusal::Offset { index })
 }

@@ -16,7 +16,7 @@ use denote.Triple.Entry.{Args, Res}
 use denote.Triple.Clauses.{AtExit}
 use Rattle.base.proofs.Determined.{Determined}
 use Rattle.frame.specs.declared.Row.{Row}
-use Rattle.listing.specs.List.{plan_of, listed_of, listed}
+use Rattle.listing.specs.List.{rows_written, listed_of, listed}
 use Rattle.listing.specs.contracts.plan_for as plan_for
 use Rattle.listing.proofs.plan_for.Reads as plan_for_reads
 use Rattle.listing.specs.contracts.row_of as row_of
@@ -35,7 +35,7 @@ row_of_determined κs a pre r₁ r₂ w₁ w₂ p q = (p ∙ sym q, refl)
 abbrev pub ListedPost : (κs : Lfts 2) → Args list_sections.signature κs → Res list_sections.signature κs → AtExit list_sections.ended κs → Type 0
 ListedPost κs a r e =
     (r ≡ listed_of a.0.now (length a.1.0.now))
-    × (e.1.0.now ≡ listed a.0.now (plan_of a.0.now (length a.1.0.now)).n a.1.0.now)
+    × (e.1.0.now ≡ listed a.0.now (rows_written (listed_of a.0.now (length a.1.0.now))) a.1.0.now)
 
 pub list_sections_determined : Determined list_sections.ended (λ κs a. Unit {0}) ListedPost
 list_sections_determined κs a pre r₁ r₂ w₁ w₂ p q =
@@ -44,7 +44,7 @@ list_sections_determined κs a pre r₁ r₂ w₁ w₂ p q =
 -- ---- table_of
 
 abbrev pub TablePost : (κs : Lfts 1) → Args table_of.signature κs → Res table_of.signature κs → AtExit table_of.ended κs → Type 0
-TablePost κs a r e = r ≡ listed a.0.now (plan_of a.0.now (length a.1.0)).n a.1.0
+TablePost κs a r e = r ≡ listed a.0.now (rows_written (listed_of a.0.now (length a.1.0))) a.1.0
 
 pub table_of_determined : Determined table_of.ended (λ κs a. Unit {0}) TablePost
 table_of_determined κs a pre r₁ r₂ w₁ w₂ p q = (p ∙ sym q, refl)

@@ -1,23 +1,21 @@
 -- A lookup, as a function of what is known of a file: the bytes of the known sections, the counts, the offset bits.
-use Rattle.std.specs.Prelude.{ℕ, zero, suc, ◌+◌, ◌*◌, ◌/◌, ◌%◌, ◌^◌, List, [], ◌∷◌, Bool, false, not, ◌&&◌, ◌||◌, length, get_or, ltb, leb}
+use Rattle.std.specs.Prelude.{ℕ, zero, suc, ◌+◌, ◌*◌, ◌/◌, ◌%◌, ◌^◌, List, [], ◌∷◌, Bool, false, not, ◌&&◌, ◌||◌, length, get_or, ltb, leb, Result, Ok, Err, Option, Some, None}
 use Rattle.base.specs.Pick.{pick}
 use Rattle.base.specs.Over.{part, over}
 use Rattle.codes.specs.declared.ids.Id.{Id}
 use Rattle.codes.specs.Little.{le_at}
 use Rattle.refusal.specs.declared.Refusal.{Refusal}
-use Rattle.refusal.specs.declared.Check.{Check}
-use Rattle.refusal.specs.Check.{◌⊳◌, refuse}
+use Rattle.refusal.specs.Check.{◌⊳◌, refuse, Check}
 use Rattle.frame.specs.declared.Opened.{Opened}
-use Rattle.frame.specs.declared.Opening.{Opening}
 use Rattle.frame.specs.Kind as kind
 use Rattle.frame.specs.Open.{Known, known_of, record_good, open_of, offset_at}
 use Rattle.index.specs.declared.keys.Found.{Found}
 use Rattle.index.specs.Find.{find_in}
-use Rattle.degrees.specs.declared.Sum.{Sum}
 use Rattle.degrees.specs.Degrees.{misplaced, edges_before, start_of}
 use Rattle.group.specs.Fault.{refusal_of}
 use Rattle.group.specs.Group.{Decoded, good, bad, group_of, partners_of, bytes_of}
 use Rattle.lookup.specs.declared.Looked.{Looked}
+use Rattle.frame.specs.Opening.{Opening}
 
 -- what a lookup gives: the group's index, the keys compared, its partners, their log numbers and dead marks; absence, with
 -- the keys compared; or a refusal
@@ -27,8 +25,8 @@ pub data Outcome : Type 0 where
   refused : Refusal → Outcome
 
 unfoldable pub outcome : Check → Outcome → Outcome
-outcome Check.Fine x = x
-outcome (Check.Bad r) x = refused r
+outcome (Ok _) x = x
+outcome (Err r) x = refused r
 
 -- how much the lent outputs hold: partner bytes, log numbers, dead marks
 pub record Rooms : Type 0 where
@@ -40,8 +38,8 @@ pub record Rooms : Type 0 where
 
 -- its first fault, by its own number, at its byte, with the group beside it
 unfoldable pub group_check : ℕ → Decoded → Check
-group_check i (good dense ps) = Check.Fine
-group_check i (bad f) = Check.Bad (refusal_of i f)
+group_check i (good dense ps) = Ok tt
+group_check i (bad f) = Err (refusal_of i f)
 
 -- "14 at the group comes right after the search if its two offsets fall or pass the partner range", then the group's faults
 unfoldable pub group_fault : List ℕ → ℕ → ℕ → ℕ → Check
@@ -63,17 +61,17 @@ marks_from zero s e = []
 marks_from (suc d) s e = mark_at s e ∷ marks_from d s (e + 1)
 
 -- where the d edges of group i begin: by the start index where there is one, otherwise the sum of the earlier degrees
-unfoldable pub before : Known → ℕ → ℕ → Sum
+unfoldable pub before : Known → ℕ → ℕ → Option ℕ
 before k i d = pick k.indexed (start_of k.starts i d) (edges_before k.partners k.offsets (k.bits / 8) i)
 
 -- "the sum through this group" is at most the edge count; by the start index, "an end above the edge count" is refused
-unfoldable pub within : ℕ → ℕ → Sum → Bool
-within edges d (Sum.Total s) = leb (s + d) edges
-within edges d Sum.Bad = false
+unfoldable pub within : ℕ → ℕ → Option ℕ → Bool
+within edges d (Some s) = leb (s + d) edges
+within edges d None = false
 
-unfoldable pub first_of : Sum → ℕ
-first_of (Sum.Total s) = s
-first_of Sum.Bad = 0
+unfoldable pub first_of : Option ℕ → ℕ
+first_of (Some s) = s
+first_of None = 0
 
 -- an output is too short for d edges; partners alone lend only the first
 unfoldable pub short : Bool → Rooms → ℕ → Bool
@@ -116,18 +114,18 @@ module _ (full : Bool) (rooms : Rooms) where
 
   -- of a file: opening first
   unfoldable pub on_opening : ℕ → List ℕ → Opening → Outcome
-  on_opening key f (Opening.Good o) = look_in (known_of f o) key
-  on_opening key f (Opening.Refused r) = refused r
+  on_opening key f (Ok o) = look_in (known_of f o) key
+  on_opening key f (Err r) = refused r
 
   unfoldable pub look_of : ℕ → List ℕ → Outcome
   look_of key f = on_opening key f (open_of f)
 
 -- ---- what the call answers, and what it leaves in the outputs
 
-unfoldable pub looked_of : Outcome → Looked
-looked_of (found i c ps logs marks) = Looked.Found (length ps) i c
-looked_of (absent c) = Looked.Absent c
-looked_of (refused r) = Looked.Refused r
+unfoldable pub looked_of : Outcome → Result Looked Refusal
+looked_of (found i c ps logs marks) = Ok (Looked.Found (length ps) i c)
+looked_of (absent c) = Ok (Looked.Absent c)
+looked_of (refused r) = Err r
 
 unfoldable pub partners_left : Outcome → List ℕ → List ℕ
 partners_left (found i c ps logs marks) out = over (bytes_of ps) out

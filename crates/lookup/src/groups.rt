@@ -4,54 +4,32 @@ ghost use Rattle.base.specs.Over.{part, over};
 ghost use Rattle.frame.specs.Open.{bytes_at, offset_at};
 ghost use Rattle.degrees.specs.Degrees.{group_at};
 ghost use Rattle.group.specs.Group.{group_of, partners_of, bytes_of};
-ghost use Rattle.lookup.specs.declared.groups.GroupSeen.{GroupSeen};
 ghost use Rattle.lookup.specs.Groups.{group_seen, Fills};
 ghost use Rattle.lookup.specs.Record.{Holds};
 
 use super::known::offset_of;
 use frame::{Opened, bytes_of};
 use group::fault::refusal_of;
-use group::{GroupVerdict, check_group, fill_group};
+use group::{check_group, fill_group};
 use refusal::Refusal;
 
-// A group that is good, with its degree; or its first fault.
-#[derive(Drop)]
-pub enum GroupSeen {
-    Good { degree: u64 },
-    Refused { refusal: Refusal },
-}
-
-fn refused(refusal: Refusal) -> GroupSeen
-    ensures { result ≡ GroupSeen.Refused refusal }
-{
-    GroupSeen::Refused { refusal }
-}
-
 // Group i, from a to e of the partners.
-fn group_seen(partners: &[u8], a: usize, e: usize, i: u64) -> GroupSeen
+fn group_seen(partners: &[u8], a: usize, e: usize, i: u64) -> Result<u64, Refusal>
     ensures { result ≡ group_seen partners.now a e i }
 {
-    if e < a {
-        return refused(Refusal::Offset { index: i });
-    }
-    if partners.len() < e {
-        return refused(Refusal::Offset { index: i });
-    }
-    match check_group(&partners[a..e]) {
-        GroupVerdict::Good { degree, dense: _ } => GroupSeen::Good { degree },
-        GroupVerdict::Bad { fault } => refused(refusal_of(i, fault)),
-    }
+    let bytes = partners.get(a..e).ok_or(Refusal::Offset { index: i })?;
+    let group = check_group(bytes).map_err(|fault| refusal_of(i, fault))?;
+    Ok(group.degree)
 }
 
 // Group i of a record.
-pub fn group_of(file: &[u8], o: Opened, i: u64) -> GroupSeen
+pub fn group_of(file: &[u8], o: Opened, i: u64) -> Result<u64, Refusal>
     requires { Holds file.now o × (i < o.keycount) }
     ensures { result ≡ group_seen (bytes_at file.now o.partners) (offset_at (bytes_at file.now o.offsets) (o.bits / 8) i) (offset_at (bytes_at file.now o.offsets) (o.bits / 8) (i + 1)) i }
 {
-    let partners = o.partners;
     let a = offset_of(file, o, i);
     let e = offset_of(file, o, i + 1);
-    group_seen(bytes_of(file, partners), a, e, i)
+    group_seen(bytes_of(file, o.partners), a, e, i)
 }
 
 // Writes the partners of a good group from a to e.
@@ -67,8 +45,7 @@ pub fn give_partners(file: &[u8], o: Opened, i: u64, out: &mut [u8])
     requires { Holds file.now o × (i < o.keycount) × Fills (bytes_at file.now o.partners) (offset_at (bytes_at file.now o.offsets) (o.bits / 8) i) (offset_at (bytes_at file.now o.offsets) (o.bits / 8) (i + 1)) (length out.old) }
     ensures { out.new ≡ over (bytes_of (partners_of (group_of (group_at (bytes_at file.now o.partners) (bytes_at file.now o.offsets) (o.bits / 8) i)))) out.old }
 {
-    let partners = o.partners;
     let a = offset_of(file, o, i);
     let e = offset_of(file, o, i + 1);
-    fill_part(bytes_of(file, partners), a, e, out);
+    fill_part(bytes_of(file, o.partners), a, e, out);
 }

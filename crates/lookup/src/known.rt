@@ -10,8 +10,8 @@ ghost use Rattle.lookup.specs.Lookup.{before, mark_at, logs_from, marks_from};
 ghost use Rattle.lookup.specs.Record.{Holds};
 
 use codes::ids::Id;
-use codes::little::le64;
-use degrees::{Sum, edges_before, start_of};
+use codes::little::le;
+use degrees::{edges_before, start_of};
 use frame::kind::Logs;
 use frame::{Opened, Row, bytes_of};
 use index::keys::{Found, find};
@@ -22,8 +22,7 @@ pub fn locate(file: &[u8], o: Opened, key: Id) -> Found
     requires { Holds file.now o }
     ensures { result ≡ find_in (bytes_at file.now o.keys) o.keycount (id_number key) }
 {
-    let keys = o.keys;
-    find(bytes_of(file, keys), o.keycount as usize, key)
+    find(bytes_of(file, o.keys), o.keycount as usize, key)
 }
 
 // Where group i begins among the partners; of the last offset, where they end.
@@ -31,25 +30,21 @@ pub fn offset_of(file: &[u8], o: Opened, i: u64) -> usize
     requires { Holds file.now o × (i ≤ o.keycount) }
     ensures { result ≡ offset_at (bytes_at file.now o.offsets) (o.bits / 8) i }
 {
-    let offsets = o.offsets;
-    offset_at(bytes_of(file, offsets), (o.bits / 8) as usize, i as usize) as usize
+    offset_at(bytes_of(file, o.offsets), (o.bits / 8) as usize, i as usize) as usize
 }
 
 // Where the d edges of group i begin, if that is no more than the file has: as the start index says, or after all edges of the
 // groups before it.
-pub fn edges_of(file: &[u8], o: Opened, i: u64, d: u64) -> Sum
+pub fn edges_of(file: &[u8], o: Opened, i: u64, d: u64) -> Option<u64>
     requires { Holds file.now o × (i < o.keycount) }
     ensures { result ≡ capped o.edgecount (before (known_of file.now o) i d) }
 {
     if o.indexed {
-        let starts = o.starts;
-        return start_of(bytes_of(file, starts), i as usize, d, o.edgecount);
+        return start_of(bytes_of(file, o.starts), i as usize, d, o.edgecount);
     }
-    let partners = o.partners;
-    let offsets = o.offsets;
     edges_before(
-        bytes_of(file, partners),
-        bytes_of(file, offsets),
+        bytes_of(file, o.partners),
+        bytes_of(file, o.offsets),
         (o.bits / 8) as usize,
         i as usize,
         o.edgecount,
@@ -61,10 +56,8 @@ pub fn fill_logs(s: &[u8], first: usize, d: usize, out: &mut [u64])
     requires { (first ≤ most_edges) × (d ≤ most_edges) × (log_size * (first + d) ≤ length s.now) × (d ≤ length out.old) }
     ensures { out.new ≡ over (logs_from d s.now first) out.old }
 {
-    let mut j: usize = 0;
-    while j < d {
-        out[j] = le64(s, (Logs::ROW as usize) * (first + j));
-        j = j + 1;
+    for j in 0..d {
+        out[j] = le::<8>(s, (Logs::ROW as usize) * (first + j));
     }
 }
 
@@ -72,11 +65,10 @@ pub fn fill_logs(s: &[u8], first: usize, d: usize, out: &mut [u64])
 pub fn mark_at(s: &[u8], e: usize) -> u8
     ensures { result ≡ mark_at s.now e }
 {
-    let at = e / 8;
-    if s.len() <= at {
-        return 0;
+    match s.get(e / 8) {
+        Some(byte) => (byte >> (e % 8)) % 2,
+        None => 0,
     }
-    (s[at] >> (e % 8)) % 2
 }
 
 // Writes the dead marks of d edges from edge `first` on over the start of `out`.
@@ -84,9 +76,7 @@ pub fn fill_marks(s: &[u8], first: usize, d: usize, out: &mut [u8])
     requires { (first ≤ most_edges) × (d ≤ most_edges) × (d ≤ length out.old) }
     ensures { out.new ≡ over (marks_from d s.now first) out.old }
 {
-    let mut j: usize = 0;
-    while j < d {
+    for j in 0..d {
         out[j] = mark_at(s, first + j);
-        j = j + 1;
     }
 }

@@ -6,10 +6,8 @@ pub mod known;
 pub mod partners;
 pub mod whole;
 
-use refusal::Refusal;
-
-// The answer of a lookup: the degree, the group's index among the keys and the keys compared; absence; or a refusal.
-#[derive(Clone, Copy)]
+// The answer of a lookup: the degree, the group's index among the keys and the keys compared; absence.
+#[derive(Clone, Copy, Debug, PartialEq, Eq)]
 pub enum Looked {
     Found {
         degree: u64,
@@ -18,8 +16,5 @@ pub enum Looked {
     },
     Absent {
         compared: u64,
-    },
-    Refused {
-        refusal: Refusal,
     },
 }

@@ -1,15 +1,15 @@
 -- "The printed form": what the program prints of a file, line by line, from its batch, minor version and key count.
-use Rattle.std.specs.Prelude.{◌≡◌, ℕ, zero, suc, ◌+◌, ◌-◌, ◌/◌, ◌≤◌, ◌<◌, Bool, List, [], ◌∷◌, ◌++◌, length, get_or, ltb, eqb}
+use Rattle.std.specs.Prelude.{◌≡◌, ℕ, zero, suc, ◌+◌, ◌-◌, ◌/◌, ◌≤◌, ◌<◌, Bool, List, [], ◌∷◌, ◌++◌, length, get_or, ltb, eqb, Ok, Err}
 use Rattle.base.specs.Pick.{pick}
 use Rattle.base.specs.Put.{Put}
 use Rattle.codes.specs.declared.ids.Id.{Id}
-use Rattle.refusal.specs.declared.Check.{Check}
 use Rattle.frame.specs.Frame.{header_in, record_of}
 use Rattle.batch.specs.declared.Edge.{Edge}
 use Rattle.batch.specs.Batch.{edge_at, edges_of, record_count, place}
 use Rattle.full_check.specs.Full.{full_check}
 use Rattle.readout.specs.ReadOut.{batch_in, needed_for}
 use Rattle.text.specs.Text.{decimal, hex, refused_text}
+use Rattle.refusal.specs.Check.{Check}
 
 -- ---- the line of an edge: key, partner, log number, live or dead
 
@@ -106,8 +106,8 @@ module _ (minor keys : ℕ) (batch : List ℕ) where
 -- ---- a file: its lines where it passes the full check; "a file that the full check refuses prints only `refused N at P`"
 
 unfoldable pub printed_by : Check → List ℕ → List ℕ
-printed_by Check.Fine f = printed (header_in f).minor (record_of f).keycount (batch_in f)
-printed_by (Check.Bad r) f = refused_text r ++ newline
+printed_by (Ok _) f = printed (header_in f).minor (record_of f).keycount (batch_in f)
+printed_by (Err r) f = refused_text r ++ newline
 
 abbrev pub printed_of : List ℕ → List ℕ
 printed_of f = printed_by (full_check f) f
@@ -137,13 +137,13 @@ pub record PartOf (text xs : List ℕ) : Type 0 where
 
 -- a file that the full check passes, its key count and its batch
 pub record Passed (f : List ℕ) (keys : ℕ) (batch : List ℕ) : Type 0 where
-  pub fine : full_check f ≡ Check.Fine
+  pub fine : full_check f ≡ (Ok tt)
   pub count : keys ≡ (record_of f).keycount
   pub read : batch ≡ batch_in f
 
 -- room for the batch of a file that passes
 abbrev pub BatchRoom : List ℕ → ℕ → Type 0
-BatchRoom f room = full_check f ≡ Check.Fine → needed_for f ≤ room
+BatchRoom f room = full_check f ≡ (Ok tt) → needed_for f ≤ room
 
 -- of a file that is printed, and for its batch: eight bytes of it are an edge's log number
 abbrev pub longest : ℕ

@@ -2,12 +2,10 @@
 // written when the next line might not fit; the first write that fails ends the print.
 #![tactic(auto)]
 
-ghost use Rattle.std.specs.Prelude.{◌≡◌, ◌+◌, ◌≤◌, ◌<◌, length, take, ◌++◌};
-ghost use Rattle.base.specs.Pick.{pick};
+ghost use Rattle.std.specs.Prelude.{◌≡◌, ◌+◌, ◌≤◌, ◌<◌, length, take, ◌++◌, Err};
 ghost use Rattle.base.specs.Put.{Put};
 ghost use Rattle.batch.specs.Batch.{heading_size, record_count, edges_of};
 ghost use Rattle.printing.specs.Printed.{id_text, life_end, edge_line, direction_word, first_line, dead_in, line_at, line_room, line_count, PagePut, printed_of, PartOf, Passed, BatchRoom};
-ghost use Rattle.refusal.specs.declared.Check.{Check};
 ghost use Rattle.frame.specs.Frame.{record_of};
 ghost use Rattle.full_check.specs.Full.{full_check};
 ghost use Rattle.text.specs.Text.{decimal};
@@ -15,10 +13,9 @@ ghost use Rattle.text.specs.Text.{decimal};
 use batch::{Edge, edge_at};
 use codes::ids::Id;
 use codes::little::byte;
-use frame::Opening;
 use frame::ends::Header;
 use reader::open::open;
-use readout::{ReadOut, read_out};
+use readout::read_out;
 use refusal::Refusal;
 use text::{put_hex, put_labelled, put_refused, put_word};
 
@@ -102,15 +99,6 @@ fn edge_count(batch: &[u8]) -> usize
     (batch.len() - Edge::HEAD) / Edge::RECORD
 }
 
-fn one_if(dead: bool) -> u64
-    ensures { result ≡ pick dead 1 0 }
-{
-    if dead {
-        return 1;
-    }
-    0
-}
-
 // How many of a batch's edges are dead.
 fn dead_in(batch: &[u8]) -> u64
     requires { heading_size ≤ length batch.now }
@@ -118,11 +106,9 @@ fn dead_in(batch: &[u8]) -> u64
 {
     let edges = edge_count(batch);
     let mut dead: u64 = 0;
-    let mut k: usize = 0;
-    while k < edges {
+    for k in 0..edges {
         let e = edge_at(batch, Edge::HEAD + Edge::RECORD * k);
-        dead = dead + one_if(e.dead);
-        k = k + 1;
+        dead += u64::from(e.dead);
     }
     dead
 }
@@ -164,21 +150,22 @@ fn put_page(out: &mut [u8], minor: u64, keys: u64, batch: &[u8], from: usize) ->
     ensures { PagePut minor keys batch.now out.old out.new from result.next result.bytes }
 {
     let lines = edge_count(batch) + 2;
-    let mut next = from;
     let mut at: usize = 0;
-    while next < lines {
+    for next in from..lines {
         if out.len() - at < LINE {
             return Page { next, bytes: at };
         }
         at = put_line(out, at, minor, keys, batch, next);
-        next = next + 1;
     }
-    Page { next, bytes: at }
+    Page {
+        next: lines,
+        bytes: at,
+    }
 }
 
 // ---- and written
 
-// Writes the first n bytes of `out`, a part of what is printed of the file; false where a write fails.
+// Writes the first n bytes of `out`, a part of what is printed of the file; false where a write fails, as `streams::wrote` tells it.
 fn wrote_part(file: &[u8], out: &[u8], n: usize) -> bool
     requires { (n ≤ length out.now) × PartOf (printed_of file.now) (take n out.now) }
 {
@@ -191,6 +178,7 @@ fn print_batch(file: &[u8], keys: u64, batch: &[u8], out: &mut [u8]) -> bool
 {
     let minor = byte(file, Header::MINOR);
     let lines = edge_count(batch) + 2;
+    // Stays a loop by hand: a page says which line comes next.
     let mut next: usize = 0;
     while next < lines {
         let page = put_page(out, minor, keys, batch, next);
@@ -204,7 +192,7 @@ fn print_batch(file: &[u8], keys: u64, batch: &[u8], out: &mut [u8]) -> bool
 
 // Prints the refusal of a file.
 fn print_refusal(file: &[u8], refusal: Refusal, out: &mut [u8]) -> bool
-    requires { (full_check file.now ≡ Check.Bad refusal) × (line_room ≤ length out.old) }
+    requires { (full_check file.now ≡ Err refusal) × (line_room ≤ length out.old) }
 {
     let mid = put_refused(out, 0, refusal);
     let end = put_word(out, mid, b"\n");
@@ -216,8 +204,8 @@ fn print_opened(file: &[u8], keys: u64, room: &mut [u8], out: &mut [u8]) -> bool
     requires { (keys ≡ (record_of file.now).keycount) × BatchRoom file.now (length room.old) × (line_room ≤ length out.old) }
 {
     match read_out(file, room) {
-        ReadOut::Refused { refusal } => print_refusal(file, refusal, out),
-        ReadOut::Done { bytes } => {
+        Err(refusal) => print_refusal(file, refusal, out),
+        Ok(bytes) => {
             let n = bytes as usize;
             print_batch(file, keys, &room[0..n], out)
         }
@@ -230,7 +218,7 @@ pub fn print_file(file: &[u8], room: &mut [u8], out: &mut [u8]) -> bool
     requires { BatchRoom file.now (length room.old) × (line_room ≤ length out.old) }
 {
     match open(file) {
-        Opening::Refused { refusal } => print_refusal(file, refusal, out),
-        Opening::Good { opened } => print_opened(file, opened.keycount, room, out),
+        Err(unopened) => print_refusal(file, unopened, out),
+        Ok(opened) => print_opened(file, opened.keycount, room, out),
     }
 }

@@ -10,18 +10,14 @@ use contract.Lifetimes.{Lfts}
 use denote.Triple.Entry.{Args, Res}
 use denote.Triple.Clauses.{Ended, Lasts, AtExit, at_exit}
 use Rattle.refusal.specs.declared.Refusal.{Refusal}
-use Rattle.refusal.specs.declared.Check.{Check}
 use Rattle.frame.specs.declared.Row.{Row}
 use Rattle.lookup.specs.declared.Looked.{Looked}
 use Rattle.lookup.specs.Lookup as look
 use Rattle.lookup.specs.Lookup.{Outcome, found, absent, refused, partners_left, logs_left, marks_left}
 use Rattle.lookup.specs.Calls.{Alone, Whole}
-use Rattle.listing.specs.declared.Listed.{Listed}
 use Rattle.listing.proofs.Laws.List.{list_refused_leaves}
-use Rattle.readout.specs.declared.ReadOut.{ReadOut}
 use Rattle.readout.specs.ReadOut as out
 use Rattle.readout.specs.ReadOut.{read_check, needed_for, batch_in, read_leaves, read_out_of, read_out_leaves}
-use Rattle.write_file.specs.declared.Written.{Written}
 use Rattle.write_file.specs.Written as writer
 use Rattle.write_file.specs.Written.{Wrote, file_in}
 use Rattle.xxh3_running.specs.declared.State.{State}
@@ -45,6 +41,8 @@ use Rattle.write_file.specs.contracts.write as c_write
 use Rattle.write_file.proofs.write.Reads as c_write_reads
 use Rattle.listing.specs.contracts.list_sections as c_sections
 use Rattle.listing.proofs.One.{ListedPost}
+use Rattle.std.specs.Prelude.{Ok, Result, Err}
+use Rattle.refusal.specs.Check.{Check}
 
 -- with such a result the contract admits no other content of lent memory at exit than `lent`
 --     T and Post as for `Determined` (crate base)
@@ -58,11 +56,11 @@ LeavesOnly T Post such lent =
 -- ---- lookups
 
 -- a lookup's answer is a refusal; or absence
-abbrev pub Refused : Looked → Type 0
-Refused r = (q : Refusal) × (r ≡ Looked.Refused q)
+abbrev pub Refused : (Result Looked Refusal) → Type 0
+Refused r = (q : Refusal) × (r ≡ Err q)
 
-abbrev pub Absent : Looked → Type 0
-Absent r = (n : ℕ) × (r ≡ Looked.Absent n)
+abbrev pub Absent : (Result Looked Refusal) → Type 0
+Absent r = (n : ℕ) × (r ≡ Ok (Looked.Absent n))
 
 -- such an outcome leaves what there was
 left_refused : (x : Outcome) (o l m : List ℕ) → Refused (look.looked_of x) → (partners_left x o ≡ o) × (logs_left x l ≡ l) × (marks_left x m ≡ m)
@@ -78,7 +76,7 @@ left_absent (absent c) o l m (n, e) = (refl, refl, refl)
 left_absent (refused r) o l m (n, e) = let z : ◌≡◌ {A = ℕ} 0 1 = cc in absurd (omega arith)
 
 -- of what a call answers and leaves
-module _ (x : Outcome) (r : Looked) (o out : List ℕ) where
+module _ (x : Outcome) (r : Result Looked Refusal) (o out : List ℕ) where
   alone_refused : Refused r → Alone x r o out → out ≡ o
   alone_refused (q, e) c = c.partners ∙ (left_refused x o o o (q, sym c.answer ∙ e)).0
 
@@ -126,36 +124,36 @@ lookup_with_absent κs a r w such call =
 
 -- ---- the read-out
 
-batch_stays : (f o : List ℕ) (q : Refusal) → read_out_of f (length o) ≡ ReadOut.Refused q → read_out_leaves f o ≡ o
+batch_stays : (f o : List ℕ) (q : Refusal) → read_out_of f (length o) ≡ Err q → read_out_leaves f o ≡ o
 unfolding read_out_of read_out_leaves out.read_answer read_leaves
 batch_stays f o q e = go (read_check f (length o)) e
   where
-    go : (c : Check) → out.read_answer c (needed_for f) ≡ ReadOut.Refused q → read_leaves c (batch_in f) o ≡ o
-    go Check.Fine h = let z : ◌≡◌ {A = ℕ} 0 1 = cc in absurd (omega arith)
-    go (Check.Bad r) h = refl
+    go : (c : Check) → out.read_answer c (needed_for f) ≡ Err q → read_leaves c (batch_in f) o ≡ o
+    go (Ok _) h = let z : ◌≡◌ {A = ℕ} 0 1 = cc in absurd (omega arith)
+    go (Err r) h = refl
 
-pub read_out_refused : LeavesOnly c_read_out.ended c_read_out_reads.Post (λ κs r. (q : Refusal) × (r ≡ ReadOut.Refused q)) (λ κs a. (tt {0}, (a.1.0.now, tt {0})))
+pub read_out_refused : LeavesOnly c_read_out.ended c_read_out_reads.Post (λ κs r. (q : Refusal) × (r ≡ Err q)) (λ κs a. (tt {0}, (a.1.0.now, tt {0})))
 read_out_refused κs a r w (q, e) call =
     ap (λ (o : List ℕ). (tt {0}, (o, tt {0}))) (call.1 ∙ batch_stays a.0.now a.1.0.now q (sym call.0 ∙ e))
 
 -- ---- the writer
 
-file_stays : (s o : List ℕ) (r : Written) (o' : List ℕ) (q : Refusal) → r ≡ Written.Refused q → Wrote s o r o' → o' ≡ o
+file_stays : (s o : List ℕ) (r : Result ℕ Refusal) (o' : List ℕ) (q : Refusal) → r ≡ Err q → Wrote s o r o' → o' ≡ o
 unfolding writer.write_leaves
-file_stays s o r o' q e c = c.output ∙ ap (λ (x : Written). writer.write_leaves x (file_in s) o) (sym c.answer ∙ e)
+file_stays s o r o' q e c = c.output ∙ ap (λ (x : Result ℕ Refusal). writer.write_leaves x (file_in s) o) (sym c.answer ∙ e)
 
-pub write_refused : LeavesOnly c_write.ended c_write_reads.Post (λ κs r. (q : Refusal) × (r ≡ Written.Refused q)) (λ κs a. (tt {0}, (a.1.0.now, tt {0})))
+pub write_refused : LeavesOnly c_write.ended c_write_reads.Post (λ κs r. (q : Refusal) × (r ≡ Err q)) (λ κs a. (tt {0}, (a.1.0.now, tt {0})))
 write_refused κs a r w (q, e) call = ap (λ (o : List ℕ). (tt {0}, (o, tt {0}))) (file_stays a.0.now a.1.0.now r w.1.0 q e call)
 
 -- ---- the section list: the caller's table of rows
 
-pub list_refused : LeavesOnly c_sections.ended ListedPost (λ κs r. (q : Refusal) × (r ≡ Listed.Refused q)) (λ κs a. (tt {0}, (a.1.0.now, tt {0})))
+pub list_refused : LeavesOnly c_sections.ended ListedPost (λ κs r. (q : Refusal) × (r ≡ Err q)) (λ κs a. (tt {0}, (a.1.0.now, tt {0})))
 list_refused κs a r w (q, e) call =
     ap (λ (t : List Row). (tt {0}, (t, tt {0}))) (call.1 ∙ list_refused_leaves a.0.now (length a.1.0.now) q a.1.0.now (sym call.0 ∙ e))
 
 -- ---- the running sum: the state, in parts or whole
 
-pub feed_lent_refused : LeavesOnly c_feed_lent.ended c_feed_lent_reads.Post (λ κs r. (q : Refusal) × (r ≡ Check.Bad q))
+pub feed_lent_refused : LeavesOnly c_feed_lent.ended c_feed_lent_reads.Post (λ κs r. (q : Refusal) × (r ≡ Err q))
     (λ κs a. (a.0.now, (a.1.0.now, (a.1.1.0.now, (tt {0}, tt {0})))))
 feed_lent_refused κs a r w (q, e) call =
     let same = (refused_leaves (state_of a.0.now a.1.0.now a.1.1.0.now) a.1.1.1.0.now q (sym call.0 ∙ e)).1 in
@@ -167,6 +165,6 @@ feed_lent_refused κs a r w (q, e) call =
       ),
     )
 
-pub update_refused : LeavesOnly c_update.ended UpdatePost (λ κs r. (q : Refusal) × (r ≡ Check.Bad q)) (λ κs a. (a.0.now, (tt {0}, tt {0})))
+pub update_refused : LeavesOnly c_update.ended UpdatePost (λ κs r. (q : Refusal) × (r ≡ Err q)) (λ κs a. (a.0.now, (tt {0}, tt {0})))
 update_refused κs a r w (q, e) call =
     ap (λ (st : State). (st, (tt {0}, tt {0}))) (call.1 ∙ (refused_leaves a.0.now a.1.0.now q (sym call.0 ∙ e)).1)

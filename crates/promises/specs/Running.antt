@@ -1,6 +1,5 @@
 -- What the users of the running sum may rely on, in one statement. Chunks are lists of bytes, and `in_row` is their bytes in a row.
-use Rattle.std.specs.Prelude.{◌≡◌, ◌↔◌, List, [], ℕ, ◌+◌, ◌≤◌, ◌<◌, length}
-use Rattle.refusal.specs.declared.Check.{Check}
+use Rattle.std.specs.Prelude.{◌≡◌, ◌↔◌, List, [], ℕ, ◌+◌, ◌≤◌, ◌<◌, length, Ok, Err}
 use Rattle.refusal.specs.declared.Refusal.{Refusal}
 use Rattle.xxh3_spec.specs.Xxh3.{xxh3}
 use Rattle.xxh3_running.specs.declared.State.{State}
@@ -15,11 +14,11 @@ pub record RunningSum : Type 0 where
   -- whatever is fed and asked: each answer is the sum of all bytes that were taken before it
   pub answered : (ss : List Step) → answers new_state ss ≡ sums_before [] ss
   -- 27 exactly if the total would pass 2^30
-  pub refused : (st : State) (c : List ℕ) → ((feed_of st c).told ≡ Check.Bad Refusal.Chunk) ↔ (most_fed < st.total + length c)
+  pub refused : (st : State) (c : List ℕ) → ((feed_of st c).told ≡ Err Refusal.Chunk) ↔ (most_fed < st.total + length c)
   -- no other refusal is given, and the state stays
-  pub stays : (st : State) (c : List ℕ) (r : Refusal) → (feed_of st c).told ≡ Check.Bad r → (r ≡ Refusal.Chunk) × ((feed_of st c).state ≡ st)
+  pub stays : (st : State) (c : List ℕ) (r : Refusal) → (feed_of st c).told ≡ Err r → (r ≡ Refusal.Chunk) × ((feed_of st c).state ≡ st)
   -- then it goes on as if that chunk had not come
   pub on : (st : State) (c d : List ℕ) → most_fed < st.total + length c → feed_of (feed_of st c).state d ≡ feed_of st d
   -- at 2^30 bytes the empty chunk is taken; behind them every chunk is refused
-  pub empty : (st : State) → st.total ≤ most_fed → feed_of st [] ≡ record { told = Check.Fine; state = st }
-  pub behind : (st : State) (c : List ℕ) → most_fed < st.total → feed_of st c ≡ record { told = Check.Bad Refusal.Chunk; state = st }
+  pub empty : (st : State) → st.total ≤ most_fed → feed_of st [] ≡ record { told = (Ok tt); state = st }
+  pub behind : (st : State) (c : List ℕ) → most_fed < st.total → feed_of st c ≡ record { told = Err Refusal.Chunk; state = st }

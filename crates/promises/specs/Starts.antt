@@ -1,13 +1,11 @@
 -- The start index: when opening refuses it, what a lookup takes from it, and that it does not show in a file that passes the full
 -- check.
-use Rattle.std.specs.Prelude.{◌≡◌, ◌↔◌, ◌⊎◌, ℕ, ◌+◌, ◌/◌, ◌≤◌, ◌<◌, List, Bool, true, false, length}
+use Rattle.std.specs.Prelude.{◌≡◌, ◌↔◌, ◌⊎◌, ℕ, ◌+◌, ◌/◌, ◌≤◌, ◌<◌, List, Bool, true, false, length, Ok, Err}
 use Rattle.codes.specs.declared.ids.Id.{Id}
 use Rattle.refusal.specs.declared.Refusal.{Refusal}
-use Rattle.refusal.specs.declared.Check.{Check}
 use Rattle.frame.specs.declared.Range.{Range}
 use Rattle.frame.specs.declared.Opened.{Opened}
 use Rattle.frame.specs.Frame.{rows_of, body_of, flags_of, record_of}
-use Rattle.frame.specs.declared.Opening.{Opening}
 use Rattle.frame.specs.Open.{Known, known_of, bytes_at, start_at, record_good, file_check, open_of}
 use Rattle.frame.proofs.Laws.Open.{Recorded}
 use Rattle.group.specs.Group.{is_good, group_of, partners_of}
@@ -39,7 +37,7 @@ pub record StartIndex : Type 0 where
       → (ls ≡ logs_from (length ps) k.logs (start_at k.starts i)) × (ms ≡ marks_from (length ps) k.dead (start_at k.starts i))
   -- what a lookup is by a record that fits, and of a file that opens: the lookup in what is known by that record
   pub record_looks : (full : Bool) (rooms : Rooms) (key : ℕ) (f : List ℕ) (o : Opened) → record_good f o ≡ true → look_with full rooms key f o ≡ look_in full rooms (known_of f o) key
-  pub file_looks : (full : Bool) (rooms : Rooms) (key : ℕ) (f : List ℕ) (o : Opened) → open_of f ≡ Opening.Good o → look_of full rooms key f ≡ look_in full rooms (known_of f o) key
+  pub file_looks : (full : Bool) (rooms : Rooms) (key : ℕ) (f : List ℕ) (o : Opened) → open_of f ≡ Ok o → look_of full rooms key f ≡ look_in full rooms (known_of f o) key
   -- what is known of the start index is the record's own; without it, the earlier degrees are summed
   pub own : (f : List ℕ) (o : Opened) → ((known_of f o).indexed ≡ o.indexed) × (o.indexed ≡ true → (known_of f o).starts ≡ bytes_at f o.starts)
   pub summed : (k : Known) → k.indexed ≡ false → (i d : ℕ) → before k i d ≡ edges_before k.partners k.offsets (k.bits / 8) i
@@ -47,19 +45,19 @@ pub record StartIndex : Type 0 where
   pub record_told : (full : Bool) (rooms : Rooms) (key : ℕ) (f : List ℕ) (o : Opened) → Gives refused (look_with full rooms key f o) 21 0 0 ↔ (Recorded (length f) o → ⊥)
   -- a file passes the full check exactly if it opens, its sums are right and its edges pass
   pub passes : (f : List ℕ)
-      → (full_check f ≡ Check.Fine) ↔ ((file_check f ≡ Check.Fine) × (sums_from f (rows_of (body_of f)) 0 ≡ Check.Fine) × (edges_check (flags_of f) (known_of f (record_of f)) ≡ Check.Fine))
+      → (full_check f ≡ (Ok tt)) ↔ ((file_check f ≡ (Ok tt)) × (sums_from f (rows_of (body_of f)) 0 ≡ (Ok tt)) × (edges_check (flags_of f) (known_of f (record_of f)) ≡ (Ok tt)))
   -- 23: the edges of a file pass the full check exactly if they pass without the start index, and each entry says how many edges stand
   -- before its group
   pub checked : (flags : ℕ) (k : Known)
-      → (edges_check flags k ≡ Check.Fine)
-      ↔ ((edges_check flags (hidden k) ≡ Check.Fine)
+      → (edges_check flags k ≡ (Ok tt))
+      ↔ ((edges_check flags (hidden k) ≡ (Ok tt))
       × (k.indexed ≡ true → (j : ℕ) → j ≤ k.keycount → start_at k.starts j ≡ degrees_from k.partners k.offsets (k.bits / 8) j 0))
   -- and by no other number: where all groups are good, an entry that is not as the degrees is 23
-  pub stray : (flags : ℕ) (k : Known) → groups_from k.partners k.offsets (k.bits / 8) k.keycount 0 ≡ Check.Fine → stray_in k ≡ true → edges_check flags k ≡ Check.Bad Refusal.Data
+  pub stray : (flags : ℕ) (k : Known) → groups_from k.partners k.offsets (k.bits / 8) k.keycount 0 ≡ (Ok tt) → stray_in k ≡ true → edges_check flags k ≡ Err Refusal.Data
   -- "With the index in the record the earlier degrees are not read at all": what stands in other groups changes nothing
   pub alone : (k j : Known) → k.indexed ≡ true → j.indexed ≡ true → SameBut k j → (full : Bool) (rooms : Rooms) (key : ℕ)
       → ((i c : ℕ) → find_in k.keys k.keycount key ≡ Found.At i c → SameGroup k j i) → look_in full rooms k key ≡ look_in full rooms j key
   -- "for a file that passes the full check, the lookup by a record with the index and by the same record without it give the same
   -- answer", whatever numbers stand in the range's place
-  pub unseen : (f : List ℕ) → full_check f ≡ Check.Fine → (r : Range) (full : Bool) (rooms : Rooms) (key : ℕ)
+  pub unseen : (f : List ℕ) → full_check f ≡ (Ok tt) → (r : Range) (full : Bool) (rooms : Rooms) (key : ℕ)
       → look_with full rooms key f (unindexed r (record_of f)) ≡ look_with full rooms key f (record_of f)

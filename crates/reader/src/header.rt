@@ -6,24 +6,17 @@ ghost use Rattle.reader.specs.Header.{header_of};
 
 use super::open::open;
 use codes::ids::id_at;
-use codes::little::{byte, le32};
-use frame::Opening;
+use codes::little::{byte, le};
 use frame::ends::Header;
 use refusal::Refusal;
 
-// What the header says, or the refusal of opening.
-#[derive(Drop)]
-pub enum HeaderRead {
-    Good { header: Header },
-    Refused { refusal: Refusal },
-}
-
 // What the first 64 bytes say.
+#[tactic(auto, unfolding(frame::specs::Frame::header_in))]
 fn fields(file: &[u8]) -> Header
     requires { kind.header_size ≤ length file.now }
     ensures { result ≡ header_in file.now }
 {
-    let flags = le32(file, Header::FLAGS);
+    let flags = le::<4>(file, Header::FLAGS);
     let edgetype = id_at(file, Header::EDGE_TYPE);
     let source = id_at(file, Header::SOURCE);
     let destination = id_at(file, Header::DESTINATION);
@@ -38,13 +31,9 @@ fn fields(file: &[u8]) -> Header
 }
 
 // The header of a file. The file is opened: what its header says counts only where no rule of opening is broken.
-pub fn header(file: &[u8]) -> HeaderRead
+pub fn header(file: &[u8]) -> Result<Header, Refusal>
     ensures { result ≡ header_of file.now }
 {
-    match open(file) {
-        Opening::Refused { refusal } => HeaderRead::Refused { refusal },
-        Opening::Good { opened: _ } => HeaderRead::Good {
-            header: fields(file),
-        },
-    }
+    open(file)?;
+    Ok(fields(file))
 }

@@ -1,14 +1,12 @@
 -- The read-out: "the full check", then 20 with the bytes needed, then the batch: heading and edges of the file.
-use Rattle.std.specs.Prelude.{ℕ, ◌+◌, ◌*◌, List, length, ltb}
+use Rattle.std.specs.Prelude.{ℕ, ◌+◌, ◌*◌, List, length, ltb, Result, Ok, Err}
 use Rattle.base.specs.Over.{part, over}
 use Rattle.refusal.specs.declared.Refusal.{Refusal}
-use Rattle.refusal.specs.declared.Check.{Check}
-use Rattle.refusal.specs.Check.{◌⊳◌, refuse}
+use Rattle.refusal.specs.Check.{◌⊳◌, refuse, Check}
 use Rattle.frame.specs.Frame.{flags_of, direction_of, record_of}
 use Rattle.frame.specs.Open.{known_of}
 use Rattle.batch.specs.Batch.{Heading, batch_bytes, place}
 use Rattle.full_check.specs.Full.{full_check}
-use Rattle.readout.specs.declared.ReadOut.{ReadOut}
 use Rattle.readout.specs.Edges.{edges_in}
 pub mod Laws
 
@@ -28,15 +26,15 @@ read_check f room = full_check f ⊳ refuse (Refusal.Room (needed_for f)) (ltb r
 
 -- ---- what the call answers, and what it leaves in the output
 
-unfoldable pub read_answer : Check → ℕ → ReadOut
-read_answer Check.Fine bytes = ReadOut.Done bytes
-read_answer (Check.Bad r) bytes = ReadOut.Refused r
+unfoldable pub read_answer : Check → ℕ → Result ℕ Refusal
+read_answer (Ok _) bytes = Ok bytes
+read_answer (Err r) bytes = Err r
 
 unfoldable pub read_leaves : Check → List ℕ → List ℕ → List ℕ
-read_leaves Check.Fine batch out = over batch out
-read_leaves (Check.Bad r) batch out = out
+read_leaves (Ok _) batch out = over batch out
+read_leaves (Err r) batch out = out
 
-unfoldable pub read_out_of : List ℕ → ℕ → ReadOut
+unfoldable pub read_out_of : List ℕ → ℕ → Result ℕ Refusal
 read_out_of f room = read_answer (read_check f room) (needed_for f)
 
 unfoldable pub read_out_leaves : List ℕ → List ℕ → List ℕ

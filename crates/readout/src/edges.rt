@@ -1,8 +1,7 @@
 // The edges of all keys, and the heading.
-ghost use Rattle.std.specs.Prelude.{◌≡◌, ◌+◌, ◌/◌, ◌≤◌, length};
+ghost use Rattle.std.specs.Prelude.{◌≡◌, ◌+◌, ◌/◌, ◌≤◌, length, Ok};
 ghost use Rattle.std.proofs.lemmas.List.Edits.{sets};
 ghost use Rattle.frame.specs.Kind.{header_size};
-ghost use Rattle.frame.specs.declared.Opening.{Opening};
 ghost use Rattle.frame.specs.Open.{known_of};
 ghost use Rattle.batch.specs.Batch.{heading_size, heading_bytes, records_of};
 ghost use Rattle.full_check.specs.Full.{checked_of};
@@ -12,7 +11,7 @@ ghost use Rattle.readout.specs.ReadOut.{heading_in};
 
 use super::group_edges::put_group_edges;
 use batch::Edge;
-use codes::little::le32;
+use codes::little::le;
 use frame::ends::Header;
 use frame::{Opened, bytes_of};
 use index::keys::key_at;
@@ -33,34 +32,28 @@ fn put_all(
     requires { Readable keys.now partners.now offs.now w logs.now n × (heading_size + length (records_of (read_from keys.now partners.now offs.now w logs.now dead.now n 0 0)) ≤ length out.old) }
     ensures { out.new ≡ sets out.old heading_size (records_of (read_from keys.now partners.now offs.now w logs.now dead.now n 0 0)) }
 {
-    let mut a: usize = 0;
-    let mut first: usize = 0;
-    let mut i: usize = 0;
-    while i < n {
+    let mut a = 0;
+    let mut first = 0;
+    for i in 0..n {
         let e = offset_at(offs, w, i + 1) as usize;
         let key = key_at(keys, i);
         first = put_group_edges(&partners[a..e], key, logs, dead, first, out);
         a = e;
-        i = i + 1;
     }
 }
 
 // Writes the edges of a file that the full check passed.
 pub fn put_edges_of(file: &[u8], o: Opened, out: &mut [u8])
-    requires { (checked_of file.now ≡ Opening.Good o) × (heading_size + length (records_of (edges_in (known_of file.now o))) ≤ length out.old) }
+    requires { (checked_of file.now ≡ Ok o) × (heading_size + length (records_of (edges_in (known_of file.now o))) ≤ length out.old) }
     ensures { out.new ≡ sets out.old heading_size (records_of (edges_in (known_of file.now o))) }
 {
-    let keys = o.keys;
-    let partners = o.partners;
-    let offsets = o.offsets;
-    let logs = o.logs;
     put_all(
-        bytes_of(file, keys),
-        bytes_of(file, partners),
-        bytes_of(file, offsets),
+        bytes_of(file, o.keys),
+        bytes_of(file, o.partners),
+        bytes_of(file, o.offsets),
         (o.bits / 8) as usize,
         o.keycount as usize,
-        bytes_of(file, logs),
+        bytes_of(file, o.logs),
         tombstones_of(file, o),
         out,
     );
@@ -71,10 +64,9 @@ fn put_bytes(s: &[u8], out: &mut [u8], at: usize)
     requires { at + length s.now ≤ length out.old }
     ensures { out.new ≡ sets out.old at s.now }
 {
-    let mut k: usize = 0;
-    while k < s.len() {
+    // Stays a loop by hand: for a copy of the library the archive would need `memcpy`, and the read-out needs `memset` alone.
+    for k in 0..s.len() {
         out[at + k] = s[k];
-        k = k + 1;
     }
 }
 
@@ -83,7 +75,7 @@ pub fn put_heading(file: &[u8], out: &mut [u8])
     requires { (header_size ≤ length file.now) × (heading_size ≤ length out.old) }
     ensures { out.new ≡ sets out.old 0 (heading_bytes (heading_in file.now)) }
 {
-    let flags = le32(file, Header::FLAGS);
+    let flags = le::<4>(file, Header::FLAGS);
     out[0] = Edge::HEADING;
     out[1] = (flags / Header::INVERSE % 2) as u8;
     put_bytes(&file[Header::EDGE_TYPE..Header::SIZE], out, 2);

@@ -8,38 +8,33 @@ ghost use Rattle.readout.specs.Edges.{edge_of, edges_from, Writable};
 
 use batch::{Edge, put_edge};
 use codes::ids::{Id, id_at};
-use codes::little::le64;
+use codes::little::le;
 use frame::kind::Logs;
 use group::Partner;
-use group::fault::Flaw;
+use group::fault::{Fault, Flaw};
 use group::head::{Head, head_of};
-use group::split::{Step, bad_step, split_step};
+use group::split::split_step;
 use lookup::known::mark_at;
 
 // The partner at i of a dense group. The last place for one stands the same for all of them: a loop over them asks one thing.
-fn dense_step(g: &[u8], i: usize) -> Step
+fn dense_step(g: &[u8], i: usize) -> Result<(Id, usize), Fault>
     ensures { result ≡ dense_step g.now i }
 {
-    if g.len() < Partner::DENSE {
-        return bad_step(Flaw::Cut, i);
+    if g.len() < Partner::DENSE || g.len() - Partner::DENSE < i {
+        return Err(Flaw::Cut.at(i));
     }
-    if g.len() - Partner::DENSE < i {
-        return bad_step(Flaw::Cut, i);
-    }
-    Step::Partner {
-        id: id_at(g, i),
-        next: i + Partner::DENSE,
-    }
+    Ok((id_at(g, i), i + Partner::DENSE))
 }
 
-// The partner at i, of either sort of group; hi is the upper half before.
-fn step_at(dense: bool, g: &[u8], i: usize, hi: u64) -> Step
+// The partner at i, of either sort of group; hi is the upper half before. The sort stays an argument, as the contract names it.
+fn step_at(dense: bool, g: &[u8], i: usize, hi: u64) -> Result<(Id, usize), Fault>
     ensures { result ≡ step_at dense g.now i hi }
 {
     if dense {
-        return dense_step(g, i);
+        dense_step(g, i)
+    } else {
+        split_step(g, i, hi)
     }
-    split_step(g, i, hi)
 }
 
 // Edge e of a file: a key and a partner, with its log number and dead mark.
@@ -47,13 +42,11 @@ fn edge_with(logs: &[u8], dead: &[u8], key: Id, partner: Id, e: usize) -> Edge
     requires { (e ≤ most_edges) × (log_size * e + log_size ≤ length logs.now) }
     ensures { result ≡ edge_of logs.now dead.now key partner e }
 {
-    let log = le64(logs, (Logs::ROW as usize) * e);
-    let mark = mark_at(dead, e);
     Edge {
         key,
         partner,
-        log,
-        dead: mark == 1,
+        log: le::<8>(logs, (Logs::ROW as usize) * e),
+        dead: mark_at(dead, e) == 1,
     }
 }
 
@@ -73,21 +66,15 @@ fn put_edges(
     ensures { out.new ≡ sets out.old (place first) (records_of (edges_from logs.now dead.now key first (partners_of (walk_from dense d g.now at 0 0)))) }
 {
     let mut i = at;
-    let mut k: usize = 0;
-    let mut hi: u64 = 0;
-    while k < d {
-        match step_at(dense, g, i, hi) {
-            Step::Partner { id, next } => {
-                let e = edge_with(logs, dead, key, id, first + k);
-                put_edge(out, Edge::HEAD + Edge::RECORD * (first + k), e);
-                hi = id.hi;
-                i = next;
-                k = k + 1;
-            }
-            Step::Bad { fault: _ } => {
-                return;
-            }
-        }
+    let mut hi = 0;
+    for k in 0..d {
+        let Ok((id, next)) = step_at(dense, g, i, hi) else {
+            return;
+        };
+        let e = edge_with(logs, dead, key, id, first + k);
+        put_edge(out, Edge::HEAD + Edge::RECORD * (first + k), e);
+        hi = id.hi;
+        i = next;
     }
 }
 
@@ -104,14 +91,14 @@ pub fn put_group_edges(
     ensures { (result ≡ first + length (partners_of (group_of g.now))) × (out.new ≡ sets out.old (place first) (records_of (edges_from logs.now dead.now key first (partners_of (group_of g.now))))) }
 {
     match head_of(g) {
-        Head::Split { degree, at } => {
+        Ok(Head::Split { degree, at }) => {
             put_edges(false, g, at, degree as usize, key, logs, dead, first, out);
             first + degree as usize
         }
-        Head::Dense { degree, at } => {
+        Ok(Head::Dense { degree, at }) => {
             put_edges(true, g, at, degree as usize, key, logs, dead, first, out);
             first + degree as usize
         }
-        Head::Bad { fault: _ } => first,
+        Err(_) => first,
     }
 }

@@ -5,7 +5,7 @@
 ghost use Rattle.std.specs.Prelude.{◌≡◌};
 ghost use Rattle.refusal.specs.Refusal.{number_of, place_of, beside_of};
 
-#[derive(Clone, Copy)]
+#[derive(Clone, Copy, Debug, PartialEq, Eq)]
 pub enum Refusal {
     // cases: from refusals.txt
     // opening
@@ -52,13 +52,6 @@ pub enum Refusal {
     // where a group's log numbers begin
     Start { index: u64 },
     // cases: to here
-}
-
-// What a rule says.
-#[derive(Drop)]
-pub enum Check {
-    Fine,
-    Bad { refusal: Refusal },
 }
 
 // A refusal as the documents tell it: its number, its place, and a second place beside it, which is 0 where there is none.

@@ -1,10 +1,12 @@
 -- What the query planner may rely on.
-use Rattle.std.specs.Prelude.{◌≡◌, ℕ, suc, ◌+◌, ◌^◌, ◌<◌, ◌≤◌, ◌⊎◌, List, [], ◌∷◌, length, ◌≢◌, slice_index}
+use Rattle.std.specs.Prelude.{◌≡◌, ℕ, suc, ◌+◌, ◌^◌, ◌<◌, ◌≤◌, ◌⊎◌, List, [], ◌∷◌, length, ◌≢◌, slice_index, Option, Some, None, Result, Ok, Err}
 use Rattle.codes.specs.Ids.{id_number}
 use Rattle.batch.specs.declared.Edge.{Edge}
 use Rattle.batch.specs.Batch.{logs_in}
 use Rattle.batch_groups.specs.Groups.{IdFits, groups_of}
 use Rattle.agreement.specs.SameEdges.{mark_bytes_in}
+use Rattle.refusal.specs.declared.Refusal.{Refusal}
+use Rattle.refusal.specs.Check.{Check}
 use Rattle.summary.specs.declared.figures.Extremes.{Extremes}
 use Rattle.summary.specs.declared.figures.Summary.{Summary}
 use Rattle.summary.specs.Summary.{degrees_of}
@@ -18,13 +20,17 @@ key_numbers [] = []
 key_numbers (e ∷ es) = id_number e.key ∷ key_numbers es
 
 -- "no smallest and largest" exactly without edges; otherwise each is one of the edges' own, and none lies beyond
-unfoldable pub Ends : List Edge → Extremes → Type 0
-Ends es Extremes.None = es ≡ []
-Ends es (Extremes.Some a b s l) = Smallest (id_number a) (key_numbers es) × Largest (id_number b) (key_numbers es) × Smallest s (logs_in es) × Largest l (logs_in es)
+unfoldable pub Ends : List Edge → Option Extremes → Type 0
+Ends es None = es ≡ []
+Ends es (Some x) =
+    Smallest (id_number x.smallestkey) (key_numbers es)
+    × Largest (id_number x.largestkey) (key_numbers es)
+    × Smallest x.smallestlog (logs_in es)
+    × Largest x.largestlog (logs_in es)
 
-unfoldable pub ExtremesFit : Extremes → Type 0
-ExtremesFit Extremes.None = Unit {0}
-ExtremesFit (Extremes.Some a b s l) = IdFits a × IdFits b
+unfoldable pub ExtremesFit : Option Extremes → Type 0
+ExtremesFit None = Unit {0}
+ExtremesFit (Some x) = IdFits x.smallestkey × IdFits x.largestkey
 
 -- n of the degrees are "from 2^i up to but not including 2^(i+1)"; said by the bounds themselves, not by `bucket`
 unfoldable pub Counts : ℕ → List ℕ → ℕ → Type 0
@@ -50,5 +56,10 @@ pub record Summed (es : List Edge) (s : Summary) : Type 0 where
   pub ends : Ends es s.extremes
 
 pub record EndsThere (s : Summary) : Type 0 where
-  pub some : 1 ≤ s.edgecount → s.extremes ≢ Extremes.None
-  pub none : s.edgecount ≡ 0 → s.extremes ≡ Extremes.None
+  pub some : 1 ≤ s.edgecount → s.extremes ≢ None
+  pub none : s.edgecount ≡ 0 → s.extremes ≡ None
+
+-- what a call's answer says of the rules: a summary is given where all are fine
+abbrev pub told : Result Summary Refusal → Check
+told (Ok _) = Ok tt
+told (Err r) = Err r

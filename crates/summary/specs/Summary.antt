@@ -1,11 +1,10 @@
 -- The degree summary: "key, edge and tombstone counts, smallest and largest key, smallest and largest log number, largest degree,
 -- and 64 buckets where bucket i counts the keys with degree from 2^i up to but not including 2^(i+1)". It speaks of edges, as a
 -- read-out gives them, and of no file's layout.
-use Rattle.std.specs.Prelude.{ℕ, zero, suc, ◌+◌, ◌^◌, Bool, ◌&&◌, List, [], ◌∷◌, length, replicate, nat_le, nat_lt}
+use Rattle.std.specs.Prelude.{ℕ, zero, suc, ◌+◌, ◌^◌, Bool, ◌&&◌, List, [], ◌∷◌, length, replicate, nat_le, nat_lt, Option, Some, None, Result, Ok, Err}
 use Rattle.base.specs.Pick.{pick}
 use Rattle.codes.specs.declared.ids.Id.{Id}
 use Rattle.codes.specs.Ids.{id_number}
-use Rattle.refusal.specs.declared.Check.{Check}
 use Rattle.batch.specs.declared.Edge.{Edge}
 use Rattle.batch.specs.Batch.{logs_in}
 use Rattle.batch_groups.specs.Groups.{Group, groups_of}
@@ -13,7 +12,8 @@ use Rattle.full_check.specs.Full.{full_check}
 use Rattle.agreement.specs.SameEdges.{edges_of_file}
 use Rattle.summary.specs.declared.figures.Extremes.{Extremes}
 use Rattle.summary.specs.declared.figures.Summary.{Summary}
-use Rattle.summary.specs.declared.Summarised.{Summarised}
+use Rattle.refusal.specs.declared.Refusal.{Refusal}
+use Rattle.refusal.specs.Check.{Check}
 pub mod Laws
 
 -- ---- the smallest and largest
@@ -37,9 +37,14 @@ largest_key k [] = k
 largest_key k (e ∷ es) = largest_key (pick (nat_lt (id_number k) (id_number e.key)) e.key k) es
 
 -- "A file without edges has no smallest and largest, and says so"
-unfoldable pub extremes_of : List Edge → Extremes
-extremes_of [] = Extremes.None
-extremes_of (e ∷ es) = Extremes.Some (smallest_key e.key es) (largest_key e.key es) (smallest e.log (logs_in es)) (largest e.log (logs_in es))
+unfoldable pub extremes_of : List Edge → Option Extremes
+extremes_of [] = None
+extremes_of (e ∷ es) = Some (record {
+  smallestkey = smallest_key e.key es;
+  largestkey = largest_key e.key es;
+  smallestlog = smallest e.log (logs_in es);
+  largestlog = largest e.log (logs_in es);
+})
 
 -- ---- degrees and buckets
 
@@ -89,14 +94,14 @@ nothing = record {
   edgecount = 0;
   tombstones = 0;
   largestdegree = 0;
-  extremes = Extremes.None;
+  extremes = None;
   buckets = replicate 64 0;
 }
 
 -- "It runs the full check first and gives its refusals"
-unfoldable pub summarised : Check → Summary → Summarised
-summarised Check.Fine s = record { told = Check.Fine; summary = s }
-summarised (Check.Bad r) s = record { told = Check.Bad r; summary = nothing }
+unfoldable pub summarised : Check → Summary → Result Summary Refusal
+summarised (Ok _) s = Ok s
+summarised (Err r) s = Err r
 
-unfoldable pub summarised_of : List ℕ → Summarised
+unfoldable pub summarised_of : List ℕ → Result Summary Refusal
 summarised_of f = summarised (full_check f) (summary_of (edges_of_file f))

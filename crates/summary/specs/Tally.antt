@@ -1,15 +1,15 @@
 -- The pass over the groups: degrees one by one, each into its bucket. p the partners, o the offsets of w bytes each.
-use Rattle.std.specs.Prelude.{ℕ, zero, suc, ◌+◌, ◌<◌, ◌≤◌, List, [], ◌∷◌}
-use Rattle.codes.specs.declared.varint.Varint.{Varint}
+use Rattle.std.specs.Prelude.{ℕ, zero, suc, ◌+◌, ◌<◌, ◌≤◌, List, [], ◌∷◌, Ok, Err}
 use Rattle.degrees.specs.Degrees.{group_at}
 use Rattle.group.specs.Group.{degree_of}
 use Rattle.summary.specs.declared.tally.Tally.{Tally}
 use Rattle.summary.specs.Summary.{largest, buckets_of}
+use Rattle.codes.specs.Varint.{Varint}
 
 -- a degree that was read, 0 where there is none
 unfoldable pub degree_told : Varint → ℕ
-degree_told (Varint.Value d next) = d
-degree_told (Varint.Bad why) = 0
+degree_told (Ok (d, next)) = d
+degree_told (Err why) = 0
 
 -- what a tally of degrees says
 unfoldable pub tally_of : List ℕ → Tally

@@ -9,10 +9,8 @@ pub fn dead_of(s: &[u8]) -> u64
     ensures { result ≡ count_dead (8 * length s.now) s.now 0 }
 {
     let mut dead: u64 = 0;
-    let mut b: usize = 0;
-    while b < s.len() {
-        dead = dead + (u8::count_ones(s[b]) as u64);
-        b = b + 1;
+    for b in s {
+        dead += b.count_ones() as u64;
     }
     dead
 }

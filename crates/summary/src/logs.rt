@@ -5,9 +5,8 @@ ghost use Rattle.frame.specs.Kind.{log_size, most_edges};
 ghost use Rattle.lookup.specs.Lookup.{logs_from};
 ghost use Rattle.summary.specs.Logs.{span_on, span_of, InSpan, Within};
 
-use codes::little::le64;
+use codes::little::le;
 use frame::kind::Logs;
-use std::num::wrapping_sub_u64;
 
 #[derive(Clone, Copy)]
 pub struct Span {
@@ -50,55 +49,34 @@ fn with_each(logs: &[u8], e: usize, n: usize, s: Span) -> Span
     ensures { result ≡ span_on s (logs_from n logs.now e) }
 {
     let mut t = s;
-    let mut i: usize = 0;
-    while i < n {
-        t = with_one(t, le64(logs, (Logs::ROW as usize) * (e + i)));
-        i = i + 1;
+    for i in 0..n {
+        t = with_one(t, le::<8>(logs, (Logs::ROW as usize) * (e + i)));
     }
     t
 }
 
-// Without a top bit x lies within a span: neither difference to its ends went below 0. Of a span below 2^63 it is never set
-// without need, which bears on speed alone.
-fn narrow_sign(x: u64, s: Span) -> u64
-    requires { s.smallest ≤ s.largest }
+// Without a top bit x lies within a span of LEAST or more: neither difference to its ends went below 0; of a span of 2^63 or more one
+// difference may be large, and both are where x lies outside. Below 2^63 it is never set without need, which bears on speed alone.
+fn sign<const LEAST: u64>(x: u64, s: Span) -> u64
+    requires { s.smallest + LEAST ≤ s.largest }
     ensures { result < 2 ^ 63 → InSpan x s }
 {
-    wrapping_sub_u64(x, s.smallest) | wrapping_sub_u64(s.largest, x)
-}
-
-// The same of a span of 2^63 or more, where one difference may be large, and both are where x lies outside.
-fn wide_sign(x: u64, s: Span) -> u64
-    requires { s.smallest + 2 ^ 63 ≤ s.largest }
-    ensures { result < 2 ^ 63 → InSpan x s }
-{
-    wrapping_sub_u64(x, s.smallest) & wrapping_sub_u64(s.largest, x)
-}
-
-// Do the log numbers of a block from edge e on lie within a span? The compiler takes two at a time.
-fn narrow_within(logs: &[u8], e: usize, s: Span) -> bool
-    requires { (s.smallest ≤ s.largest) × (e + 80 ≤ most_edges) × (log_size * (e + 80) ≤ length logs.now) }
-    ensures { result ≡ true → Within logs.now e 80 s }
-{
-    let mut signs: u64 = 0;
-    let mut i: usize = 0;
-    while i < Span::BLOCK {
-        signs = signs | narrow_sign(le64(logs, (Logs::ROW as usize) * (e + i)), s);
-        i = i + 1;
+    let above = x.wrapping_sub(s.smallest);
+    let below = s.largest.wrapping_sub(x);
+    if LEAST < Span::TOP {
+        return above | below;
     }
-    signs < Span::TOP
+    above & below
 }
 
-// The same of a span of 2^63 or more.
-fn wide_within(logs: &[u8], e: usize, s: Span) -> bool
-    requires { (s.smallest + 2 ^ 63 ≤ s.largest) × (e + 80 ≤ most_edges) × (log_size * (e + 80) ≤ length logs.now) }
+// Do the log numbers of a block from edge e on lie within a span of LEAST or more? The compiler takes two at a time.
+fn block_within<const LEAST: u64>(logs: &[u8], e: usize, s: Span) -> bool
+    requires { (s.smallest + LEAST ≤ s.largest) × (e + 80 ≤ most_edges) × (log_size * (e + 80) ≤ length logs.now) }
     ensures { result ≡ true → Within logs.now e 80 s }
 {
     let mut signs: u64 = 0;
-    let mut i: usize = 0;
-    while i < Span::BLOCK {
-        signs = signs | wide_sign(le64(logs, (Logs::ROW as usize) * (e + i)), s);
-        i = i + 1;
+    for i in 0..Span::BLOCK {
+        signs |= sign::<LEAST>(le::<8>(logs, (Logs::ROW as usize) * (e + i)), s);
     }
     signs < Span::TOP
 }
@@ -109,9 +87,9 @@ fn within(logs: &[u8], e: usize, s: Span) -> bool
     ensures { result ≡ true → Within logs.now e 80 s }
 {
     if s.largest - s.smallest < Span::TOP {
-        return narrow_within(logs, e, s);
+        return block_within::<0>(logs, e, s);
     }
-    wide_within(logs, e, s)
+    block_within::<{ Span::TOP }>(logs, e, s)
 }
 
 // A span that takes in a block, first of all its last log number: where log numbers rise or fall the others then lie within, and where
@@ -120,7 +98,7 @@ fn with_block(logs: &[u8], e: usize, s: Span) -> Span
     requires { (s.smallest ≤ s.largest) × (e + 80 ≤ most_edges) × (log_size * (e + 80) ≤ length logs.now) }
     ensures { result ≡ span_on s (logs_from 80 logs.now e) }
 {
-    let last = le64(logs, (Logs::ROW as usize) * (e + Span::BLOCK - 1));
+    let last = le::<8>(logs, (Logs::ROW as usize) * (e + Span::BLOCK - 1));
     let t = with_one(s, last);
     if within(logs, e, t) {
         return t;
@@ -133,15 +111,16 @@ pub fn span_of(logs: &[u8], n: usize) -> Span
     requires { (1 ≤ n) × (n ≤ most_edges) × (log_size * n ≤ length logs.now) }
     ensures { result ≡ span_of (le_at logs.now 0 8) (logs_from (n - 1) logs.now 1) }
 {
-    let first = le64(logs, 0);
+    let first = le::<8>(logs, 0);
     let mut s = Span {
         smallest: first,
         largest: first,
     };
+    // Stays a loop by hand: it goes on by whole blocks, and the edge where it ends begins the rest.
     let mut e: usize = 1;
     while Span::BLOCK <= n - e {
         s = with_block(logs, e, s);
-        e = e + Span::BLOCK;
+        e += Span::BLOCK;
     }
     with_each(logs, e, n - e, s)
 }

@@ -1,13 +1,12 @@
 // The degrees of all groups, in one pass: the largest, and how many are in each bucket.
-ghost use Rattle.std.specs.Prelude.{◌≡◌, ◌+◌, ◌*◌, ◌<◌, ◌≤◌, true, length, nat_lt};
-ghost use Rattle.base.specs.Pick.{pick};
+ghost use Rattle.std.specs.Prelude.{◌≡◌, ◌+◌, ◌*◌, ◌<◌, ◌≤◌, true, length};
 ghost use Rattle.frame.specs.Kind.{most_keys};
 ghost use Rattle.index.specs.Order.{OffsetsRise};
 ghost use Rattle.group.specs.Group.{degree_of};
 ghost use Rattle.summary.specs.Summary.{in_bucket};
 ghost use Rattle.summary.specs.Tally.{degree_told, degrees_at, AllTold, tally_of};
 
-use codes::varint::{Varint, varint_at};
+use codes::varint::varint_at;
 use index::offsets::offset_at;
 
 // The largest degree, 0 where there is none, and the buckets.
@@ -22,7 +21,7 @@ fn bucket_of(d: u64) -> usize
     requires { 1 ≤ d }
     ensures { (result < 64) × (in_bucket result d ≡ true) }
 {
-    63 - (u64::leading_zeros(d) as usize)
+    63 - d.leading_zeros() as usize
 }
 
 // The degree that a group begins with, 0 where it has none.
@@ -30,19 +29,9 @@ fn degree_of(g: &[u8]) -> u64
     ensures { result ≡ degree_told (degree_of g.now) }
 {
     match varint_at(g, 0) {
-        Varint::Value { value, next: _ } => value,
-        Varint::Bad { why: _ } => 0,
+        Ok((value, _)) => value,
+        Err(_) => 0,
     }
-}
-
-// The larger of two numbers.
-fn larger(x: u64, y: u64) -> u64
-    ensures { result ≡ pick (nat_lt x y) y x }
-{
-    if x < y {
-        return y;
-    }
-    x
 }
 
 // The tally of n groups, whose offsets rise from 0 to the partners' length and which all have a degree.
@@ -53,15 +42,13 @@ pub fn tally_of(partners: &[u8], offs: &[u8], w: usize, n: usize) -> Tally
     let mut largest: u64 = 0;
     let mut buckets = [0u64; 64];
     let mut a: usize = 0;
-    let mut i: usize = 0;
-    while i < n {
+    for i in 0..n {
         let e = offset_at(offs, w, i + 1) as usize;
         let d = degree_of(&partners[a..e]);
         let b = bucket_of(d);
-        buckets[b] = buckets[b] + 1;
-        largest = larger(largest, d);
+        buckets[b] += 1;
+        largest = largest.max(d);
         a = e;
-        i = i + 1;
     }
     Tally { largest, buckets }
 }

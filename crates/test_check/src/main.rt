@@ -3,19 +3,20 @@
 #![tactic(auto)]
 
 use full_check::check;
-use readout::{ReadOut, read_out};
-use test_corpus::{MOST, check_line, decimal, line, next_entry, pattern, refused, sum, word};
+use readout::read_out;
+use refusal::Refusal;
+use test_corpus::{check_line, decimal, each_entry, line, pattern, refused, sum, word};
 use test_summary::summary_line;
 
 // The bytes that a read-out wrote, 0 where it was refused.
-fn answered(r: ReadOut) -> u64 {
+fn answered(r: Result<u64, Refusal>) -> u64 {
     match r {
-        ReadOut::Done { bytes } => {
+        Ok(bytes) => {
             decimal(bytes);
             word(b" bytes");
             bytes
         }
-        ReadOut::Refused { refusal } => {
+        Err(refusal) => {
             refused(refusal);
             0
         }
@@ -33,10 +34,8 @@ fn read_into(name: &[u8], said: &[u8], file: &[u8], out: &mut [u8]) -> u64 {
 
 // Once more, with room for one byte less.
 fn short(name: &[u8], file: &[u8], out: &mut [u8], bytes: usize) {
-    if 0 < bytes {
-        if bytes <= out.len() {
-            read_into(name, b": short ", file, &mut out[0..bytes - 1]);
-        }
+    if 0 < bytes && bytes <= out.len() {
+        read_into(name, b": short ", file, &mut out[..bytes - 1]);
     }
 }
 
@@ -47,31 +46,11 @@ fn all(name: &[u8], file: &[u8], out: &mut [u8]) {
     short(name, file, out, n as usize);
 }
 
-// The next entry; false where there is none.
-fn entry(name: &mut [u8], space: &mut [u8], out: &mut [u8]) -> bool {
-    let e = next_entry(name, space);
-    let n = e.name;
-    let size = e.size;
-    if e.more {
-        all(&name[0..n], &space[0..size], out);
-        return true;
-    }
-    false
-}
-
-fn corpus(name: &mut [u8], space: &mut [u8], out: &mut [u8]) {
-    let mut left = MOST;
-    while 0 < left {
-        if !entry(name, space, out) {
-            return;
-        }
-        left -= 1;
-    }
-}
-
 fn main() {
     let mut name = [0u8; 256];
     let mut space = [0u8; 65536];
     let mut out = [0u8; 262144];
-    corpus(&mut name, &mut space, &mut out);
+    each_entry(&mut name, &mut space, |name, file| {
+        all(name, file, &mut out)
+    });
 }

@@ -4,9 +4,10 @@
 
 ghost use Rattle.std.specs.Prelude.{◌+◌, ◌≤◌, ◌<◌, length};
 
-use codes::ids::{Order, be64, compare, id_at, put_be, put_id};
-use codes::little::{byte, le16, le24, le32, le40, le48, le64, put_le};
-use codes::varint::{Unread, Varint, put_varint, varint_at, varint_len};
+use codes::ids::{be64, compare, id_at, put_be, put_id};
+use codes::little::{byte, le, put_le};
+use codes::varint::{Unread, put_varint, varint_at, varint_len};
+use std::cmp::Ordering;
 use test_corpus::{hex_bytes, number, word};
 
 // Why no number is read.
@@ -27,13 +28,13 @@ fn unread(why: Unread) {
 // The varint at the front of v.
 fn varint_line(v: &[u8]) {
     match varint_at(v, 0) {
-        Varint::Value { value, next } => {
+        Ok((value, next)) => {
             word(b"value");
             number(value);
             word(b" next");
             number(next as u64);
         }
-        Varint::Bad { why } => unread(why),
+        Err(why) => unread(why),
     }
     word(b"\n");
 }
@@ -42,7 +43,7 @@ fn varint_line(v: &[u8]) {
 fn written_line(b: &[u8])
     requires { 8 ≤ length b.now }
 {
-    let x = le64(b, 0);
+    let x = le::<8>(b, 0);
     let mut out = [0u8; 10];
     let n = put_varint(&mut out, 0, x);
     word(b"bytes");
@@ -58,13 +59,13 @@ fn order_line(b: &[u8])
 {
     let order = compare(id_at(b, 0), id_at(b, 16));
     match order {
-        Order::Less => {
+        Ordering::Less => {
             word(b"less\n");
         }
-        Order::Equal => {
+        Ordering::Equal => {
             word(b"equal\n");
         }
-        Order::Greater => {
+        Ordering::Greater => {
             word(b"greater\n");
         }
     }
@@ -75,12 +76,12 @@ fn widths_line(b: &[u8])
     requires { 8 ≤ length b.now }
 {
     word(b"le");
-    number(le16(b, 0));
-    number(le24(b, 0));
-    number(le32(b, 0));
-    number(le40(b, 0));
-    number(le48(b, 0));
-    number(le64(b, 0));
+    number(le::<2>(b, 0));
+    number(le::<3>(b, 0));
+    number(le::<4>(b, 0));
+    number(le::<5>(b, 0));
+    number(le::<6>(b, 0));
+    number(le::<8>(b, 0));
     word(b" be");
     number(be64(b, 0));
     word(b"\n");
@@ -90,7 +91,7 @@ fn widths_line(b: &[u8])
 fn put_line(n: usize, b: &[u8])
     requires { (n ≤ 8) × (8 ≤ length b.now) }
 {
-    let x = le64(b, 0);
+    let x = le::<8>(b, 0);
     let mut little = [0u8; 8];
     let mut big = [0u8; 8];
     put_le(&mut little, 0, n, x);
@@ -123,29 +124,21 @@ fn fixed(s: &[u8], at: usize, kind: u64) -> usize
     ensures { (at < result) × (result ≤ length s.now) }
 {
     let left = s.len() - at;
-    if kind == 1 {
-        if left >= 9 {
-            written_line(&s[at + 1..at + 9]);
-            return at + 9;
-        }
+    if kind == 1 && left >= 9 {
+        written_line(&s[at + 1..at + 9]);
+        return at + 9;
     }
-    if kind == 2 {
-        if left >= 33 {
-            order_line(&s[at + 1..at + 33]);
-            return at + 33;
-        }
+    if kind == 2 && left >= 33 {
+        order_line(&s[at + 1..at + 33]);
+        return at + 33;
     }
-    if kind == 3 {
-        if left >= 9 {
-            widths_line(&s[at + 1..at + 9]);
-            return at + 9;
-        }
+    if kind == 3 && left >= 9 {
+        widths_line(&s[at + 1..at + 9]);
+        return at + 9;
     }
-    if kind == 5 {
-        if left >= 17 {
-            id_line(&s[at + 1..at + 17]);
-            return at + 17;
-        }
+    if kind == 5 && left >= 17 {
+        id_line(&s[at + 1..at + 17]);
+        return at + 17;
     }
     s.len()
 }
@@ -161,28 +154,22 @@ fn record(s: &[u8], at: usize) -> usize
         return s.len();
     }
     let n = byte(s, at + 1) as usize;
-    if kind == 0 {
-        if left >= 2 + n {
-            varint_line(&s[at + 2..at + 2 + n]);
-            return at + 2 + n;
-        }
+    if kind == 0 && left >= 2 + n {
+        varint_line(&s[at + 2..at + 2 + n]);
+        return at + 2 + n;
     }
-    if kind == 4 {
-        if left >= 10 {
-            if n <= 8 {
-                put_line(n, &s[at + 2..at + 10]);
-                return at + 10;
-            }
-        }
+    if kind == 4 && left >= 10 && n <= 8 {
+        put_line(n, &s[at + 2..at + 10]);
+        return at + 10;
     }
     fixed(s, at, kind)
 }
 
 fn records(s: &[u8]) {
-    let mut at: usize = 0;
+    // Stays a loop by hand: it goes on where the next record begins.
+    let mut at = 0;
     while at < s.len() {
-        let next = record(s, at);
-        at = next;
+        at = record(s, at);
     }
 }
 

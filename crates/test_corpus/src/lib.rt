@@ -1,10 +1,10 @@
 // What the programs over corpora share: reading a corpus from standard input, and words, numbers and sums on standard output.
 #![tactic(auto)]
 
-ghost use Rattle.std.specs.Prelude.{◌≤◌, length};
+ghost use Rattle.std.specs.Prelude.{◌≤◌, length, IfSome};
 
-use codes::little::{byte, le32};
-use refusal::{Check, Refusal, told_of};
+use codes::little::le;
+use refusal::{Refusal, told_of};
 use text::put_refused;
 use xxh3_whole::xxh3;
 
@@ -33,10 +33,8 @@ pub fn hex(x: u64) {
 
 // Bytes, two digits each.
 pub fn hex_bytes(s: &[u8]) {
-    let mut i: usize = 0;
-    while i < s.len() {
-        io::print_hex(streams::OUTPUT, byte(s, i), 2);
-        i += 1;
+    for b in s {
+        io::print_hex(streams::OUTPUT, u64::from(*b), 2);
     }
 }
 
@@ -56,13 +54,13 @@ pub fn refused(refusal: Refusal) {
 }
 
 // What a check says of a file.
-pub fn check_line(name: &[u8], check: Check) {
+pub fn check_line(name: &[u8], check: Result<(), Refusal>) {
     line(name, b": check ");
     match check {
-        Check::Fine => {
+        Ok(()) => {
             word(b"fine\n");
         }
-        Check::Bad { refusal } => {
+        Err(refusal) => {
             refused(refusal);
             word(b"\n");
         }
@@ -84,54 +82,40 @@ pub fn sum_front(said: &[u8], s: &[u8], n: usize) {
 
 // What stands in an output before a call, so that each byte that a call leaves or writes shows in the output's sum.
 pub fn pattern(out: &mut [u8]) {
-    let mut x: u64 = 3;
-    let mut i: usize = 0;
-    while i < out.len() {
-        out[i] = (x % 256) as u8;
-        x = (x + 7) % 256;
-        i += 1;
+    let mut x: u8 = 3;
+    for b in out.iter_mut() {
+        *b = x;
+        x = x.wrapping_add(7);
     }
 }
 
 // The byte family: a fixed run of bytes, the same on every machine.
 pub fn family(out: &mut [u8]) {
     let mut x: u64 = 1;
-    let mut i: usize = 0;
-    while i < out.len() {
+    for b in out.iter_mut() {
         x = (x * 1103515245 + 12345) % 0x8000_0000;
-        out[i] = (x / 65536 % 256) as u8;
-        i += 1;
+        *b = (x / 65536 % 256) as u8;
     }
 }
 
 // ---- the corpus on standard input: for each entry one byte and its name, four bytes and its bytes
 
-fn first_byte(s: &[u8]) -> usize {
-    if s.len() < 1 {
-        return 256;
-    }
-    byte(s, 0) as usize
-}
-
-fn number_of(s: &[u8]) -> usize {
-    if s.len() < 4 {
-        return 0;
-    }
-    le32(s, 0) as usize
-}
-
-// The next byte, or 256 where the input ends.
-pub fn read_byte() -> usize {
+// The next byte; none where the input ends.
+pub fn read_byte() -> Option<u8> {
     let mut b = [0u8; 1];
-    let n = io::read_full(0, &mut b);
-    first_byte(&b[..n])
+    if io::read_full(0, &mut b) < 1 {
+        return None;
+    }
+    Some(b[0])
 }
 
-// Reads a number of four bytes.
+// Reads a number of four bytes; 0 where the input ends before.
 pub fn read_number() -> usize {
     let mut b = [0u8; 4];
-    let n = io::read_full(0, &mut b);
-    number_of(&b[..n])
+    if io::read_full(0, &mut b) < 4 {
+        return 0;
+    }
+    le::<4>(&b, 0) as usize
 }
 
 // Reads n bytes to the front of the lent space, if it has them; how many came.
@@ -144,29 +128,41 @@ pub fn read_front(space: &mut [u8], n: usize) -> usize
     0
 }
 
-// An entry of the corpus: the bytes of its name and its own, each at the front of a space; none where the input ended or the
-// entry does not fit.
-#[derive(Drop)]
+// The most entries of a corpus.
+pub const MOST: usize = 100000;
+
+// An entry of the corpus: how many bytes of its name stand at the front of one space, and how many of its own at the front of another.
+#[derive(Clone, Copy)]
 pub struct Entry {
-    pub more: bool,
     pub name: usize,
     pub size: usize,
 }
 
-// The most entries of a corpus.
-pub const MOST: usize = 100000;
-
-// Reads the next entry.
-pub fn next_entry(name: &mut [u8], space: &mut [u8]) -> Entry
-    ensures { (result.name ≤ length name.new) × (result.size ≤ length space.new) }
+// Reads the next entry; none where the input ended or the entry does not fit.
+pub fn next_entry(name: &mut [u8], space: &mut [u8]) -> Option<Entry>
+    ensures { IfSome result (λ e. (e.name ≤ length name.new) × (e.size ≤ length space.new)) }
 {
-    let n = read_byte();
-    let came = read_front(name, n);
+    let n = read_byte()?;
+    let came = read_front(name, n as usize);
     let size = read_number();
     let got = read_front(space, size);
-    Entry {
-        more: n < 256 && got == size,
+    if got != size {
+        return None;
+    }
+    Some(Entry {
         name: came,
         size: got,
+    })
+}
+
+// Hands on each entry of the corpus in turn: its name, and its bytes, which may be overwritten.
+pub fn each_entry<F: FnMut(&[u8], &mut [u8])>(name: &mut [u8], space: &mut [u8], mut visit: F)
+    requires { F.IsAlwaysCallable visit }
+{
+    for _ in 0..MOST {
+        match next_entry(name, space) {
+            Some(e) => visit(&name[..e.name], &mut space[..e.size]),
+            None => return,
+        }
     }
 }

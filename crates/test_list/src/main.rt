@@ -5,8 +5,9 @@
 ghost use Rattle.std.specs.Prelude.{◌+◌, ◌≤◌};
 
 use frame::Row;
-use listing::{Listed, plan_for, table_of};
-use test_corpus::{MOST, decimal, line, next_entry, refused, word};
+use listing::{plan_for, table_of};
+use refusal::Refusal;
+use test_corpus::{decimal, each_entry, line, refused, word};
 use test_opening::row;
 
 const ROOM: usize = 64;
@@ -34,54 +35,32 @@ fn is_blank(r: Row) -> bool {
         && r.sum == 4
 }
 
-fn print_rows(t: [Row; 64], n: usize) {
-    let mut i: usize = 0;
-    while i < ROOM {
-        if i < n {
-            row(t[i]);
-        }
-        i += 1;
+fn print_rows(t: &[Row], n: usize) {
+    for r in t.iter().take(n) {
+        row(*r);
     }
 }
 
-// One more than `count` for a row past the first n that is as it was.
-fn counted(count: u64, r: Row, i: usize, n: usize) -> u64
-    requires { count ≤ 64 }
-    ensures { result ≤ count + 1 }
-{
-    if n <= i {
-        if is_blank(r) {
-            return count + 1;
-        }
-    }
-    count
+// How many rows past the first n are as they were.
+fn left_of(t: &[Row], n: usize) -> u64 {
+    t.iter().skip(n).filter(|r| is_blank(**r)).count() as u64
 }
 
-fn left_of(t: [Row; 64], n: usize) -> u64 {
-    let mut count: u64 = 0;
-    let mut i: usize = 0;
-    while i < ROOM {
-        count = counted(count, t[i], i, n);
-        i += 1;
-    }
-    count
-}
-
-fn left(t: [Row; 64], n: usize) {
+fn left(t: &[Row], n: usize) {
     word(b"  left ");
     decimal(left_of(t, n));
     word(b"\n");
 }
 
 // The answer in words, and the rows that are written.
-fn answered(a: Listed) -> u64 {
+fn answered(a: Result<u64, Refusal>) -> u64 {
     match a {
-        Listed::Done { rows } => {
+        Ok(rows) => {
             decimal(rows);
             word(b" sections\n");
             rows
         }
-        Listed::Refused { refusal } => {
+        Err(refusal) => {
             refused(refusal);
             word(b"\n");
             0
@@ -90,9 +69,7 @@ fn answered(a: Listed) -> u64 {
 }
 
 fn answer_for(file: &[u8], room: usize) -> u64 {
-    let p = plan_for(file, room);
-    let answer = p.answer;
-    answered(answer)
+    answered(plan_for(file, room))
 }
 
 // Once more, with one row too little.
@@ -106,37 +83,14 @@ fn short(file: &[u8], n: usize) {
 fn all(name: &[u8], file: &[u8]) {
     line(name, b": ");
     let n = answer_for(file, ROOM) as usize;
-    let b = blank();
-    let t = table_of(file, [b; 64]);
-    print_rows(t, n);
-    left(t, n);
+    let t = table_of(file, [blank(); 64]);
+    print_rows(&t, n);
+    left(&t, n);
     short(file, n);
-}
-
-// The next entry; false where there is none.
-fn entry(name: &mut [u8], space: &mut [u8]) -> bool {
-    let e = next_entry(name, space);
-    let n = e.name;
-    let size = e.size;
-    if e.more {
-        all(&name[0..n], &space[0..size]);
-        return true;
-    }
-    false
-}
-
-fn corpus(name: &mut [u8], space: &mut [u8]) {
-    let mut left = MOST;
-    while 0 < left {
-        if !entry(name, space) {
-            return;
-        }
-        left -= 1;
-    }
 }
 
 fn main() {
     let mut name = [0u8; 256];
     let mut space = [0u8; 65536];
-    corpus(&mut name, &mut space);
+    each_entry(&mut name, &mut space, |name, file| all(name, file));
 }

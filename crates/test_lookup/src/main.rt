@@ -3,31 +3,22 @@
 #![tactic(auto)]
 
 use codes::ids::be64;
-use codes::little::{byte, le64, put_le};
+use codes::little::{byte, le, put_le};
 use frame::{Opened, Range};
 use lookup::Looked;
 use reader::look::{lookup, lookup_with, partners, partners_with};
+use refusal::Refusal;
 use test_corpus::{
     hex, line, number, pattern, read_byte, read_front, read_number, refused, sum, sum_front, word,
 };
 
 // ---- what stands in the outputs before a call
 
-fn pattern_marks(out: &mut [u8]) {
-    let mut i: usize = 0;
-    while i < out.len() {
-        out[i] = 0xaa;
-        i += 1;
-    }
-}
-
 fn pattern_logs(out: &mut [u64]) {
     let mut x: u64 = 11;
-    let mut i: usize = 0;
-    while i < out.len() {
-        out[i] = x;
-        x = std::num::wrapping_add_u64(x, 1000003);
-        i += 1;
+    for log in out.iter_mut() {
+        *log = x;
+        x = x.wrapping_add(1000003);
     }
 }
 
@@ -35,20 +26,14 @@ fn pattern_logs(out: &mut [u64]) {
 
 // Number i of the log numbers, as eight bytes.
 fn put_log(logs: &[u64], i: usize, bytes: &mut [u8]) {
-    if i < logs.len() {
-        if i < 4096 {
-            if 8 * i + 8 <= bytes.len() {
-                put_le(bytes, 8 * i, 8, logs[i]);
-            }
-        }
+    if i < 4096 && i < logs.len() && 8 * i + 8 <= bytes.len() {
+        put_le(bytes, 8 * i, 8, logs[i]);
     }
 }
 
 fn put_logs(logs: &[u64], bytes: &mut [u8]) {
-    let mut i: usize = 0;
-    while i < 4096 {
+    for i in 0..4096 {
         put_log(logs, i, bytes);
-        i += 1;
     }
 }
 
@@ -60,13 +45,15 @@ fn sum_logs(logs: &[u64]) {
     }
 }
 
-fn answer(looked: Looked) {
+fn answer(looked: Result<Looked, Refusal>) {
     match looked {
-        Looked::Found {
-            degree,
-            index,
-            compared,
-        } => {
+        Ok(
+            Looked::Found {
+                degree,
+                index,
+                compared,
+            },
+        ) => {
             word(b"found");
             number(degree);
             word(b" at");
@@ -74,23 +61,21 @@ fn answer(looked: Looked) {
             word(b" compared");
             number(compared);
         }
-        Looked::Absent { compared } => {
+        Ok(Looked::Absent { compared }) => {
             word(b"absent compared");
             number(compared);
         }
-        Looked::Refused { refusal } => {
+        Err(refusal) => {
             refused(refusal);
         }
     }
 }
 
 fn partner(out: &[u8], at: usize) {
-    if at <= 1000 {
-        if at + 16 <= out.len() {
-            word(b"  partner ");
-            hex(be64(out, at));
-            hex(be64(out, at + 8));
-        }
+    if at <= 1000 && at + 16 <= out.len() {
+        word(b"  partner ");
+        hex(be64(out, at));
+        hex(be64(out, at + 8));
     }
 }
 
@@ -116,61 +101,60 @@ fn edge(full: bool, out: &[u8], logs: &[u64], marks: &[u8], j: usize) {
 }
 
 fn edges(full: bool, out: &[u8], logs: &[u64], marks: &[u8], degree: u64) {
-    let mut j: u64 = 0;
     if degree <= 3 {
-        while j < degree {
-            edge(full, out, logs, marks, j as usize);
-            j += 1;
+        for j in 0..degree as usize {
+            edge(full, out, logs, marks, j);
         }
     }
 }
 
-fn found_edges(looked: Looked, full: bool, out: &[u8], logs: &[u64], marks: &[u8]) {
-    match looked {
+fn found_edges(
+    looked: Result<Looked, Refusal>,
+    full: bool,
+    out: &[u8],
+    logs: &[u64],
+    marks: &[u8],
+) {
+    if let Ok(
         Looked::Found {
             degree,
             index: _,
             compared: _,
-        } => {
-            edges(full, out, logs, marks, degree);
-        }
-        Looked::Absent { compared: _ } => {}
-        Looked::Refused { refusal: _ } => {}
+        },
+    ) = looked
+    {
+        edges(full, out, logs, marks, degree);
     }
 }
 
-// ---- one call
-
-fn look_by_record(
-    file: &[u8],
-    o: Opened,
-    key: &[u8; 16],
-    full: bool,
-    out: &mut [u8],
-    logs: &mut [u64],
-    marks: &mut [u8],
-) -> Looked {
-    if full {
-        return lookup_with(file, o, key, out, logs, marks);
-    }
-    partners_with(file, o, key, out)
-}
+// ---- one call: of an opened file where there is a record, of its bytes alone otherwise
 
 fn look(
     file: &[u8],
+    record: Option<Opened>,
     key: &[u8; 16],
     full: bool,
     out: &mut [u8],
     logs: &mut [u64],
     marks: &mut [u8],
-) -> Looked {
-    if full {
-        return lookup(file, key, out, logs, marks);
+) -> Result<Looked, Refusal> {
+    match record {
+        Some(o) => {
+            if full {
+                return lookup_with(file, o, key, out, logs, marks);
+            }
+            partners_with(file, o, key, out)
+        }
+        None => {
+            if full {
+                return lookup(file, key, out, logs, marks);
+            }
+            partners(file, key, out)
+        }
     }
-    partners(file, key, out)
 }
 
-fn told(looked: Looked, full: bool, out: &[u8], logs: &[u64], marks: &[u8]) {
+fn told(looked: Result<Looked, Refusal>, full: bool, out: &[u8], logs: &[u64], marks: &[u8]) {
     answer(looked);
     word(b" sums");
     sum(b" ", out);
@@ -182,8 +166,7 @@ fn told(looked: Looked, full: bool, out: &[u8], logs: &[u64], marks: &[u8]) {
 
 fn call(
     file: &[u8],
-    by: bool,
-    o: Opened,
+    record: Option<Opened>,
     key: &[u8; 16],
     full: bool,
     out: &mut [u8],
@@ -192,20 +175,14 @@ fn call(
 ) {
     pattern(out);
     pattern_logs(logs);
-    pattern_marks(marks);
-    if by {
-        let looked = look_by_record(file, o, key, full, out, logs, marks);
-        told(looked, full, out, logs, marks);
-        return;
-    }
-    let looked = look(file, key, full, out, logs, marks);
+    marks.fill(0xaa);
+    let looked = look(file, record, key, full, out, logs, marks);
     told(looked, full, out, logs, marks);
 }
 
 fn call_in(
     file: &[u8],
-    by: bool,
-    o: Opened,
+    record: Option<Opened>,
     key: &[u8; 16],
     full: bool,
     bytes: usize,
@@ -215,55 +192,32 @@ fn call_in(
     let mut out = [0u8; 65536];
     let mut logs = [0u64; 4096];
     let mut marks = [0u8; 4096];
-    call_front(
-        file, by, o, key, full, bytes, numbers, dead, &mut out, &mut logs, &mut marks,
-    );
-}
-
-fn call_front(
-    file: &[u8],
-    by: bool,
-    o: Opened,
-    key: &[u8; 16],
-    full: bool,
-    bytes: usize,
-    numbers: usize,
-    dead: usize,
-    out: &mut [u8],
-    logs: &mut [u64],
-    marks: &mut [u8],
-) {
-    if bytes <= out.len() {
-        if numbers <= logs.len() {
-            if dead <= marks.len() {
-                call(
-                    file,
-                    by,
-                    o,
-                    key,
-                    full,
-                    &mut out[0..bytes],
-                    &mut logs[0..numbers],
-                    &mut marks[0..dead],
-                );
-            }
-        }
+    if bytes <= out.len() && numbers <= logs.len() && dead <= marks.len() {
+        call(
+            file,
+            record,
+            key,
+            full,
+            &mut out[..bytes],
+            &mut logs[..numbers],
+            &mut marks[..dead],
+        );
     }
 }
 
 // ---- reading the corpus
 
-fn word_of(s: &[u8]) -> u64 {
-    if s.len() < 8 {
-        return 0;
-    }
-    le64(s, 0)
-}
-
 fn read_word() -> u64 {
     let mut b = [0u8; 8];
-    let n = io::read_full(0, &mut b);
-    word_of(&b[..n])
+    if io::read_full(0, &mut b) < 8 {
+        return 0;
+    }
+    le::<8>(&b, 0)
+}
+
+// Is the next byte 1?
+fn read_flag() -> bool {
+    read_byte() == Some(1)
 }
 
 fn read_range() -> Range {
@@ -272,120 +226,84 @@ fn read_range() -> Range {
     Range { start, len }
 }
 
-fn low_byte(x: usize) -> u8 {
-    (x % 256) as u8
-}
-
 fn read_record() -> Opened {
     let keys = read_range();
     let offsets = read_range();
     let partners = read_range();
     let logs = read_range();
     let dead = read_range();
-    let marked = read_byte();
+    let marked = read_flag();
     let keycount = read_word();
     let edgecount = read_word();
-    let bits = read_byte();
+    let bits = read_byte().unwrap_or(0);
     let starts = read_range();
-    let indexed = read_byte();
+    let indexed = read_flag();
     Opened {
         keys,
         offsets,
         partners,
         logs,
-        marked: marked == 1,
         dead,
-        indexed: indexed == 1,
         starts,
         keycount,
         edgecount,
-        bits: low_byte(bits),
-    }
-}
-
-fn nothing() -> Opened {
-    let none = Range { start: 0, len: 0 };
-    Opened {
-        keys: none,
-        offsets: none,
-        partners: none,
-        logs: none,
-        marked: false,
-        dead: none,
-        indexed: false,
-        starts: none,
-        keycount: 0,
-        edgecount: 0,
-        bits: 24,
+        bits,
+        marked,
+        indexed,
     }
 }
 
 fn print_name() {
     let mut name = [0u8; 256];
-    let n = read_byte();
-    let came = read_front(&mut name, n);
-    line(&name[0..came], b": ");
+    let n = read_byte().unwrap_or(0);
+    let came = read_front(&mut name, n as usize);
+    line(&name[..came], b": ");
 }
 
-fn call_item(file: &[u8], by: bool) {
+fn call_item(file: &[u8], by_record: bool) {
     print_name();
-    let full = read_byte();
+    let full = read_flag();
     let mut key = [0u8; 16];
     io::read_full(0, &mut key);
     let bytes = read_number();
     let numbers = read_number();
     let dead = read_number();
-    if by {
-        let o = read_record();
-        call_in(file, true, o, &key, full == 1, bytes, numbers, dead);
-        return;
-    }
-    call_in(
-        file,
-        false,
-        nothing(),
-        &key,
-        full == 1,
-        bytes,
-        numbers,
-        dead,
-    );
+    let record = if by_record { Some(read_record()) } else { None };
+    call_in(file, record, &key, full, bytes, numbers, dead);
 }
 
-fn call_on(space: &[u8], size: usize, by: bool) {
+fn call_on(space: &[u8], size: usize, by_record: bool) {
     if size <= space.len() {
-        call_item(&space[0..size], by);
+        call_item(&space[..size], by_record);
     }
 }
 
-// The next item; the size of the current file after it, or more than the space where the input ends.
-fn item(space: &mut [u8], size: usize) -> usize {
-    let kind = read_byte();
-    if kind == 1 {
-        let n = read_number();
-        return read_front(space, n);
+// The next item, over the current file of so many bytes; the size of the current file after it, none where the input ends.
+fn item(space: &mut [u8], size: usize) -> Option<usize> {
+    match read_byte() {
+        Some(1) => {
+            let n = read_number();
+            Some(read_front(space, n))
+        }
+        Some(2) => {
+            call_on(space, size, false);
+            Some(size)
+        }
+        Some(3) => {
+            call_on(space, size, true);
+            Some(size)
+        }
+        _ => None,
     }
-    if kind == 2 {
-        call_on(space, size, false);
-        return size;
-    }
-    if kind == 3 {
-        call_on(space, size, true);
-        return size;
-    }
-    300000
 }
 
 fn items(space: &mut [u8]) {
-    let mut size: usize = 0;
-    let mut left: usize = 1000000;
-    while 0 < left {
-        let next = item(space, size);
-        size = next;
-        if 262144 < size {
-            return;
+    let mut size = 0;
+    for _ in 0..1000000 {
+        match item(space, size) {
+            Some(next) => size = next,
+            None => return,
         }
-        left -= 1;
     }
 }
 

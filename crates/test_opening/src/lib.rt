@@ -3,11 +3,11 @@
 
 use codes::ids::Id;
 use frame::ends::Header;
-use frame::{Opened, Opening, Range, Row};
-use reader::header::{HeaderRead, header};
+use frame::{Opened, Range, Row};
+use reader::header::header;
 use reader::open::open;
-use reader::rows::{SectionAt, section_at};
-use test_corpus::{MOST, hex, line, next_entry, number, refused, word};
+use reader::rows::section_at;
+use test_corpus::{each_entry, hex, line, number, refused, word};
 
 fn range(r: Range) {
     number(r.start);
@@ -24,24 +24,18 @@ fn range_if(there: bool, r: Range) {
 }
 
 fn record(o: Opened) {
-    let keys = o.keys;
-    let offsets = o.offsets;
-    let partners = o.partners;
-    let logs = o.logs;
-    let dead = o.dead;
-    let starts = o.starts;
     word(b"opens keys");
-    range(keys);
+    range(o.keys);
     word(b" offsets");
-    range(offsets);
+    range(o.offsets);
     word(b" partners");
-    range(partners);
+    range(o.partners);
     word(b" logs");
-    range(logs);
+    range(o.logs);
     word(b" dead");
-    range_if(o.marked, dead);
+    range_if(o.marked, o.dead);
     word(b" starts");
-    range_if(o.indexed, starts);
+    range_if(o.indexed, o.starts);
     word(b" n");
     number(o.keycount);
     word(b" e");
@@ -57,9 +51,6 @@ fn id(d: Id) {
 }
 
 fn fields(h: Header) {
-    let edgetype = h.edgetype;
-    let source = h.source;
-    let destination = h.destination;
     word(b"minor");
     number(h.minor as u64);
     word(b" direction");
@@ -67,17 +58,17 @@ fn fields(h: Header) {
     word(b" flags");
     number(h.flags as u64);
     word(b" ids");
-    id(edgetype);
-    id(source);
-    id(destination);
+    id(h.edgetype);
+    id(h.source);
+    id(h.destination);
 }
 
 // The line of the header, or of its refusal.
 fn header_line(file: &[u8]) {
     word(b"  header ");
     match header(file) {
-        HeaderRead::Refused { refusal } => refused(refusal),
-        HeaderRead::Good { header: h } => fields(h),
+        Err(refusal) => refused(refusal),
+        Ok(h) => fields(h),
     }
     word(b"\n");
 }
@@ -96,19 +87,12 @@ pub fn row(r: Row) {
     word(b"\n");
 }
 
-// The line of entry i, or none.
-fn row_line(file: &[u8], i: usize) {
-    match section_at(file, i) {
-        SectionAt::Entry { row: r } => row(r),
-        SectionAt::Missing => {}
-    }
-}
-
+// The lines of the sections that there are.
 fn rows(file: &[u8]) {
-    let mut i: usize = 0;
-    while i < 64 {
-        row_line(file, i);
-        i += 1;
+    for i in 0..64 {
+        if let Some(r) = section_at(file, i) {
+            row(r);
+        }
     }
 }
 
@@ -116,12 +100,12 @@ fn rows(file: &[u8]) {
 fn verdict(name: &[u8], file: &[u8]) {
     line(name, b": ");
     match open(file) {
-        Opening::Refused { refusal } => {
+        Err(refusal) => {
             refused(refusal);
             word(b"\n");
             header_line(file);
         }
-        Opening::Good { opened } => {
+        Ok(opened) => {
             record(opened);
             word(b"\n");
             header_line(file);
@@ -130,25 +114,7 @@ fn verdict(name: &[u8], file: &[u8]) {
     }
 }
 
-// The next entry; false where there is none.
-fn entry(name: &mut [u8], space: &mut [u8]) -> bool {
-    let e = next_entry(name, space);
-    let n = e.name;
-    let size = e.size;
-    if e.more {
-        verdict(&name[0..n], &space[0..size]);
-        return true;
-    }
-    false
-}
-
 // All files of the corpus, each read into the lent space.
 pub fn corpus(name: &mut [u8], space: &mut [u8]) {
-    let mut left = MOST;
-    while 0 < left {
-        if !entry(name, space) {
-            return;
-        }
-        left -= 1;
-    }
+    each_entry(name, space, |name, file| verdict(name, file));
 }

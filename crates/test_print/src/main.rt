@@ -16,29 +16,16 @@ fn print_named(name: &[u8], file: &[u8], room: &mut [u8], out: &mut [u8])
     print_file(file, room, out);
 }
 
-// The next entry; false where there is none.
-fn entry(name: &mut [u8], space: &mut [u8], room: &mut [u8], out: &mut [u8]) -> bool
-    requires { (length space.old ≤ longest) × (batch_room ≤ length room.old) × (line_room ≤ length out.old) }
-{
-    let e = next_entry(name, space);
-    let n = e.name;
-    let size = e.size;
-    if e.more {
-        print_named(&name[0..n], &space[0..size], room, out);
-        return true;
-    }
-    false
-}
-
+// Every file of the corpus.
 fn corpus(name: &mut [u8], space: &mut [u8], room: &mut [u8], out: &mut [u8])
     requires { (length space.old ≤ longest) × (batch_room ≤ length room.old) × (line_room ≤ length out.old) }
 {
-    let mut left = MOST;
-    while 0 < left {
-        if !entry(name, space, room, out) {
-            return;
+    // Stays a loop, and no call of `each_entry`: what a file may be long is required of what prints it.
+    for _ in 0..MOST {
+        match next_entry(name, space) {
+            Some(e) => print_named(&name[..e.name], &space[..e.size], room, out),
+            None => return,
         }
-        left -= 1;
     }
 }
 

@@ -2,7 +2,7 @@
 // empty chunks between them and sums asked for midway. The expected output is made by second/.
 #![tactic(auto)]
 
-ghost use Rattle.std.specs.Prelude.{◌^◌, ◌<◌, ◌≤◌};
+ghost use Rattle.std.specs.Prelude.{◌<◌};
 
 use test_corpus::{family, hex, number, word};
 use xxh3_running::{feed, new, sum};
@@ -34,9 +34,7 @@ fn cut_line(n: usize, x: u64, cuts: usize) {
 fn cut_lines(s: &[u8]) {
     let mut last = in_two(s, 0);
     let mut first: usize = 0;
-    let mut cut: usize = 0;
-    while cut < s.len() {
-        cut += 1;
+    for cut in 1..=s.len() {
         let x = in_two(s, cut);
         if x != last {
             cut_line(s.len(), last, cut - first);
@@ -44,16 +42,14 @@ fn cut_lines(s: &[u8]) {
             first = cut;
         }
     }
-    cut_line(s.len(), last, cut + 1 - first);
+    cut_line(s.len(), last, s.len() + 1 - first);
 }
 
 fn all_cuts(s: &[u8]) {
-    let mut n: usize = 0;
-    while n < 601 {
+    for n in 0..601 {
         if n <= s.len() {
             cut_lines(&s[0..n]);
         }
-        n += 1;
     }
 }
 
@@ -65,40 +61,25 @@ fn byte_line(n: usize, x: u64) {
 // One state, fed byte by byte, with the sum asked for after each.
 fn byte_lines(s: &[u8]) {
     let mut st = new();
-    let mut n: usize = 0;
     byte_line(0, sum(st));
-    while n < s.len() {
+    for n in 0..s.len() {
         let fed = feed(st, &s[n..n + 1]);
         st = fed.state;
-        n += 1;
-        byte_line(n, sum(st));
+        byte_line(n + 1, sum(st));
     }
-}
-
-fn lesser(a: usize, b: usize) -> usize
-    requires { (0 < a) × (0 < b) }
-    ensures { (0 < result) × (result ≤ a) × (result ≤ b) }
-{
-    if a < b {
-        return a;
-    }
-    b
 }
 
 // s in chunks of `size` bytes, the last one shorter, each after an empty one; the sums asked for after each chunk are xored.
 fn chunk_line(s: &[u8], size: usize)
-    requires { (0 < size) × (size < 2 ^ 32) }
+    requires { 0 < size }
 {
     let mut st = new();
     let mut asked: u64 = 0;
-    let mut at: usize = 0;
-    while at < s.len() {
-        let end = at + lesser(size, s.len() - at);
-        let none = feed(st, &s[at..at]);
-        let fed = feed(none.state, &s[at..end]);
+    for chunk in s.chunks(size) {
+        let none = feed(st, &chunk[0..0]);
+        let fed = feed(none.state, chunk);
         st = fed.state;
-        asked = asked ^ sum(st);
-        at = end;
+        asked ^= sum(st);
     }
     told(b"chunks", size, sum(st));
     word(b" ");
@@ -108,23 +89,19 @@ fn chunk_line(s: &[u8], size: usize)
 
 // Chunks of the sizes from `first` to `last`, `step` apart.
 fn size_lines(s: &[u8], first: usize, last: usize, step: usize)
-    requires { (0 < first) × (0 < step) × (step < 2 ^ 16) × (last < 2 ^ 16) }
+    requires { (0 < first) × (0 < step) }
 {
-    let mut size = first;
-    while size <= last {
+    for size in (first..=last).step_by(step) {
         chunk_line(s, size);
-        size += step;
     }
 }
 
 // Chunks around a stripe, the buffer and a block, and m times as long.
 fn chunk_lines(s: &[u8]) {
-    let mut m: usize = 1;
-    while m < 5 {
+    for m in 1..5 {
         size_lines(s, 63 * m, 65 * m, m);
         size_lines(s, 239 * m, 257 * m, m);
         size_lines(s, 1023 * m, 1025 * m, m);
-        m += 1;
     }
 }
 

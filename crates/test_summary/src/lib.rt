@@ -2,7 +2,6 @@
 #![tactic(auto)]
 
 use codes::ids::Id;
-use refusal::Check;
 use summary::figures::{Extremes, Summary};
 use summary::summary;
 use test_corpus::{decimal, hex, line, number, refused, word};
@@ -13,17 +12,19 @@ fn id(d: Id) {
     hex(d.lo);
 }
 
-fn extremes(e: Extremes) {
+fn extremes(e: Option<Extremes>) {
     match e {
-        Extremes::None => {
+        None => {
             word(b" without edges");
         }
-        Extremes::Some {
-            smallestkey,
-            largestkey,
-            smallestlog,
-            largestlog,
-        } => {
+        Some(
+            Extremes {
+                smallestkey,
+                largestkey,
+                smallestlog,
+                largestlog,
+            },
+        ) => {
             word(b" from");
             id(smallestkey);
             word(b" to");
@@ -46,16 +47,12 @@ fn bucket(i: usize, keys: u64) {
 }
 
 fn buckets(b: [u64; 64]) {
-    let mut i: usize = 0;
-    while i < 64 {
-        bucket(i, b[i]);
-        i += 1;
+    for (i, keys) in b.iter().enumerate() {
+        bucket(i, *keys);
     }
 }
 
 fn figures(s: Summary) {
-    let e = s.extremes;
-    let b = s.buckets;
     word(b" keys");
     number(s.keycount);
     word(b" edges");
@@ -64,22 +61,19 @@ fn figures(s: Summary) {
     number(s.tombstones);
     word(b" degree");
     number(s.largestdegree);
-    extremes(e);
+    extremes(s.extremes);
     word(b" buckets");
-    buckets(b);
+    buckets(s.buckets);
 }
 
 // What the summary says of a file.
 pub fn summary_line(name: &[u8], file: &[u8]) {
     line(name, b": summary");
-    let r = summary(file);
-    let told = r.told;
-    let s = r.summary;
-    match told {
-        Check::Fine => {
+    match summary(file) {
+        Ok(s) => {
             figures(s);
         }
-        Check::Bad { refusal } => {
+        Err(refusal) => {
             word(b" ");
             refused(refusal);
         }

@@ -3,21 +3,22 @@
 #![tactic(auto)]
 
 use full_check::check;
-use readout::{ReadOut, read_out};
+use readout::read_out;
+use refusal::Refusal;
 use test_corpus::{
-    MOST, check_line, hex_bytes, line, next_entry, number, pattern, refused, sum, sum_front, word,
+    check_line, each_entry, hex_bytes, line, number, pattern, refused, sum, sum_front, word,
 };
 use test_summary::summary_line;
-use write_file::{Written, needed, write};
+use write_file::{needed, write};
 use xxh3_whole::xxh3;
 
 fn size(name: &[u8], batch: &[u8]) {
     line(name, b": needed");
     match needed(batch) {
-        Written::Done { bytes } => {
+        Ok(bytes) => {
             number(bytes);
         }
-        Written::Refused { refusal } => {
+        Err(refusal) => {
             word(b" ");
             refused(refusal);
         }
@@ -26,15 +27,15 @@ fn size(name: &[u8], batch: &[u8]) {
 }
 
 // The bytes of the file, 0 where it was refused.
-fn answered(name: &[u8], said: &[u8], r: Written, out: &[u8]) -> u64 {
+fn answered(name: &[u8], said: &[u8], r: Result<u64, Refusal>, out: &[u8]) -> u64 {
     match r {
-        Written::Done { bytes } => {
+        Ok(bytes) => {
             line(name, b": wrote");
             number(bytes);
             sum_front(b" sum ", out, bytes as usize);
             bytes
         }
-        Written::Refused { refusal } => {
+        Err(refusal) => {
             line(name, said);
             refused(refusal);
             0
@@ -53,10 +54,8 @@ fn write_into(name: &[u8], said: &[u8], batch: &[u8], out: &mut [u8]) -> u64 {
 
 // Once more, with room for one byte less.
 fn short(name: &[u8], batch: &[u8], less: &mut [u8], bytes: usize) {
-    if 0 < bytes {
-        if bytes <= less.len() {
-            write_into(name, b": short ", batch, &mut less[0..bytes - 1]);
-        }
+    if 0 < bytes && bytes <= less.len() {
+        write_into(name, b": short ", batch, &mut less[..bytes - 1]);
     }
 }
 
@@ -69,28 +68,10 @@ fn small(name: &[u8], file: &[u8]) {
     }
 }
 
-fn same(a: &[u8], b: &[u8]) -> bool {
-    if a.len() != b.len() {
-        return false;
-    }
-    let mut i: usize = 0;
-    while i < a.len() {
-        if i < b.len() {
-            if a[i] != b[i] {
-                return false;
-            }
-        }
-        i += 1;
-    }
-    true
-}
-
 fn compared(batch: &[u8], out: &[u8], n: usize) {
-    if n <= out.len() {
-        if same(batch, &out[0..n]) {
-            word(b": reads back\n");
-            return;
-        }
+    if n <= out.len() && batch == &out[..n] {
+        word(b": reads back\n");
+        return;
     }
     word(b": reads another batch\n");
 }
@@ -98,10 +79,10 @@ fn compared(batch: &[u8], out: &[u8], n: usize) {
 fn back(name: &[u8], batch: &[u8], file: &[u8], out: &mut [u8]) {
     word(name);
     match read_out(file, out) {
-        ReadOut::Done { bytes } => {
+        Ok(bytes) => {
             compared(batch, out, bytes as usize);
         }
-        ReadOut::Refused { refusal } => {
+        Err(refusal) => {
             word(b": read-out ");
             refused(refusal);
             word(b"\n");
@@ -127,59 +108,40 @@ fn held(name: &[u8], batch: &[u8], file: &[u8], whole: bool, less: &mut [u8]) {
 fn all(name: &[u8], batch: &[u8], whole: bool, out: &mut [u8], less: &mut [u8]) {
     size(name, batch);
     let bytes = write_into(name, b": write ", batch, out) as usize;
-    if 0 < bytes {
-        if bytes <= out.len() {
-            held(name, batch, &out[0..bytes], whole, less);
-        }
+    if 0 < bytes && bytes <= out.len() {
+        held(name, batch, &out[..bytes], whole, less);
     }
-}
-
-// The next entry; false where there is none.
-fn entry(name: &mut [u8], space: &mut [u8], whole: bool, out: &mut [u8], less: &mut [u8]) -> bool {
-    let e = next_entry(name, space);
-    let n = e.name;
-    let size = e.size;
-    if e.more {
-        all(&name[0..n], &space[0..size], whole, out, less);
-        return true;
-    }
-    false
 }
 
 // All batches on standard input, framed as files are: one byte and its name, four bytes and its bytes. The batch is read into
 // the first space, written to the second and read back to the third. `whole` asks for the lines with too little room and of
 // the bytes.
 pub fn corpus(name: &mut [u8], space: &mut [u8], whole: bool, out: &mut [u8], less: &mut [u8]) {
-    let mut left = MOST;
-    while 0 < left {
-        if !entry(name, space, whole, out, less) {
-            return;
-        }
-        left -= 1;
-    }
+    each_entry(
+        name,
+        space,
+        |name, batch| all(name, batch, whole, out, less),
+    );
 }
 
 // ---- large batches: the file is read back over the batch, and the sums are compared
 
-fn over(space: &[u8], n: usize, size: usize, batch: u64) {
-    if n == size {
-        if n <= space.len() {
-            if xxh3(&space[0..n]) == batch {
-                word(b": reads back\n");
-                return;
-            }
-        }
+fn over(read: &[u8], n: usize, batch: u64) {
+    if n == read.len() && xxh3(read) == batch {
+        word(b": reads back\n");
+        return;
     }
     word(b": reads another batch\n");
 }
 
-fn back_over(name: &[u8], file: &[u8], space: &mut [u8], size: usize, batch: u64) {
+// Reads the file back over its batch, whose sum is told.
+fn back_over(name: &[u8], file: &[u8], space: &mut [u8], batch: u64) {
     word(name);
     match read_out(file, space) {
-        ReadOut::Done { bytes } => {
-            over(space, bytes as usize, size, batch);
+        Ok(bytes) => {
+            over(space, bytes as usize, batch);
         }
-        ReadOut::Refused { refusal } => {
+        Err(refusal) => {
             word(b": read-out ");
             refused(refusal);
             word(b"\n");
@@ -187,48 +149,22 @@ fn back_over(name: &[u8], file: &[u8], space: &mut [u8], size: usize, batch: u64
     }
 }
 
-fn held_over(name: &[u8], out: &[u8], bytes: usize, space: &mut [u8], size: usize, batch: u64) {
-    if 0 < bytes {
-        if bytes <= out.len() {
-            check_line(name, check(&out[0..bytes]));
-            summary_line(name, &out[0..bytes]);
-            back_over(name, &out[0..bytes], space, size, batch);
-        }
-    }
+fn held_over(name: &[u8], file: &[u8], space: &mut [u8], batch: u64) {
+    check_line(name, check(file));
+    summary_line(name, file);
+    back_over(name, file, space, batch);
 }
 
-fn written(name: &[u8], batch: &[u8], out: &mut [u8]) -> usize {
-    size(name, batch);
-    write_into(name, b": write ", batch, out) as usize
-}
-
-fn large(name: &[u8], space: &mut [u8], size: usize, out: &mut [u8]) {
-    if size <= space.len() {
-        let batch = xxh3(&space[0..size]);
-        let bytes = written(name, &space[0..size], out);
-        held_over(name, out, bytes, space, size, batch);
+fn large(name: &[u8], space: &mut [u8], out: &mut [u8]) {
+    let batch = xxh3(space);
+    size(name, space);
+    let bytes = write_into(name, b": write ", space, out) as usize;
+    if 0 < bytes && bytes <= out.len() {
+        held_over(name, &out[..bytes], space, batch);
     }
-}
-
-// The next entry; false where there is none.
-fn large_entry(name: &mut [u8], space: &mut [u8], out: &mut [u8]) -> bool {
-    let e = next_entry(name, space);
-    let n = e.name;
-    let size = e.size;
-    if e.more {
-        large(&name[0..n], space, size, out);
-        return true;
-    }
-    false
 }
 
 // The same with two spaces, for batches too large for three.
 pub fn corpus_large(name: &mut [u8], space: &mut [u8], out: &mut [u8]) {
-    let mut left = MOST;
-    while 0 < left {
-        if !large_entry(name, space, out) {
-            return;
-        }
-        left -= 1;
-    }
+    each_entry(name, space, |name, batch| large(name, batch, out));
 }

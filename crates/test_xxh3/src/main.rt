@@ -18,20 +18,16 @@ fn line_of(s: &[u8], n: usize) {
 }
 
 fn short_lines(s: &[u8]) {
-    let mut n: usize = 0;
-    while n <= 1100 {
+    for n in 0..=1100 {
         line_of(s, n);
-        n += 1;
     }
 }
 
 fn stripe_lines(s: &[u8]) {
-    let mut n: usize = 1152;
-    while n <= 65536 {
+    for n in (1152..=65536).step_by(64) {
         line_of(s, n - 1);
         line_of(s, n);
         line_of(s, n + 1);
-        n += 64;
     }
 }
 

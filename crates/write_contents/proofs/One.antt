@@ -10,8 +10,8 @@ use Rattle.write_contents.proofs.payload.put_payload.Reads as put_payload_reads
 
 pub put_body_determined : Determined put_body.ended put_body_reads.Pre put_body_reads.Post
 put_body_determined κs a pre r₁ r₂ w₁ w₂ p q =
-    (p.place ∙ sym q.place, ap (λ (l : List ℕ). (l, (tt {0}, (tt {0}, (tt {0}, (tt {0}, (tt {0}, (tt {0}, tt {0})))))))) (p.bytes ∙ sym q.bytes))
+    (p.place ∙ sym q.place, ap (λ (l : List ℕ). (l, (tt {0}, (tt {0}, tt {0})))) (p.bytes ∙ sym q.bytes))
 
 pub put_payload_determined : Determined put_payload.ended put_payload_reads.Pre put_payload_reads.Post
 put_payload_determined κs a pre r₁ r₂ w₁ w₂ p q =
-    (p.place ∙ sym q.place, ap (λ (l : List ℕ). (tt {0}, (tt {0}, (tt {0}, (tt {0}, (tt {0}, (tt {0}, (tt {0}, (l, (tt {0}, tt {0})))))))))) (p.bytes ∙ sym q.bytes))
+    (p.place ∙ sym q.place, ap (λ (l : List ℕ). (tt {0}, (tt {0}, (l, (tt {0}, tt {0}))))) (p.bytes ∙ sym q.bytes))

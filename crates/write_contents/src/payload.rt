@@ -8,31 +8,24 @@ ghost use Rattle.batch_groups.specs.Groups.{groups_of};
 ghost use Rattle.write_image.specs.Image.{log_bytes, tomb_bytes, fences_of, fenced, start_bytes, indexed, sections_by};
 ghost use Rattle.write_sections.specs.Ids.{ids_at};
 ghost use Rattle.write_sections.specs.Asked.{Placed};
-ghost use Rattle.write_source.specs.Source.{source_edges};
+ghost use Rattle.batch.specs.Batch.{edges_of};
 
 use frame::bounds::Bounds;
+use write_plan::Plan;
 use write_sections::by_edge::{put_logs, put_logs_tombs};
 use write_sections::by_key::put_groups;
 use write_sections::fences::put_fences;
 use write_sections::starts::put_starts;
 
 // The log numbers, and the tombstones behind them if an edge is dead.
-fn put_by_edge(
-    dead: bool,
-    kind: u8,
-    a: &[u8],
-    b: &[u8],
-    n: usize,
-    out: &mut [u8],
-    at: usize,
-) -> usize
-    requires { (n ≡ length (source_edges kind a.now b.now)) × (n ≤ most_edges) × (at + length (log_bytes (source_edges kind a.now b.now) ++ pick dead (tomb_bytes (source_edges kind a.now b.now)) []) ≤ length out.old) }
-    ensures { Put out.old out.new at result (log_bytes (source_edges kind a.now b.now) ++ pick dead (tomb_bytes (source_edges kind a.now b.now)) []) }
+fn put_by_edge(batch: &[u8], n: usize, dead: bool, out: &mut [u8], at: usize) -> usize
+    requires { (n ≡ length (edges_of batch.now)) × (n ≤ most_edges) × (at + length (log_bytes (edges_of batch.now) ++ pick dead (tomb_bytes (edges_of batch.now)) []) ≤ length out.old) }
+    ensures { Put out.old out.new at result (log_bytes (edges_of batch.now) ++ pick dead (tomb_bytes (edges_of batch.now)) []) }
 {
     if dead {
-        return put_logs_tombs(kind, a, b, n, out, at);
+        return put_logs_tombs(batch, n, out, at);
     }
-    put_logs(kind, a, b, 0, n, out, at)
+    put_logs(batch, 0, n, out, at)
 }
 
 // The fences, if there are so many keys.
@@ -47,41 +40,25 @@ fn put_fences_if(out: &mut [u8], first: usize, keys: usize, at: usize) -> usize
 }
 
 // The same of the start index.
-fn put_starts_if(
-    keys: usize,
-    kind: u8,
-    a: &[u8],
-    b: &[u8],
-    n: usize,
-    out: &mut [u8],
-    at: usize,
-) -> usize
-    requires { (n ≡ length (source_edges kind a.now b.now)) × (at + length (pick (indexed keys) (start_bytes (groups_of (source_edges kind a.now b.now))) []) ≤ length out.old) }
-    ensures { Put out.old out.new at result (pick (indexed keys) (start_bytes (groups_of (source_edges kind a.now b.now))) []) }
+fn put_starts_if(batch: &[u8], n: usize, keys: usize, out: &mut [u8], at: usize) -> usize
+    requires { (n ≡ length (edges_of batch.now)) × (at + length (pick (indexed keys) (start_bytes (groups_of (edges_of batch.now))) []) ≤ length out.old) }
+    ensures { Put out.old out.new at result (pick (indexed keys) (start_bytes (groups_of (edges_of batch.now))) []) }
 {
     if (Bounds::UNINDEXED as usize) < keys {
-        return put_starts(kind, a, b, n, out, at);
+        return put_starts(batch, n, out, at);
     }
     at
 }
 
 // From `at` on. Answers the place after them.
-pub fn put_payload(
-    kind: u8,
-    a: &[u8],
-    b: &[u8],
-    n: usize,
-    keys: usize,
-    w: usize,
-    dead: bool,
-    out: &mut [u8],
-    at: usize,
-) -> usize
-    requires { Placed (source_edges kind a.now b.now) n keys w at (length (payload (sections_by keys w dead (source_edges kind a.now b.now) (groups_of (source_edges kind a.now b.now))))) out.old }
-    ensures { Put out.old out.new at result (payload (sections_by keys w dead (source_edges kind a.now b.now) (groups_of (source_edges kind a.now b.now)))) }
+pub fn put_payload(batch: &[u8], plan: Plan, out: &mut [u8], at: usize) -> usize
+    requires { Placed (edges_of batch.now) plan.edges plan.keys plan.width at (length (payload (sections_by plan.keys plan.width plan.dead (edges_of batch.now) (groups_of (edges_of batch.now))))) out.old }
+    ensures { Put out.old out.new at result (payload (sections_by plan.keys plan.width plan.dead (edges_of batch.now) (groups_of (edges_of batch.now)))) }
 {
-    let p = put_groups(kind, a, b, n, keys, w, out, at);
-    let q = put_by_edge(dead, kind, a, b, n, out, p);
+    let n = plan.edges;
+    let keys = plan.keys;
+    let p = put_groups(batch, n, keys, plan.width, out, at);
+    let q = put_by_edge(batch, n, plan.dead, out, p);
     let r = put_fences_if(out, at, keys, q);
-    put_starts_if(keys, kind, a, b, n, out, r)
+    put_starts_if(batch, n, keys, out, r)
 }

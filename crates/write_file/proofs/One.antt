@@ -18,4 +18,4 @@ write_determined κs a pre r₁ r₂ w₁ w₂ p q =
     (p.answer ∙ sym q.answer, ap (λ (l : List ℕ). (tt {0}, (l, tt {0}))) (p.output ∙ sym q.output))
 
 pub put_file_determined : Determined put_file.ended put_file_reads.Pre put_file_reads.Post
-put_file_determined κs a pre r₁ r₂ w₁ w₂ p q = (refl, ap (λ (l : List ℕ). (tt {0}, (tt {0}, (tt {0}, (tt {0}, (tt {0}, (tt {0}, (l, tt {0})))))))) (p ∙ sym q))
+put_file_determined κs a pre r₁ r₂ w₁ w₂ p q = (refl, ap (λ (l : List ℕ). (tt {0}, (tt {0}, (tt {0}, (tt {0}, (l, tt {0})))))) (p ∙ sym q))

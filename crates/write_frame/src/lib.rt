@@ -11,21 +11,20 @@ ghost use Rattle.frame.specs.Layout.{head_bytes, trailer};
 ghost use Rattle.write_frame.specs.Standing.{entry_in};
 ghost use Rattle.write_frame.specs.Runs.{row_bytes, count_bytes};
 
-use codes::little::{le64, put_le};
+use codes::little::{le, put_le};
 use frame::Row;
 use frame::ends::{Footer, Header, Trailer};
 use xxh3_whole::xxh3;
 
-// Copies s to `at`, by words of 8 bytes.
+// Copies s to `at`, by words of 8 bytes. Stays a loop: for a copy of the library the archive would need `memcpy`, and the writer
+// needs `memset` alone.
 fn put_words(out: &mut [u8], at: usize, s: &[u8])
     requires { (at + length s.now ≤ length out.old) × (length s.now % 8 ≡ 0) }
     ensures { out.new ≡ sets out.old at s.now }
 {
-    let mut k: usize = 0;
-    while k < s.len() {
-        let word = le64(s, k);
-        put_le(out, at + k, 8, word);
-        k = k + 8;
+    for w in 0..s.len() / 8 {
+        let word = le::<8>(s, 8 * w);
+        put_le(out, at + 8 * w, 8, word);
     }
 }
 

@@ -38,7 +38,7 @@ dense_by_determined κs a pre r₁ r₂ w₁ w₂ p q = (p ∙ sym q, refl)
 
 pub put_block_determined : Determined put_block.ended put_block_reads.Pre put_block_reads.Post
 put_block_determined κs a pre r₁ r₂ w₁ w₂ p q =
-    (p.place ∙ sym q.place, ap (λ (l : List ℕ). (tt {0}, (tt {0}, (tt {0}, (tt {0}, (tt {0}, (tt {0}, (l, (tt {0}, tt {0}))))))))) (p.bytes ∙ sym q.bytes))
+    (p.place ∙ sym q.place, ap (λ (l : List ℕ). (tt {0}, (tt {0}, (tt {0}, (tt {0}, (l, (tt {0}, tt {0}))))))) (p.bytes ∙ sym q.bytes))
 
 pub block_size_determined : Determined block_size.ended block_size_reads.Pre block_size_reads.Post
 block_size_determined κs a pre r₁ r₂ w₁ w₂ p q = ((λ i. record { bytes = (p.1 ∙ sym q.1) i; dense = (p.0 ∙ sym q.0) i }), refl)

@@ -1,8 +1,8 @@
-// One group of a file, from the edges i up to j of a source: its end and split cost, whether it is dense, its size, its bytes.
+// One group of a file, from the edges i up to j of a batch: its end and split cost, whether it is dense, its size, its bytes.
 #![tactic(auto)]
 
 ghost use Rattle.std.specs.Prelude.{◌≡◌, ◌+◌, ◌*◌, ◌≤◌, ◌<◌, [], ◌∷◌, ◌++◌, length, drop};
-ghost use Rattle.batch.specs.Batch.{partners_in};
+ghost use Rattle.batch.specs.Batch.{partners_in, edges_of};
 ghost use Rattle.base.specs.Over.{part};
 ghost use Rattle.base.specs.Put.{Put};
 ghost use Rattle.codes.specs.Little.{le_bytes};
@@ -13,7 +13,6 @@ ghost use Rattle.group.specs.Written.{split_from, written_as};
 ghost use Rattle.batch_groups.specs.Groups.{groups_of, GroupEnd, Grouped};
 ghost use Rattle.write_image.specs.Image.{dense_by};
 ghost use Rattle.write_image.specs.Image.Laws.{Rise};
-ghost use Rattle.write_source.specs.Source.{source_edges};
 ghost use Rattle.write_group.specs.Span.{Spans, group_size};
 
 use codes::ids::{put_id, same_id};
@@ -38,46 +37,42 @@ fn partner_cost(up: u64) -> usize
 }
 
 // The group that begins at edge i, of n edges.
-pub fn span_at(kind: u8, a: &[u8], b: &[u8], n: usize, i: usize) -> Span
-    requires { (n ≡ length (source_edges kind a.now b.now)) × (n ≤ most_edges) × (i < n) × Grouped 0 (groups_of (drop i (source_edges kind a.now b.now))) }
-    ensures { Spans (source_edges kind a.now b.now) i result }
+pub fn span_at(batch: &[u8], n: usize, i: usize) -> Span
+    requires { (n ≡ length (edges_of batch.now)) × (n ≤ most_edges) × (i < n) × Grouped 0 (groups_of (drop i (edges_of batch.now))) }
+    ensures { Spans (edges_of batch.now) i result }
 {
-    let first = edge_of(kind, a, b, i);
+    let first = edge_of(batch, i);
     let key = first.key;
     let p = first.partner;
     let mut hi = p.hi;
     let mut cost = partner_cost(hi);
-    let mut j = i + 1;
-    while j < n {
-        let other = edge_of(kind, a, b, j);
+    for j in i + 1..n {
+        let other = edge_of(batch, j);
         if !same_id(other.key, key) {
             return Span { end: j, cost };
         }
         let q = other.partner;
         let upper = q.hi;
-        cost = cost + partner_cost(upper - hi);
+        cost += partner_cost(upper - hi);
         hi = upper;
-        j = j + 1;
     }
-    Span { end: j, cost }
+    Span { end: n, cost }
 }
 
 // Where it ends, alone: only keys are compared.
-pub fn group_end(kind: u8, a: &[u8], b: &[u8], n: usize, i: usize) -> usize
-    requires { (n ≡ length (source_edges kind a.now b.now)) × (i < n) }
-    ensures { GroupEnd (source_edges kind a.now b.now) i result }
+pub fn group_end(batch: &[u8], n: usize, i: usize) -> usize
+    requires { (n ≡ length (edges_of batch.now)) × (i < n) }
+    ensures { GroupEnd (edges_of batch.now) i result }
 {
-    let first = edge_of(kind, a, b, i);
+    let first = edge_of(batch, i);
     let key = first.key;
-    let mut j = i + 1;
-    while j < n {
-        let next = edge_of(kind, a, b, j);
+    for j in i + 1..n {
+        let next = edge_of(batch, j);
         if !same_id(next.key, key) {
             return j;
         }
-        j = j + 1;
     }
-    j
+    n
 }
 
 // The rule that makes a group dense.
@@ -130,37 +125,32 @@ fn put_partner(out: &mut [u8], at: usize, up: u64, lo: u64) -> usize
 }
 
 // Writes the partners, split.
-fn put_split(kind: u8, a: &[u8], b: &[u8], i: usize, j: usize, out: &mut [u8], at: usize) -> usize
-    requires { (i ≤ j) × (j ≤ length (source_edges kind a.now b.now)) × Rise 0 (partners_in (part (source_edges kind a.now b.now) i j)) × (at + length (split_from 0 (partners_in (part (source_edges kind a.now b.now) i j))) ≤ length out.old) }
-    ensures { Put out.old out.new at result (split_from 0 (partners_in (part (source_edges kind a.now b.now) i j))) }
+fn put_split(batch: &[u8], i: usize, j: usize, out: &mut [u8], at: usize) -> usize
+    requires { (i ≤ j) × (j ≤ length (edges_of batch.now)) × Rise 0 (partners_in (part (edges_of batch.now) i j)) × (at + length (split_from 0 (partners_in (part (edges_of batch.now) i j))) ≤ length out.old) }
+    ensures { Put out.old out.new at result (split_from 0 (partners_in (part (edges_of batch.now) i j))) }
 {
-    let mut k = i;
     let mut to = at;
     let mut hi: u64 = 0;
-    while k < j {
-        let e = edge_of(kind, a, b, k);
+    for k in i..j {
+        let e = edge_of(batch, k);
         let p = e.partner;
         let upper = p.hi;
         to = put_partner(out, to, upper - hi, p.lo);
         hi = upper;
-        k = k + 1;
     }
     to
 }
 
 // Writes the partners, dense.
-fn put_dense(kind: u8, a: &[u8], b: &[u8], i: usize, j: usize, out: &mut [u8], at: usize) -> usize
-    requires { (i ≤ j) × (j ≤ length (source_edges kind a.now b.now)) × (at + length (bytes_of (partners_in (part (source_edges kind a.now b.now) i j))) ≤ length out.old) }
-    ensures { Put out.old out.new at result (bytes_of (partners_in (part (source_edges kind a.now b.now) i j))) }
+fn put_dense(batch: &[u8], i: usize, j: usize, out: &mut [u8], at: usize) -> usize
+    requires { (i ≤ j) × (j ≤ length (edges_of batch.now)) × (at + length (bytes_of (partners_in (part (edges_of batch.now) i j))) ≤ length out.old) }
+    ensures { Put out.old out.new at result (bytes_of (partners_in (part (edges_of batch.now) i j))) }
 {
-    let mut k = i;
     let mut to = at;
-    while k < j {
-        let e = edge_of(kind, a, b, k);
-        let p = e.partner;
-        put_id(out, to, p);
-        to = to + Partner::DENSE;
-        k = k + 1;
+    for k in i..j {
+        let e = edge_of(batch, k);
+        put_id(out, to, e.partner);
+        to += Partner::DENSE;
     }
     to
 }
@@ -176,23 +166,14 @@ fn put_head(out: &mut [u8], at: usize, degree: u64, tag: u8) -> usize
 }
 
 // Writes the group.
-pub fn put_block(
-    kind: u8,
-    a: &[u8],
-    b: &[u8],
-    i: usize,
-    j: usize,
-    dense: bool,
-    out: &mut [u8],
-    at: usize,
-) -> usize
-    requires { (i ≤ j) × (j ≤ length (source_edges kind a.now b.now)) × Rise 0 (partners_in (part (source_edges kind a.now b.now) i j)) × (at + length (written_as dense (partners_in (part (source_edges kind a.now b.now) i j))) ≤ length out.old) }
-    ensures { Put out.old out.new at result (written_as dense (partners_in (part (source_edges kind a.now b.now) i j))) }
+pub fn put_block(batch: &[u8], i: usize, j: usize, dense: bool, out: &mut [u8], at: usize) -> usize
+    requires { (i ≤ j) × (j ≤ length (edges_of batch.now)) × Rise 0 (partners_in (part (edges_of batch.now) i j)) × (at + length (written_as dense (partners_in (part (edges_of batch.now) i j))) ≤ length out.old) }
+    ensures { Put out.old out.new at result (written_as dense (partners_in (part (edges_of batch.now) i j))) }
 {
     if dense {
         let mid = put_head(out, at, (j - i) as u64, Tag::DENSE);
-        return put_dense(kind, a, b, i, j, out, mid);
+        return put_dense(batch, i, j, out, mid);
     }
     let mid = put_head(out, at, (j - i) as u64, Tag::SPLIT);
-    put_split(kind, a, b, i, j, out, mid)
+    put_split(batch, i, j, out, mid)
 }

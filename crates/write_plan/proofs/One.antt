@@ -10,7 +10,6 @@ use Rattle.batch.specs.Batch.{Heading}
 use Rattle.batch_groups.specs.Groups.{groups_of}
 use Rattle.write_image.specs.Image.{any_dense, partner_bytes, width_of}
 use Rattle.write_plan.specs.declared.Plan.{Plan}
-use Rattle.write_plan.specs.declared.Counted.{Counted}
 use Rattle.write_plan.specs.Size.{file_size}
 use Rattle.write_plan.specs.Parts.{length_file}
 use Rattle.write_plan.specs.Bounds.{few, PlanFits, Measured, fits_measured, many_measured}
@@ -23,6 +22,7 @@ use Rattle.write_plan.specs.contracts.fences_size as fences_size
 use Rattle.write_plan.proofs.fences_size.Reads as fences_size_reads
 use Rattle.write_plan.specs.contracts.section_count as section_count
 use Rattle.write_plan.proofs.section_count.Reads as section_count_reads
+use Rattle.std.specs.Prelude.{Option, Some, None}
 
 pub tomb_size_determined : Determined tomb_size.ended tomb_size_reads.Pre tomb_size_reads.Post
 tomb_size_determined κs a pre r₁ r₂ w₁ w₂ p q = (p.0 ∙ sym q.0, refl)
@@ -48,7 +48,7 @@ fits_one es p q f g =
     (λ i. record { edges = edges i; keys = keys i; width = width i; partners = partners i; dense = dense i; dead = dead i; bytes = bytes i })
 
 -- and edges that fit are not too many
-not_both : (es : List Edge) (p : Plan) → PlanFits es p → Measured es Counted.TooMany → ⊥
+not_both : (es : List Edge) (p : Plan) → PlanFits es p → Measured es None → ⊥
 not_both es p f m =
     let h : Heading = record { direction = 0; ids = replicate 48 0 } in
     let i : length h.ids ≡ 48 = length-replicate {0} {A = ℕ} 48 0 in
@@ -62,11 +62,11 @@ not_both es p f m =
     let l = length_file h es p.edges p.keys p.width p.partners p.dense p.dead a i in
     true≢false (sym (many_measured es m h i) ∙ few h es (omega arith) (omega arith) (omega arith))
 
-measured_one : (es : List Edge) (r t : Counted) → Measured es r → Measured es t → r ≡ t
-measured_one es (Counted.Fits p) (Counted.Fits q) m n = ap Counted.Fits (fits_one es p q (fits_measured es p m) (fits_measured es q n))
-measured_one es (Counted.Fits p) Counted.TooMany m n = absurd (not_both es p (fits_measured es p m) n)
-measured_one es Counted.TooMany (Counted.Fits q) m n = absurd (not_both es q (fits_measured es q n) m)
-measured_one es Counted.TooMany Counted.TooMany m n = refl
+measured_one : (es : List Edge) (r t : Option Plan) → Measured es r → Measured es t → r ≡ t
+measured_one es (Some p) (Some q) m n = ap Some (fits_one es p q (fits_measured es p m) (fits_measured es q n))
+measured_one es (Some p) None m n = absurd (not_both es p (fits_measured es p m) n)
+measured_one es None (Some q) m n = absurd (not_both es q (fits_measured es q n) m)
+measured_one es None None m n = refl
 
 pub measure_determined : Determined measure.ended measure_reads.Pre measure_reads.Post
 measure_determined κs a pre r₁ r₂ w₁ w₂ p q = (measured_one _ _ _ p q, refl)

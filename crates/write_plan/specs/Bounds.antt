@@ -1,5 +1,5 @@
 -- "file 2^30 bytes, 2^24 keys, 2^26 edges": refusal 26, "more keys, edges or file bytes than the bounds".
-use Rattle.std.specs.Prelude.{◌≡◌, refl, ◌≤◌, ◌<◌, List, Bool, true, false, ◌||◌, length, ltb}
+use Rattle.std.specs.Prelude.{◌≡◌, refl, ◌≤◌, ◌<◌, List, Bool, true, false, ◌||◌, length, ltb, Option, Some, None}
 use borrow.Author.Tests.{lt-ltb, le-ltb}
 use Rattle.frame.specs.Kind as kind
 use Rattle.batch.specs.declared.Edge.{Edge}
@@ -7,7 +7,6 @@ use Rattle.batch.specs.Batch.{Heading}
 use Rattle.batch_groups.specs.Groups.{groups_of}
 use Rattle.write_image.specs.Image.{file_of}
 use Rattle.write_plan.specs.declared.Plan.{Plan}
-use Rattle.write_plan.specs.declared.Counted.{Counted}
 use Rattle.write_plan.specs.Size.{file_size, Fitting}
 
 unfoldable pub too_many : Heading → List Edge → Bool
@@ -48,22 +47,22 @@ pub record PlanFits (es : List Edge) (p : Plan) : Type 0 where
   pub bytes_few : p.bytes ≤ kind.most_bytes
 
 -- or the edges are too many, whatever the heading
-unfoldable pub Measured : List Edge → Counted → Type 0
-Measured es (Counted.Fits p) = PlanFits es p
-Measured es Counted.TooMany = (h : Heading) → length h.ids ≡ 48 → too_many h es ≡ true
+unfoldable pub Measured : List Edge → (Option Plan) → Type 0
+Measured es (Some p) = PlanFits es p
+Measured es None = (h : Heading) → length h.ids ≡ 48 → too_many h es ≡ true
 
-pub measured_many : (es : List Edge) → ((h : Heading) → length h.ids ≡ 48 → too_many h es ≡ true) → Measured es Counted.TooMany
+pub measured_many : (es : List Edge) → ((h : Heading) → length h.ids ≡ 48 → too_many h es ≡ true) → Measured es None
 unfolding Measured
 measured_many es t = t
 
-pub measured_fits : (es : List Edge) (p : Plan) → PlanFits es p → Measured es (Counted.Fits p)
+pub measured_fits : (es : List Edge) (p : Plan) → PlanFits es p → Measured es (Some p)
 unfolding Measured
 measured_fits es p f = f
 
-pub many_measured : (es : List Edge) → Measured es Counted.TooMany → (h : Heading) → length h.ids ≡ 48 → too_many h es ≡ true
+pub many_measured : (es : List Edge) → Measured es None → (h : Heading) → length h.ids ≡ 48 → too_many h es ≡ true
 unfolding Measured
 many_measured es t = t
 
-pub fits_measured : (es : List Edge) (p : Plan) → Measured es (Counted.Fits p) → PlanFits es p
+pub fits_measured : (es : List Edge) (p : Plan) → Measured es (Some p) → PlanFits es p
 unfolding Measured
 fits_measured es p f = f

@@ -7,7 +7,7 @@ ghost use Rattle.base.specs.Pick.{pick};
 ghost use Rattle.frame.specs.Kind.{starts_len, most_edges};
 ghost use Rattle.batch_groups.specs.Groups.{groups_of, Grouped};
 ghost use Rattle.write_image.specs.Image.{width_of};
-ghost use Rattle.write_source.specs.Source.{source_edges};
+ghost use Rattle.batch.specs.Batch.{edges_of};
 ghost use Rattle.write_plan.specs.Size.{tomb_size, fences_size, starts_size, section_count, file_size, Tallied};
 ghost use Rattle.write_plan.specs.Bounds.{Measured};
 
@@ -19,7 +19,7 @@ use write_sections::by_key::partners_size;
 
 // The counts: edges, keys, bytes of an offset, bytes of the partner section, whether a group is dense, whether an edge is
 // dead, bytes of the file.
-#[derive(Drop)]
+#[derive(Clone, Copy)]
 pub struct Plan {
     pub edges: usize,
     pub keys: usize,
@@ -30,30 +30,21 @@ pub struct Plan {
     pub bytes: usize,
 }
 
-#[derive(Drop)]
-pub enum Counted {
-    Fits { plan: Plan },
-    // more keys, edges or file bytes than the bounds
-    TooMany,
-}
-
 fn width_of(bytes: usize) -> usize
     ensures { (result ≡ width_of bytes) × (result ≤ 4) }
 {
     if bytes < Offsets::NARROW {
-        return Offsets::SHORT;
+        Offsets::SHORT
+    } else {
+        Offsets::LONG
     }
-    Offsets::LONG
 }
 
 // x where it is asked for, otherwise 0.
 fn counted_if(b: bool, x: usize) -> usize
     ensures { (result ≡ pick b x 0) × (result ≤ x) }
 {
-    if b {
-        return x;
-    }
-    0
+    if b { x } else { 0 }
 }
 
 // The bytes of the tombstones.
@@ -109,33 +100,32 @@ fn file_size(keys: usize, w: usize, bytes: usize, n: usize, dead: bool) -> usize
     Header::SIZE + (sections + (Footer::EMPTY + Row::ENTRY * count + Trailer::SIZE))
 }
 
-// Counts the n edges, of which the keys and whether one is dead are known already.
-pub fn measure(kind: u8, a: &[u8], b: &[u8], n: usize, keys: usize, dead: bool) -> Counted
-    requires { Tallied (source_edges kind a.now b.now) n keys dead × Grouped 0 (groups_of (source_edges kind a.now b.now)) }
-    ensures { Measured (source_edges kind a.now b.now) result }
+// Counts the n edges, of which the keys and whether one is dead are known already; none where there are more keys, edges or file bytes
+// than the bounds.
+pub fn measure(batch: &[u8], n: usize, keys: usize, dead: bool) -> Option<Plan>
+    requires { Tallied (edges_of batch.now) n keys dead × Grouped 0 (groups_of (edges_of batch.now)) }
+    ensures { Measured (edges_of batch.now) result }
 {
     if (Bounds::EDGES as usize) < n {
-        return Counted::TooMany;
+        return None;
     }
     if (Bounds::KEYS as usize) < keys {
-        return Counted::TooMany;
+        return None;
     }
-    let total = partners_size(kind, a, b, n, keys);
+    let total = partners_size(batch, n, keys);
     let partners = total.bytes;
-    let dense = total.dense;
     let width = width_of(partners);
     let bytes = file_size(keys, width, partners, n, dead);
     if (Bounds::BYTES as usize) < bytes {
-        return Counted::TooMany;
+        return None;
     }
-    let plan = Plan {
+    Some(Plan {
         edges: n,
         keys,
         width,
         partners,
-        dense,
+        dense: total.dense,
         dead,
         bytes,
-    };
-    Counted::Fits { plan }
+    })
 }

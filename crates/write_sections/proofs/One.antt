@@ -18,15 +18,15 @@ use Rattle.write_sections.proofs.starts.put_starts.Reads as put_starts_reads
 
 pub put_logs_determined : Determined put_logs.ended put_logs_reads.Pre put_logs_reads.Post
 put_logs_determined κs a pre r₁ r₂ w₁ w₂ p q =
-    (p.place ∙ sym q.place, ap (λ (l : List ℕ). (tt {0}, (tt {0}, (tt {0}, (tt {0}, (tt {0}, (l, (tt {0}, tt {0})))))))) (p.bytes ∙ sym q.bytes))
+    (p.place ∙ sym q.place, ap (λ (l : List ℕ). (tt {0}, (tt {0}, (tt {0}, (l, (tt {0}, tt {0})))))) (p.bytes ∙ sym q.bytes))
 
 pub put_logs_tombs_determined : Determined put_logs_tombs.ended put_logs_tombs_reads.Pre put_logs_tombs_reads.Post
 put_logs_tombs_determined κs a pre r₁ r₂ w₁ w₂ p q =
-    (p.place ∙ sym q.place, ap (λ (l : List ℕ). (tt {0}, (tt {0}, (tt {0}, (tt {0}, (l, (tt {0}, tt {0}))))))) (p.bytes ∙ sym q.bytes))
+    (p.place ∙ sym q.place, ap (λ (l : List ℕ). (tt {0}, (tt {0}, (l, (tt {0}, tt {0}))))) (p.bytes ∙ sym q.bytes))
 
 pub put_groups_determined : Determined put_groups.ended put_groups_reads.Pre put_groups_reads.Post
 put_groups_determined κs a pre r₁ r₂ w₁ w₂ p q =
-    (p.place ∙ sym q.place, ap (λ (l : List ℕ). (tt {0}, (tt {0}, (tt {0}, (tt {0}, (tt {0}, (tt {0}, (l, (tt {0}, tt {0}))))))))) (p.bytes ∙ sym q.bytes))
+    (p.place ∙ sym q.place, ap (λ (l : List ℕ). (tt {0}, (tt {0}, (tt {0}, (tt {0}, (l, (tt {0}, tt {0}))))))) (p.bytes ∙ sym q.bytes))
 
 pub put_fences_determined : Determined put_fences.ended put_fences_reads.Pre put_fences_reads.Post
 put_fences_determined κs a pre r₁ r₂ w₁ w₂ p q =
@@ -34,7 +34,7 @@ put_fences_determined κs a pre r₁ r₂ w₁ w₂ p q =
 
 pub put_starts_determined : Determined put_starts.ended put_starts_reads.Pre put_starts_reads.Post
 put_starts_determined κs a pre r₁ r₂ w₁ w₂ p q =
-    (p.place ∙ sym q.place, ap (λ (l : List ℕ). (tt {0}, (tt {0}, (tt {0}, (tt {0}, (l, (tt {0}, tt {0}))))))) (p.bytes ∙ sym q.bytes))
+    (p.place ∙ sym q.place, ap (λ (l : List ℕ). (tt {0}, (tt {0}, (l, (tt {0}, tt {0}))))) (p.bytes ∙ sym q.bytes))
 
 pub partners_size_determined : Determined partners_size.ended partners_size_reads.Pre partners_size_reads.Post
 partners_size_determined κs a pre r₁ r₂ w₁ w₂ p q = ((λ i. record { bytes = (p.0 ∙ sym q.0) i; dense = (p.1 ∙ sym q.1) i }), refl)

@@ -29,12 +29,10 @@ fn put_rows(out: &mut [u8], first: usize, keys: usize, count: usize, at: usize) 
     requires { (count ≡ kind.fence_count keys) × (keys ≤ kind.most_edges) × (first + kind.keys_len keys ≤ at) × (at + length (fence_keys_from count (ids_at keys out.old first) 0) ≤ length out.old) }
     ensures { Put out.old out.new at result (fence_keys_from count (ids_at keys out.old first) 0) }
 {
-    let mut i: usize = 0;
     let mut to = at;
-    while i < count {
+    for i in 0..count {
         let key = id_at(out, first + (Keys::ROW as usize) * (i * Fences::STRIDE));
         to = put_fence(out, to, key, i);
-        i = i + 1;
     }
     to
 }

@@ -1,4 +1,4 @@
-// The sections of a file, written from a source of edges: those with a part for each key, those with a part for each edge,
+// The sections of a file, written from a batch: those with a part for each key, those with a part for each edge,
 // the fences, and the start index.
 #![tactic(auto)]
 

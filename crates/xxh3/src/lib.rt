@@ -7,7 +7,7 @@ ghost use Rattle.xxh3_spec.specs.Xxh3.{xxh3};
 ghost use Rattle.xxh3_running.specs.Running.{state_of, new_state, feed_of, Leaves, sum_of};
 ghost use Rattle.xxh3.specs.Told.{number_told};
 
-use refusal::{Check, told_of};
+use refusal::{Refusal, told_of};
 use xxh3_running::lent::{feed_lent, sum_lent};
 use xxh3_running::{State, new};
 use xxh3_whole::xxh3;
@@ -28,12 +28,12 @@ pub extern "C" fn saffron_xxh3_new() -> State
     new()
 }
 
-fn number_told(c: Check) -> u32
+fn number_told(c: Result<(), Refusal>) -> u32
     ensures { result ≡ number_told c }
 {
     match c {
-        Check::Fine => 0,
-        Check::Bad { refusal } => told_of(refusal).number as u32,
+        Ok(()) => 0,
+        Err(refusal) => told_of(refusal).number as u32,
     }
 }
 

@@ -23,17 +23,6 @@ module _ (q s : List ℕ) (to end : ℕ) where
   unfolding stripe_in
   past j x h = simp (le-leb end j h)
 
-  -- several stripes: the first and then the others, or none as they are not before the end
-
-  pub more : (j m : ℕ) (x : List ℕ) {y r : List ℕ} → y ≡ stripe_in q s to end j x → r ≡ stripes_in q s to end (suc j) m y → r ≡ stripes_in q s to end j (suc m) x
-  unfolding stripes_in
-  more j m x e f = f ∙ ap (λ (v : List ℕ). stripes_in q s to end (suc j) m v) e
-
-  pub none : (j m : ℕ) (x : List ℕ) → end ≤ j → x ≡ stripes_in q s to end j m x
-  unfolding stripes_in
-  none j zero x h = refl
-  none j (suc m) x h = more j m x (past j x h) (none (suc j) m x (omega arith))
-
 -- A run of n stripes, the first of them stripe k of all, and a block of it that ends u stripes after the run's start: at byte `to`. The run ends before
 -- stripe `end` of the block. b counts blocks from the one in which the run starts.
 pub record BlockAt (k n to end u b : ℕ) : Type 0 where
@@ -119,36 +108,26 @@ module _ (q a s : List ℕ) (k n to end u b : ℕ) (at : BlockAt k n to end u b)
       let e : suc j + m ≡ j + suc m = omega arith in
       ap (λ (x : List ℕ). stripes_in q s to end (suc j) m x) (one_stripe j (omega arith)) ∙ stripes_run m (suc j) (omega arith) ∙ ap Before e
 
-  goes_on : (j m : ℕ) {x y : List ℕ} → j + m < 16 → x ≡ Before j → y ≡ stripes_in q s to end j m x → y ≡ Before (j + m)
-  goes_on j m l e f = f ∙ ap (λ (v : List ℕ). stripes_in q s to end j m v) e ∙ stripes_run m j l
-
-  -- the four quarters of a block up to its last stripe
-
-  fifteen : {r x y z : List ℕ} → r ≡ run_on q a s k (u - 16) → x ≡ stripes_in q s to end 0 4 r → y ≡ stripes_in q s to end 4 4 x
-      → z ≡ stripes_in q s to end 8 4 y → stripes_in q s to end 12 3 z ≡ Before 15
-  fifteen e₀ e₁ e₂ e₃ =
+  -- the block up to its last stripe
+  fifteen : {r : List ℕ} → r ≡ run_on q a s k (u - 16) → stripes_in q s to end 0 15 r ≡ Before 15
+  fifteen e₀ =
       let e = at.last in
       let start : until n u 0 ≡ u - 16 = let f : u + 0 - 16 ≡ u - 16 = omega arith in let l : u - 16 ≤ n = omega arith in omega (arith, f, l) in
-      let x = goes_on 0 4 (omega arith) (e₀ ∙ ap (λ (v : ℕ). run_on q a s k v) (sym start)) e₁ in
-      let y = goes_on 4 4 (omega arith) x e₂ in
-      let z = goes_on 8 4 (omega arith) y e₃ in
-      goes_on 12 3 (omega arith) z refl
+      ap (λ (v : List ℕ). stripes_in q s to end 0 15 v) (e₀ ∙ ap (λ (v : ℕ). run_on q a s k v) (sym start)) ∙ stripes_run 15 0 (omega arith)
 
   -- a whole block, after which the state is scrambled; or the run ends within it
 
-  pub whole : {r x y z w t : List ℕ} → 16 ≤ end → r ≡ run_on q a s k (u - 16) → x ≡ stripes_in q s to end 0 4 r → y ≡ stripes_in q s to end 4 4 x
-      → z ≡ stripes_in q s to end 8 4 y → w ≡ stripes_in q s to end 12 4 z → t ≡ scramble q w → t ≡ run_on q a s k u
+  pub whole : {r x t : List ℕ} → 16 ≤ end → r ≡ run_on q a s k (u - 16) → x ≡ stripes_in q s to end 0 16 r → t ≡ scramble q x → t ≡ run_on q a s k u
   unfolding stripes_in
-  whole m e₀ e₁ e₂ e₃ e₄ g =
+  whole m e₀ e₁ g =
       let h : 64 * (16 - 15) ≤ to = let e = at.bytes in let f = at.first in omega (arith, e, f) in
-      let w = e₄ ∙ ap (λ (v : List ℕ). stripe_in q s to end 15 v) (fifteen e₀ e₁ e₂ e₃) ∙ joined 15 (omega arith) m h in
+      let x = e₁ ∙ ap (λ (v : List ℕ). stripe_in q s to end 15 v) (fifteen e₀) ∙ joined 15 (omega arith) m h in
       let t = number 15 (omega arith) m h in
-      at_end q (Before 15) s (64 * until n u 15) (k + until n u 15) w (omega arith) g
+      at_end q (Before 15) s (64 * until n u 15) (k + until n u 15) x (omega arith) g
       ∙ sym (next 15 (omega arith) m h)
       ∙ ap (λ (v : ℕ). run_on q a s k v) (until_some 16 m (omega arith) ∙ (let f : u + 16 - 16 ≡ u = omega arith in f))
 
-  pub ends : {r x y z w : List ℕ} → end < 16 → r ≡ run_on q a s k (u - 16) → x ≡ stripes_in q s to end 0 4 r → y ≡ stripes_in q s to end 4 4 x
-      → z ≡ stripes_in q s to end 8 4 y → w ≡ stripes_in q s to end 12 4 z → w ≡ run_on q a s k n
+  pub ends : {r x : List ℕ} → end < 16 → r ≡ run_on q a s k (u - 16) → x ≡ stripes_in q s to end 0 16 r → x ≡ run_on q a s k n
   unfolding stripes_in
-  ends m e₀ e₁ e₂ e₃ e₄ =
-      e₄ ∙ sym (past q s to end 15 _ (omega arith)) ∙ fifteen e₀ e₁ e₂ e₃ ∙ ap (λ (v : ℕ). run_on q a s k v) (until_all 15 (omega arith))
+  ends m e₀ e₁ =
+      e₁ ∙ sym (past q s to end 15 _ (omega arith)) ∙ fifteen e₀ ∙ ap (λ (v : ℕ). run_on q a s k v) (until_all 15 (omega arith))

@@ -19,6 +19,10 @@ use Rattle.xxh3_mix.specs.contracts.mix.avalanche64 as avalanche64
 use Rattle.xxh3_mix.proofs.mix.avalanche64.Reads as avalanche64_reads
 use Rattle.xxh3_mix.specs.contracts.mix.rrmxmx as rrmxmx
 use Rattle.xxh3_mix.proofs.mix.rrmxmx.Reads as rrmxmx_reads
+use Rattle.xxh3_mix.specs.contracts.secret.half_word as half_word
+use Rattle.xxh3_mix.proofs.secret.half_word.Reads as half_word_reads
+use Rattle.xxh3_mix.specs.contracts.secret.word as word
+use Rattle.xxh3_mix.proofs.secret.word.Reads as word_reads
 
 pub low_determined : Determined low.ended low_reads.Pre low_reads.Post
 low_determined κs a pre r₁ r₂ w₁ w₂ p q = (p ∙ sym q, refl)
@@ -46,3 +50,9 @@ avalanche64_determined κs a pre r₁ r₂ w₁ w₂ p q = (p ∙ sym q, refl)
 
 pub rrmxmx_determined : Determined rrmxmx.ended rrmxmx_reads.Pre rrmxmx_reads.Post
 rrmxmx_determined κs a pre r₁ r₂ w₁ w₂ p q = (p ∙ sym q, refl)
+
+pub half_word_determined : Determined half_word.ended half_word_reads.Pre half_word_reads.Post
+half_word_determined κs a pre r₁ r₂ w₁ w₂ p q = (p ∙ sym q, refl)
+
+pub word_determined : Determined word.ended word_reads.Pre word_reads.Post
+word_determined κs a pre r₁ r₂ w₁ w₂ p q = (p ∙ sym q, refl)

@@ -17,21 +17,14 @@ pub fn rotl(x: u64, k: u32) -> u64
     requires { (0 < k) × (k < 64) }
     ensures { result ≡ rotl k x }
 {
-    (x << k) | (x >> (64 - k))
+    x.rotate_left(k)
 }
 
 // The eight bytes of x in the other order.
 pub fn swap(x: u64) -> u64
     ensures { result ≡ swap x }
 {
-    x % 0x100 * 0x100_0000_0000_0000
-        + x / 0x100 % 0x100 * 0x1_0000_0000_0000
-        + x / 0x1_0000 % 0x100 * 0x100_0000_0000
-        + x / 0x100_0000 % 0x100 * 0x1_0000_0000
-        + x / 0x1_0000_0000 % 0x100 * 0x100_0000
-        + x / 0x100_0000_0000 % 0x100 * 0x1_0000
-        + x / 0x1_0000_0000_0000 % 0x100 * 0x100
-        + x / 0x100_0000_0000_0000
+    x.swap_bytes()
 }
 
 // The final mix of XXH3.

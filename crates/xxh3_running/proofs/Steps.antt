@@ -8,7 +8,6 @@ use lib.ListN.{length, take, drop, set, get_or, length-drop}
 use lib.Seq.{sets, take-suc, take-suc-set, take_all, length-take-le}
 use borrow.Author.Tests.{le-leb, lt-leb}
 use Rattle.base.specs.Over.{part, length_part, sets_append}
-use Rattle.refusal.specs.declared.Check.{Check}
 use Rattle.refusal.specs.declared.Refusal.{Refusal}
 use Rattle.xxh3_spec.specs.Xxh3.{run_on, finish, secret, xxh3}
 use Rattle.xxh3_spec.specs.Xxh3.Laws.{run_none}
@@ -17,6 +16,8 @@ use Rattle.xxh3_running.specs.declared.Fed.{Fed}
 use Rattle.xxh3_running.specs.Running.{most_fed, state_of, bytes_more, feed_of, Leaves, last_bytes, long_sum, sum_of, emptied}
 use Rattle.xxh3_running.specs.Running.Laws.{UntilFull, buffers_in, buffer_after}
 use Rattle.xxh3_running.proofs.Laws.Running.{sets_whole, bytes_total, fed_inside, fed_past, feed_taken, feed_refused}
+use Rattle.std.specs.Prelude.{Ok, Err}
+use Rattle.refusal.specs.Check.{Check}
 
 -- one byte more of s is written
 pub put_step : (s b : List ℕ) (at i : ℕ) → i < length s → set (sets b at (take i s)) (at + i) (get_or s i 0) ≡ sets b at (take (i + 1) s)
@@ -48,9 +49,9 @@ pub long_of : (t : ℕ) (l b : List ℕ) {a last : List ℕ} {r : ℕ} → a ≡
 unfolding long_sum
 long_of t l b e d q = q ∙ ap₂ (λ (x y : List ℕ). finish secret x y 0 t) e d
 
-pub sum_short : (t : ℕ) (l b : List ℕ) {r : ℕ} → t ≤ 256 → r ≡ xxh3 (part b 0 t) → r ≡ sum_of (state_of t l b)
+pub sum_short : (t : ℕ) (l b : List ℕ) {r : ℕ} → t ≤ 256 → r ≡ xxh3 (take t b) → r ≡ sum_of (state_of t l b)
 unfolding sum_of
-sum_short t l b h e = let n : t - 0 ≡ t = omega arith in rw (le-leb t 256 h) (e ∙ ap (λ (k : ℕ). xxh3 (take k b)) n)
+sum_short t l b h e = rw (le-leb t 256 h) e
 
 pub sum_long : (t : ℕ) (l b : List ℕ) {r : ℕ} → 256 < t → r ≡ long_sum (state_of t l b) → r ≡ sum_of (state_of t l b)
 unfolding sum_of
@@ -112,19 +113,19 @@ pour_all t r l b s u z h filled a l' b' p q w v =
 -- ---- what becomes of what was lent
 
 -- a chunk that is refused
-pub stays : (t : ℕ) (l b s : List ℕ) → most_fed < t + length s → Parts (feed_of (state_of t l b) s) (Check.Bad Refusal.Chunk) t l b
+pub stays : (t : ℕ) (l b s : List ℕ) → most_fed < t + length s → Parts (feed_of (state_of t l b) s) (Err Refusal.Chunk) t l b
 stays t l b s h = parts (feed_refused (state_of t l b) s h)
 
 -- one that stays inside the buffer
 pub takes_few : (t r : ℕ) (l b s b' : List ℕ) → t + length s ≤ most_fed → UntilFull t r → length s ≤ r → b' ≡ sets b (256 - r) s
-    → Parts (feed_of (state_of t l b) s) Check.Fine (t + length s) l b'
+    → Parts (feed_of (state_of t l b) s) (Ok tt) (t + length s) l b'
 takes_few t r l b s b' h u n e =
-    let done = parts (feed_taken (state_of t l b) s h ∙ ap (λ (st : State). record { told = Check.Fine; state = st }) (fed_inside t r l b s u n)) in
+    let done = parts (feed_taken (state_of t l b) s h ∙ ap (λ (st : State). record { told = (Ok tt); state = st }) (fed_inside t r l b s u n)) in
     (done.0, (done.1.0, done.1.1, e ∙ done.1.2))
 
 -- and one that goes past its end
 pub takes_more : (t : ℕ) (l b s l' b' : List ℕ) → t + length s ≤ most_fed → l' ≡ (bytes_more (state_of t l b) s).lanes → b' ≡ (bytes_more (state_of t l b) s).buffer
-    → Parts (feed_of (state_of t l b) s) Check.Fine (t + length s) l' b'
+    → Parts (feed_of (state_of t l b) s) (Ok tt) (t + length s) l' b'
 takes_more t l b s l' b' h p q =
     let done = parts (feed_taken (state_of t l b) s h) in
     (done.0, (sym (bytes_total s (state_of t l b)) ∙ done.1.0, p ∙ done.1.1, q ∙ done.1.2))

@@ -2,10 +2,10 @@
 -- given exactly past 2^30 bytes, and then the state stays.
 use Rattle.std.specs.Prelude.{ℕ, ◌+◌, List, [], ◌∷◌, ◌++◌, leb, length}
 use Rattle.base.specs.Pick.{pick}
-use Rattle.refusal.specs.declared.Check.{Check}
 use Rattle.xxh3_spec.specs.Xxh3.{xxh3}
 use Rattle.xxh3_running.specs.declared.State.{State}
 use Rattle.xxh3_running.specs.Running.{most_fed, feed_of, sum_of}
+use Rattle.refusal.specs.Check.{Check}
 
 -- ---- chunks one after the other
 

@@ -1,8 +1,7 @@
 -- The running sum: XXH3-64 of bytes that come in chunks. The buffer is a ring: byte i of all that were fed lies at i % 256.
 -- So the total alone says what lies in it, and every value of the fields is a state.
-use Rattle.std.specs.Prelude.{◌≡◌, ℕ, ◌+◌, ◌-◌, ◌*◌, ◌/◌, ◌%◌, ◌^◌, Bool, ◌&&◌, List, [], ◌∷◌, ◌++◌, ltb, leb, eqb, length, take, drop, set, replicate}
+use Rattle.std.specs.Prelude.{◌≡◌, ℕ, ◌+◌, ◌-◌, ◌*◌, ◌/◌, ◌%◌, ◌^◌, Bool, ◌&&◌, List, [], ◌∷◌, ◌++◌, ltb, leb, eqb, length, take, drop, set, replicate, Ok, Err}
 use Rattle.base.specs.Pick.{pick}
-use Rattle.refusal.specs.declared.Check.{Check}
 use Rattle.refusal.specs.declared.Refusal.{Refusal}
 use Rattle.xxh3_spec.specs.Xxh3.{run_on, start_lanes, finish, secret, xxh3}
 use Rattle.xxh3_running.specs.declared.State.{State}
@@ -45,8 +44,8 @@ bytes_more st (c ∷ cs) = bytes_more (byte_more st c) cs
 unfoldable pub feed_of : State → List ℕ → Fed
 feed_of st chunk =
     pick (leb (st.total + length chunk) most_fed)
-    (record { told = Check.Fine; state = bytes_more st chunk })
-    (record { told = Check.Bad Refusal.Chunk; state = st })
+    (record { told = (Ok tt); state = bytes_more st chunk })
+    (record { told = Err Refusal.Chunk; state = st })
 
 -- lent parts hold the state that a chunk made
 abbrev pub Leaves : Fed → ℕ → List ℕ → List ℕ → Type 0

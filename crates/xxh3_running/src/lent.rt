@@ -1,25 +1,23 @@
 // The running sum over a state whose parts are lent one by one: in place, and so without copies of the buffer.
 ghost use Rattle.std.specs.Prelude.{◌≡◌, ◌+◌, ◌*◌, ◌^◌, ◌<◌, ◌≤◌, length};
 ghost use Rattle.std.proofs.lemmas.List.Edits.{sets};
-ghost use Rattle.xxh3_spec.specs.Xxh3.{run_on, secret, xxh3};
+ghost use Rattle.xxh3_spec.specs.Xxh3.{run_on, secret};
 ghost use Rattle.xxh3_running.specs.Running.{state_of, bytes_more, feed_of, Leaves, last_bytes, long_sum, sum_of};
 ghost use Rattle.xxh3_running.specs.Running.Laws.{UntilFull, buffers_in, buffer_after};
 
 use crate::State;
-use refusal::{Check, Refusal};
-use xxh3_above240::large::{by_default, lanes_after, sum_after};
-use xxh3_upto240::medium::{of17to128, of129to240};
-use xxh3_upto240::small::small;
+use refusal::Refusal;
+use xxh3_above240::large::{lanes_after, sum_after};
+use xxh3_whole::by_length;
 
 // Writes s over the buffer from `at` on.
 fn put(buffer: &mut [u8], at: usize, s: &[u8])
     requires { at + length s.now ≤ length buffer.old }
     ensures { buffer.new ≡ sets buffer.old at s.now }
 {
-    let mut i = 0;
-    while i < s.len() {
+    // Stays a loop by hand: copy_from_slice would make the archives for C need memmove, and they need memset alone.
+    for i in 0..s.len() {
         buffer[at + i] = s[i];
-        i += 1;
     }
 }
 
@@ -70,30 +68,26 @@ pub fn feed_lent(
     lanes: &mut [u64; 8],
     buffer: &mut [u8; 256],
     chunk: &[u8],
-) -> Check
+) -> Result<(), Refusal>
     ensures { (result ≡ (feed_of (state_of total.old lanes.old buffer.old) chunk.now).told)
         × Leaves (feed_of (state_of total.old lanes.old buffer.old) chunk.now) total.new lanes.new buffer.new }
 {
     let t = *total;
     let n = chunk.len() as u64;
     if t > State::MOST {
-        return Check::Bad {
-            refusal: Refusal::Chunk,
-        };
+        return Err(Refusal::Chunk);
     }
     if n > State::MOST - t {
-        return Check::Bad {
-            refusal: Refusal::Chunk,
-        };
+        return Err(Refusal::Chunk);
     }
     *total = t + n;
     let fill = room(t);
     if chunk.len() <= fill {
         put(buffer, 256 - fill, chunk);
-        return Check::Fine;
+        return Ok(());
     }
     pour(t, lanes, buffer, chunk, fill);
-    Check::Fine
+    Ok(())
 }
 
 // The last 64 of `total` bytes.
@@ -103,10 +97,8 @@ fn last_bytes(total: u64, buffer: &[u8]) -> [u8; 64]
 {
     let start = (total % 256) as usize + 192;
     let mut last = [0u8; 64];
-    let mut i = 0;
-    while i < 64 {
+    for i in 0..64 {
         last[i] = buffer[(start + i) % 256];
-        i += 1;
     }
     last
 }
@@ -121,32 +113,12 @@ fn long_sum(total: u64, lanes: &[u64; 8], buffer: &[u8]) -> u64
     sum_after(a, &last, total)
 }
 
-// The sum of up to 256 bytes. It is the sum of bytes at hand once more, so that the one for others stands whole in its caller's
-// code: short sums are three times as long where both share it.
-fn short_sum(s: &[u8]) -> u64
-    requires { length s.now ≤ 256 }
-    ensures { result ≡ xxh3 s.now }
-{
-    let n = s.len();
-    if n <= 16 {
-        return small(s);
-    }
-    if n <= 128 {
-        return of17to128(s);
-    }
-    if n <= 240 {
-        return of129to240(s);
-    }
-    by_default(s)
-}
-
 // The sum of all bytes that were fed.
 pub fn sum_lent(total: u64, lanes: &[u64; 8], buffer: &[u8; 256]) -> u64
     ensures { result ≡ sum_of (state_of total lanes.now buffer.now) }
 {
     if total <= 256 {
-        let all = &buffer[..];
-        return short_sum(&all[0..total as usize]);
+        return by_length(&buffer[..total as usize]);
     }
     long_sum(total, lanes, buffer)
 }

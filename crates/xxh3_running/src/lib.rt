@@ -8,7 +8,7 @@ ghost use Rattle.xxh3_running.specs.Running.{new_state, feed_of, sum_of};
 pub mod lent;
 
 use lent::{feed_lent, sum_lent};
-use refusal::Check;
+use refusal::Refusal;
 use xxh3_above240::large::START_LANES;
 
 // The state of a running sum. Every value of its fields is lawful.
@@ -31,7 +31,7 @@ impl State {
 // What a chunk makes of a state. Where the chunk is refused the state is as it was.
 #[derive(Drop)]
 pub struct Fed {
-    pub told: Check,
+    pub told: Result<(), Refusal>,
     pub state: State,
 }
 
@@ -63,7 +63,7 @@ pub fn feed(st: State, chunk: &[u8]) -> Fed
 }
 
 // The same for a state in its place, which is copied to `feed` and back. `feed_lent` copies nothing.
-pub fn update(st: &mut State, chunk: &[u8]) -> Check
+pub fn update(st: &mut State, chunk: &[u8]) -> Result<(), Refusal>
     ensures { (result ≡ (feed_of st.old chunk.now).told) × (st.new ≡ (feed_of st.old chunk.now).state) }
 {
     let r = feed(*st, chunk);

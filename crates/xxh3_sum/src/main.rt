@@ -16,13 +16,11 @@ fn printed(bytes: &[u8]) -> bool {
 
 fn main(rt: HostRuntime) {
     let mut space = [0u8; 65537];
-    let input = read_input(&mut rt.stdin(), &mut space);
-    if input.failed {
+    let Ok(n) = read_input(&mut rt.stdin(), &mut space) else {
         say(b"cannot read\n");
         return;
-    }
-    let n = input.bytes;
-    if !printed(&space[0..n]) {
+    };
+    if !printed(&space[..n]) {
         say(b"cannot write\n");
     }
 }

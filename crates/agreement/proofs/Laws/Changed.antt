@@ -1,7 +1,7 @@
 -- What the checksums say of a file in which bytes of one section are changed: it is refused, unless the changed section has
 -- the same XXH3-64. Nothing is said of the header (ids, minor version, flag bit 3) and of
 -- the gaps between sections, which carry no checksum.
-use Rattle.std.specs.Prelude.{◌≡◌, refl, ℕ, suc, ◌+◌, ◌-◌, ◌≤◌, ◌<◌, true, get_or, take, drop, set, eqb, leb}
+use Rattle.std.specs.Prelude.{◌≡◌, refl, ℕ, suc, ◌+◌, ◌-◌, ◌≤◌, ◌<◌, true, get_or, take, drop, set, eqb, leb, Ok, Err}
 use Rattle.std.proofs.Math.Path.{sym, ap₂}
 use Rattle.std.proofs.Common.{ap, ◌∙◌, add-zero, length-append, length-drop, length-set, take-append-drop, drop-drop, get_or-drop, length-take-le, drop-set-lt, take_at, drop_at}
 use native.Mathlib.Omega.{arith}
@@ -16,7 +16,6 @@ use Rattle.codes.specs.Little.{le_at}
 use Rattle.codes.specs.Little.Laws.{le_at_same}
 use Rattle.xxh3_spec.specs.Xxh3.{xxh3}
 use Rattle.refusal.specs.declared.Refusal.{Refusal}
-use Rattle.refusal.specs.declared.Check.{Check}
 use Rattle.refusal.proofs.Laws.Check.{fine_parts, pick_fine, and_parts, bad_then, fine_then}
 use Rattle.frame.specs.declared.Row.{Row}
 use Rattle.frame.specs.Frame.{range_of, rows_of, range_good, ranges, foot_len, body_of, record_of}
@@ -27,6 +26,7 @@ use Rattle.full_check.specs.Full.{sum_good, sums_from, full_check}
 use Rattle.full_check.specs.Full.Laws.{RowsWithin}
 use Rattle.full_check.specs.Checked.{checked_opened, fine_checked}
 use Rattle.agreement.specs.Changed.{Changed}
+use Rattle.refusal.specs.Check.{Check}
 
 -- as one byte of it that is changed
 pub one_byte : (f : List ℕ) (r : Row) (i b : ℕ) → r.start ≤ i → i < r.start + r.len → Changed f (set f i b) r
@@ -87,7 +87,7 @@ le_after f g m i n q h = le_at_same g f i i n (λ k l. same k)
 -- ---- the section of r in the table, the sections xs before it
 
 -- they end where it begins, or before
-ranges_before : (limit : ℕ) (xs : List Row) (r : Row) (ys : List Row) (floor k : ℕ) → ranges limit (xs ++ (r ∷ ys)) floor k ≡ Check.Fine
+ranges_before : (limit : ℕ) (xs : List Row) (r : Row) (ys : List Row) (floor k : ℕ) → ranges limit (xs ++ (r ∷ ys)) floor k ≡ (Ok tt)
     → (floor ≤ r.start) × (r.start + r.len ≤ limit) × RowsWithin r.start xs
 unfolding ranges RowsWithin
 ranges_before limit [] r ys floor k e =
@@ -102,7 +102,7 @@ ranges_before limit (x ∷ xs) r ys floor k e =
     (omega arith, high, (low, others))
 
 -- sums up to r: those of xs are what they were
-sums_reach : (f : List ℕ) (xs : List Row) (zs : List Row) (k : ℕ) → sums_from f (xs ++ zs) k ≡ Check.Fine → (g : List ℕ) (m : ℕ) → length g ≡ length f → m ≤ length f
+sums_reach : (f : List ℕ) (xs : List Row) (zs : List Row) (k : ℕ) → sums_from f (xs ++ zs) k ≡ (Ok tt) → (g : List ℕ) (m : ℕ) → length g ≡ length f → m ≤ length f
     → take m g ≡ take m f → RowsWithin m xs → sums_from g (xs ++ zs) k ≡ sums_from g zs (k + length xs)
 unfolding sums_from RowsWithin
 sums_reach f [] zs k e g m s h q w = ap (sums_from g zs) (sym (add-zero k))
@@ -112,14 +112,14 @@ sums_reach f (x ∷ xs) zs k e g m s h q w =
     let next : k + 1 + length xs ≡ k + suc (length xs) = omega arith in
     rw same (sums_reach f xs zs (k + 1) p.1 g m s h q w.1 ∙ ap (sums_from g zs) next)
 
-sum_of : (f : List ℕ) (xs : List Row) (r : Row) (ys : List Row) (k : ℕ) → sums_from f (xs ++ (r ∷ ys)) k ≡ Check.Fine → xxh3 (bytes_at f (range_of r)) ≡ r.sum
+sum_of : (f : List ℕ) (xs : List Row) (r : Row) (ys : List Row) (k : ℕ) → sums_from f (xs ++ (r ∷ ys)) k ≡ (Ok tt) → xxh3 (bytes_at f (range_of r)) ≡ r.sum
 unfolding sums_from
 sum_of f [] r ys k e = eqb-true _ _ (pick_fine (sum_good f r) _ (Refusal.Sum k) e).0
 sum_of f (x ∷ xs) r ys k e = sum_of f xs r ys (k + 1) (pick_fine (sum_good f x) _ (Refusal.Sum k) e).1
 
 -- ---- the statements
 
-module _ (f g : List ℕ) (xs : List Row) (r : Row) (ys : List Row) (entry : rows_of (body_of f) ≡ xs ++ (r ∷ ys)) (pass : full_check f ≡ Check.Fine) (c : Changed f g r) where
+module _ (f g : List ℕ) (xs : List Row) (r : Row) (ys : List Row) (entry : rows_of (body_of f) ≡ xs ++ (r ∷ ys)) (pass : full_check f ≡ (Ok tt)) (c : Changed f g r) where
   frames : Frames f
   frames = (opens_parts f (record_of f) (checked_opened f (record_of f) (fine_checked f pass))).frames
 
@@ -150,25 +150,25 @@ module _ (f g : List ℕ) (xs : List Row) (r : Row) (ys : List Row) (entry : row
   same_entry : rows_of (body_of g) ≡ xs ++ (r ∷ ys)
   same_entry = ap rows_of same_body ∙ entry
 
-  sums_of : (h : List ℕ) → rows_of (body_of h) ≡ xs ++ (r ∷ ys) → full_check h ≡ Check.Fine → sums_from h (xs ++ (r ∷ ys)) 0 ≡ Check.Fine
+  sums_of : (h : List ℕ) → rows_of (body_of h) ≡ xs ++ (r ∷ ys) → full_check h ≡ (Ok tt) → sums_from h (xs ++ (r ∷ ys)) 0 ≡ (Ok tt)
   unfolding full_check
   sums_of h q e = sym (ap (λ (t : List Row). sums_from h t 0) q) ∙ (fine_parts (sums_from h (rows_of (body_of h)) 0) _ (fine_parts (file_check h) _ e).1).0
 
   -- a file that still passes has a section of the same sum
-  pub passes_same : full_check g ≡ Check.Fine → xxh3 (bytes_at g (range_of r)) ≡ xxh3 (bytes_at f (range_of r))
+  pub passes_same : full_check g ≡ (Ok tt) → xxh3 (bytes_at g (range_of r)) ≡ xxh3 (bytes_at f (range_of r))
   passes_same e = sum_of g xs r ys 0 (sums_of g same_entry e) ∙ sym (sum_of f xs r ys 0 (sums_of f entry pass))
 
   module _ (other : xxh3 (bytes_at g (range_of r)) ≡ xxh3 (bytes_at f (range_of r)) → ⊥) where
     -- a section of another sum is refused
-    pub changed_refused : (q : Refusal) × (full_check g ≡ Check.Bad q)
+    pub changed_refused : (q : Refusal) × (full_check g ≡ Err q)
     changed_refused = go (full_check g) refl
       where
-        go : (x : Check) → full_check g ≡ x → (q : Refusal) × (full_check g ≡ Check.Bad q)
-        go Check.Fine e = absurd (other (passes_same e))
-        go (Check.Bad q) e = (q, e)
+        go : (x : Check) → full_check g ≡ x → (q : Refusal) × (full_check g ≡ Err q)
+        go (Ok _) e = absurd (other (passes_same e))
+        go (Err q) e = (q, e)
 
     -- and where the file still opens, the refusal is 22 at that entry
-    pub changed_sum : file_check g ≡ Check.Fine → full_check g ≡ Check.Bad (Refusal.Sum (length xs))
+    pub changed_sum : file_check g ≡ (Ok tt) → full_check g ≡ Err (Refusal.Sum (length xs))
     unfolding full_check sums_from
     changed_sum e =
         let l = lies.1 in
@@ -177,4 +177,4 @@ module _ (f g : List ℕ) (xs : List Row) (r : Row) (ys : List Row) (entry : row
         let here : sum_good g r ≡ false = ne_eqb _ _ (λ q. other (q ∙ sym was)) in
         let place : 0 + length xs ≡ length xs = omega arith in
         fine_then _ e
-        ∙ bad_then _ (ap (λ (t : List Row). sums_from g t 0) same_entry ∙ reach ∙ rw here (ap (λ (t : ℕ). Check.Bad (Refusal.Sum t)) place))
+        ∙ bad_then _ (ap (λ (t : List Row). sums_from g t 0) same_entry ∙ reach ∙ rw here (ap (λ (t : ℕ). Err (Refusal.Sum t)) place))

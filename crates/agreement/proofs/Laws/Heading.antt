@@ -1,5 +1,5 @@
 -- The header of a file and the heading of its read-out: direction and ids are the same.
-use Rattle.std.specs.Prelude.{◌≡◌, get_or, drop}
+use Rattle.std.specs.Prelude.{◌≡◌, get_or, drop, Ok}
 use Rattle.std.proofs.Math.Path.{sym}
 use Rattle.std.proofs.Common.{◌∙◌, add_assoc, arith, get_or-append-add}
 use Prim.Native.Nat.{ℕ, ◌+◌, ◌≤◌, ◌<◌}
@@ -13,7 +13,6 @@ use Rattle.frame.specs.declared.ends.Header.{Header}
 use Rattle.frame.specs.Frame.{header_in, record_of}
 use Rattle.frame.specs.Open.{known_of}
 use Rattle.batch.specs.Batch.{heading_bytes, records_of, batch_bytes}
-use Rattle.reader.specs.declared.header.HeaderRead.{HeaderRead}
 use Rattle.reader.specs.Header.{header_of}
 use Rattle.reader.proofs.Laws.Header.{header_opens, header_long}
 use Rattle.readout.specs.Edges.{edges_in}
@@ -45,6 +44,6 @@ module _ (f : List ℕ) (there : 64 ≤ length f) where
   }
 
 -- of every file that has a header: where the full check passes, the bytes of `batch_in f` are what the read-out leaves
-pub same_heading : (f : List ℕ) (h : Header) → header_of f ≡ HeaderRead.Good h → h ≡ header_for h.minor h.flags (batch_in f)
+pub same_heading : (f : List ℕ) (h : Header) → header_of f ≡ Ok h → h ≡ header_for h.minor h.flags (batch_in f)
 same_heading f h e =
     let there = header_long f h e in rw ((header_opens f h).0 e).1 at (fields f (omega arith))

@@ -1,21 +1,18 @@
 -- The start index does not show: of a file that passes the full check, the lookup by a record with the start index and by the same
 -- record without it give the same answer, refusals, places and counts included.
-use Rattle.std.specs.Prelude.{◌≡◌, ℕ, ◌+◌, List, [], Bool, true, not, ◌&&◌, length}
+use Rattle.std.specs.Prelude.{◌≡◌, ℕ, ◌+◌, List, [], Bool, true, not, ◌&&◌, length, Option, Ok}
 use Rattle.std.proofs.Math.Path.{refl, sym, ap}
 use Rattle.std.proofs.Common.{◌∙◌, arith}
 use Rattle.base.specs.Pick.{pick}
 use Rattle.refusal.specs.declared.Refusal.{Refusal}
-use Rattle.refusal.specs.declared.Check.{Check}
 use Rattle.refusal.specs.Check.{◌⊳◌, refuse}
 use Rattle.frame.specs.declared.Range.{Range}
 use Rattle.frame.specs.declared.Opened.{Opened}
-use Rattle.frame.specs.declared.Opening.{Opening}
 use Rattle.frame.specs.Frame.{record_of}
 use Rattle.frame.specs.Open.{known_of, bytes_at, record_good}
 use Rattle.frame.proofs.Laws.Open.{recorded_parts, recorded_made}
 use Rattle.index.specs.declared.keys.Found.{Found}
 use Rattle.index.specs.Find.{find_in}
-use Rattle.degrees.specs.declared.Sum.{Sum}
 use Rattle.lookup.specs.Lookup.{Outcome, found, outcome, Rooms, group_fault, before, within, first_of, logs_from, marks_from, short, offset, partners_at, look_check, look_group, on_found, look_in, look_with}
 use Rattle.reader.proofs.Laws.Opened.{opened_good}
 use Rattle.reader.proofs.Laws.Look.{with_good}
@@ -49,9 +46,9 @@ good_without f o r e =
       };
     })
 
-module _ (f : List ℕ) (o : Opened) (pass : checked_of f ≡ Opening.Good o) (r : Range) (full : Bool) (rooms : Rooms) (key : ℕ) where
+module _ (f : List ℕ) (o : Opened) (pass : checked_of f ≡ Ok o) (r : Range) (full : Bool) (rooms : Rooms) (key : ℕ) where
   -- the same group, whose edges begin at `sum`
-  group_by : (i c : ℕ) → Sum → Outcome
+  group_by : (i c : ℕ) → (Option ℕ) → Outcome
   group_by i c sum =
       let d : ℕ = length (partners_at full rooms (known_of f o) i) in
       outcome
@@ -83,6 +80,6 @@ module _ (f : List ℕ) (o : Opened) (pass : checked_of f ≡ Opening.Good o) (r
       with_good full rooms key f (unindexed r o) (good_without f o r good) ∙ in_without ∙ sym (with_good full rooms key f o good)
 
 -- whatever numbers stand in the range's place
-pub same_without : (f : List ℕ) → full_check f ≡ Check.Fine → (r : Range) (full : Bool) (rooms : Rooms) (key : ℕ)
+pub same_without : (f : List ℕ) → full_check f ≡ (Ok tt) → (r : Range) (full : Bool) (rooms : Rooms) (key : ℕ)
     → look_with full rooms key f (unindexed r (record_of f)) ≡ look_with full rooms key f (record_of f)
 same_without f e r full rooms key = with_without f (record_of f) (fine_checked f e) r full rooms key

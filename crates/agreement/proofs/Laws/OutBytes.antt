@@ -1,5 +1,5 @@
 -- The bytes that a read-out leaves: they are a batch without fault, and its edges are the file's.
-use Rattle.std.specs.Prelude.{◌≡◌, Bool, true, false, ◌&&◌, ◌||◌, length, get_or, ltb, leb}
+use Rattle.std.specs.Prelude.{◌≡◌, Bool, true, false, ◌&&◌, ◌||◌, length, get_or, ltb, leb, Ok, Err}
 use Rattle.std.proofs.Math.Path.{refl, ap, ap₂}
 use Rattle.std.proofs.Common.{sym, ◌∙◌, zero-add, length-append, eq-eqb, lt-ltb, le-leb, leb-true}
 use Prim.Native.Nat.{ℕ, zero, suc, ◌+◌, ◌-◌, ◌*◌, ◌/◌, ◌^◌, ◌≤◌, ◌<◌}
@@ -15,7 +15,6 @@ use Rattle.codes.specs.Little.Laws.{le_at_back, le_at_lt}
 use Rattle.codes.specs.Ids.{halves_at, id_number, id_bytes}
 use Rattle.codes.specs.Ids.Laws.{be_at_lt, halves_back, length_id_bytes, number_halves}
 use Rattle.refusal.specs.declared.Refusal.{Refusal}
-use Rattle.refusal.specs.declared.Check.{Check}
 use Rattle.refusal.proofs.Laws.Check.{fine_pick, and_parts, and_both}
 use Rattle.index.specs.Order.{KeysRise}
 use Rattle.frame.specs.Frame.{record_of}
@@ -34,7 +33,6 @@ use Rattle.full_check.specs.Checked.{checked_opened, fine_checked}
 use Rattle.reader.proofs.Laws.Opened.{opened_keys}
 use Rattle.frame.specs.declared.Range.{Range}
 use Rattle.frame.specs.declared.Opened.{Opened}
-use Rattle.frame.specs.declared.Opening.{Opening}
 use Rattle.readout.specs.Edges.{edge_of, edges_from, key_degree, key_edges, read_from}
 use Rattle.readout.specs.Edges.{edges_in}
 use Rattle.readout.specs.ReadOut.{heading_in, batch_in}
@@ -188,7 +186,7 @@ chain_run logs dead k (p ∷ q ∷ ps) floor e rest a h c = chain_more (chain_ru
         linked : (x y : Edge) (es : List Edge) → before x y ≡ true → Chain (y ∷ es) → Chain (x ∷ y ∷ es)
         linked x y es b t = (b, t)
 
-module _ (keys p o : List ℕ) (w : ℕ) (logs dead : List ℕ) (n : ℕ) (rise : KeysRise keys n) (ok : groups_from p o w n 0 ≡ Check.Fine) where
+module _ (keys p o : List ℕ) (w : ℕ) (logs dead : List ℕ) (n : ℕ) (rise : KeysRise keys n) (ok : groups_from p o w n 0 ≡ (Ok tt)) where
   -- the partners of a key: some, and rising
   partners_some : (i : ℕ) → i < n → (1 ≤ length (partners_of (group_in p o w i))) × Above 0 (partners_of (group_in p o w i))
   partners_some i h =
@@ -246,9 +244,9 @@ module _ (x : Edge) (es : List Edge) (s p : List ℕ) (i : ℕ) (e : s ≡ p ++ 
   after_long = length-append p (edge_bytes x) ∙ omega (arith, length_edge x)
 
 records_fine : (es : List Edge) (x : Edge) (s p : List ℕ) (i : ℕ) → edge_at s (place i) ≡ x → Chain (x ∷ es) → EdgesFit es → s ≡ p ++ records_of es → length p ≡ place (i + 1)
-    → fault_from (length es) s (i + 1) ≡ Check.Fine
+    → fault_from (length es) s (i + 1) ≡ (Ok tt)
 unfolding fault_from Chain EdgesFit
-records_fine [] x s p i prev c f e l = ap (λ (b : Bool). pick b Check.Fine (Check.Bad (Refusal.Batch (place (i + 1))))) (eq-eqb (place (i + 1)) (length s) (sym (end_long s p e ∙ l)))
+records_fine [] x s p i prev c f e l = ap (λ (b : Bool). pick b (Ok tt) (Err (Refusal.Batch (place (i + 1))))) (eq-eqb (place (i + 1)) (length s) (sym (end_long s p e ∙ l)))
   where
     end_long : (s p : List ℕ) → s ≡ p ++ records_of [] → length s ≡ length p
     end_long s p e = ap length (e ∙ ap (λ (t : List ℕ). p ++ t) records_none ∙ append-nil p)
@@ -262,18 +260,18 @@ records_fine (y ∷ es) x s p i prev c f e l =
     order_at : (s : List ℕ) (i : ℕ) (x y : Edge) → i + 1 ≡ suc i → edge_at s (place i) ≡ x → edge_at s (place (i + 1)) ≡ y → before x y ≡ true → in_order s (i + 1) ≡ true
     order_at s i x y one a b h = ap (in_order s) one ∙ order_suc s i ∙ ap₂ before a (ap (λ (t : ℕ). edge_at s (place t)) (sym one) ∙ b) ∙ h
 
-none_fine : (s : List ℕ) → length s ≡ 50 → fault_from 0 s 0 ≡ Check.Fine
+none_fine : (s : List ℕ) → length s ≡ 50 → fault_from 0 s 0 ≡ (Ok tt)
 unfolding fault_from
-none_fine s l = ap (λ (b : Bool). pick b Check.Fine (Check.Bad (Refusal.Batch (place 0)))) (eq-eqb (place 0) (length s) (sym l))
+none_fine s l = ap (λ (b : Bool). pick b (Ok tt) (Err (Refusal.Batch (place 0)))) (eq-eqb (place 0) (length s) (sym l))
 
-first_fine : (x : Edge) (es : List Edge) (s p : List ℕ) → s ≡ p ++ records_of (x ∷ es) → length p ≡ place 0 → EdgesFit (x ∷ es) → Chain (x ∷ es) → fault_from (suc (length es)) s 0 ≡ Check.Fine
+first_fine : (x : Edge) (es : List Edge) (s p : List ℕ) → s ≡ p ++ records_of (x ∷ es) → length p ≡ place 0 → EdgesFit (x ∷ es) → Chain (x ∷ es) → fault_from (suc (length es)) s 0 ≡ (Ok tt)
 unfolding fault_from EdgesFit in_order
 first_fine x es s p e l f c =
     fine_pick _ (kind_here x es s p 0 e l f.0)
     (records_fine es x s (p ++ edge_bytes x) 0 (edge_here x es s p 0 e l f.0) c f.1 (after x es s p 0 e l f.0) (after_long x es s p 0 e l f.0))
 
 -- a heading of 50 bytes, direction 0 or 1, and such edges
-batch_fine : (h : Heading) (es : List Edge) → length (heading_bytes h) ≡ 50 → h.direction ≤ 1 → EdgesFit es → Chain es → batch_check (batch_bytes h es) ≡ Check.Fine
+batch_fine : (h : Heading) (es : List Edge) → length (heading_bytes h) ≡ 50 → h.direction ≤ 1 → EdgesFit es → Chain es → batch_check (batch_bytes h es) ≡ (Ok tt)
 unfolding batch_check headed batch_bytes heading_bytes
 batch_fine h es l way f c =
     let s : List ℕ = heading_bytes h ++ records_of es in
@@ -281,16 +279,16 @@ batch_fine h es l way f c =
     let count : (length s - 50) / 41 ≡ length es = omega arith in
     fine_pick _ (and_both (le-leb 50 (length s) (omega arith)) (le-leb h.direction 1 way)) (ap (λ (n : ℕ). fault_from n s 0) count ∙ first es f c)
   where
-    first : (es : List Edge) → EdgesFit es → Chain es → fault_from (length es) (heading_bytes h ++ records_of es) 0 ≡ Check.Fine
+    first : (es : List Edge) → EdgesFit es → Chain es → fault_from (length es) (heading_bytes h ++ records_of es) 0 ≡ (Ok tt)
     first [] f c = none_fine (heading_bytes h ++ records_of []) (length-append (heading_bytes h) (records_of []) ∙ omega (arith, l, ap length records_none))
     first (x ∷ es) f c = first_fine x es (heading_bytes h ++ records_of (x ∷ es)) (heading_bytes h) refl l f c
 
 -- all edges of a file that the full check passes
-module _ (f : List ℕ) (bytes : Bytes f) (pass : full_check f ≡ Check.Fine) where
+module _ (f : List ℕ) (bytes : Bytes f) (pass : full_check f ≡ (Ok tt)) where
   abbrev o : Opened
   o = record_of f
 
-  checked : checked_of f ≡ Opening.Good o
+  checked : checked_of f ≡ Ok o
   checked = fine_checked f pass
 
   bytes_in_lem : (r : Range) → Bytes (bytes_at f r)
@@ -318,11 +316,11 @@ module _ (f : List ℕ) (bytes : Bytes f) (pass : full_check f ≡ Check.Fine) w
   out_edges = edges_of_batch (heading_in f) (edges_of_file f) long fits
 
   -- and has no fault; the writer takes it where it is within the bounds (26 is possible: a file that passes may be smaller than ours)
-  pub out_fine : batch_check (batch_in f) ≡ Check.Fine
+  pub out_fine : batch_check (batch_in f) ≡ (Ok tt)
   unfolding batch_in heading_in
   out_fine = batch_fine (heading_in f) (edges_of_file f) long (omega arith) fits chain
 
 -- as the file of one edge, whose checksums have bytes of every size
-pub one_edge_out : (edges_of (batch_in one_edge) ≡ edges_of_file one_edge) × (batch_check (batch_in one_edge) ≡ Check.Fine)
+pub one_edge_out : (edges_of (batch_in one_edge) ≡ edges_of_file one_edge) × (batch_check (batch_in one_edge) ≡ (Ok tt))
 unfolding byted one_edge
 one_edge_out = (out_edges one_edge (bytes_are one_edge refl) cases_pass.1, out_fine one_edge (bytes_are one_edge refl) cases_pass.1)

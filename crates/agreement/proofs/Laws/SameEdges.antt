@@ -1,6 +1,6 @@
 -- Whenever the full check passes, both users see the same edges: for every key, the lookup with enough room gives exactly
 -- the read-out's edges of that key, in order, with log numbers and dead marks, and absence exactly if it has none.
-use Rattle.std.specs.Prelude.{◌≡◌, Bool, eqb, ltb}
+use Rattle.std.specs.Prelude.{◌≡◌, Bool, eqb, ltb, Ok, Some}
 use Rattle.std.proofs.Math.Path.{refl, sym, ap, ap₂}
 use Rattle.std.proofs.Common.{◌∙◌, add-one, eq-eqb, ne_eqb, ltb-false}
 use Prim.Native.Nat.{ℕ, zero, suc, ◌+◌, ◌-◌, ◌*◌, ◌/◌, ◌%◌, ◌≤◌, ◌<◌}
@@ -13,31 +13,25 @@ use Rattle.std.proofs.Math.ListN.{length}
 use Rattle.batch.specs.Batch.{partners_in, logs_in}
 use Rattle.base.specs.Pick.{pick}
 use Rattle.codes.specs.declared.ids.Id.{Id}
-use Rattle.codes.specs.declared.varint.Varint.{Varint}
 use Rattle.codes.specs.Ids.{id_number, halves_at}
 use Rattle.codes.specs.Ids.Laws.{number_halves}
 use Rattle.refusal.specs.declared.Refusal.{Refusal}
-use Rattle.refusal.specs.declared.Check.{Check}
 use Rattle.refusal.specs.Check.{refuse}
 use Rattle.refusal.proofs.Laws.Check.{fine_parts, either_parts}
 use Rattle.frame.specs.declared.Range.{Range}
 use Rattle.frame.specs.declared.Opened.{Opened}
-use Rattle.frame.specs.declared.Opening.{Opening}
 use Rattle.frame.specs.Frame.{record_of}
 use Rattle.frame.specs.Open.{known_of, bytes_at, key_at, offset_at, open_of}
 use Rattle.index.specs.declared.keys.Found.{Found}
 use Rattle.index.specs.Find.{find_in}
 use Rattle.index.specs.Find.Laws.{find_sound, find_absent}
 use Rattle.index.specs.Order.{KeysRise, key_once, OffsetsRise}
-use Rattle.degrees.specs.declared.Degree.{Degree}
-use Rattle.degrees.specs.declared.Sum.{Sum}
 use Rattle.degrees.specs.Degrees.{group_at, degree_at, edges_before, start_of, plus, capped}
 use Rattle.degrees.specs.Degrees.Laws.{in_is, degree_is, capped_is, start_is}
-use Rattle.codes.specs.Varint.{varint_at}
+use Rattle.codes.specs.Varint.{varint_at, Varint}
 use Rattle.group.specs.Group.{degree_of, group_of, is_good, partners_of}
 use Rattle.group.proofs.Laws.Group.{good_is}
 use Rattle.group.proofs.Laws.Good as group
-use Rattle.lookup.specs.declared.groups.GroupSeen.{GroupSeen}
 use Rattle.lookup.specs.Lookup.{Outcome, found, absent, refused, Rooms, group_check, before, logs_from, marks_from, short, look_in, look_with, look_of}
 use Rattle.lookup.proofs.Laws.Groups.{check_good, good_seen}
 use Rattle.lookup.specs.Calls as calls
@@ -130,7 +124,7 @@ varint_of g e = e
 
 module _ (keys p o : List ℕ) (w : ℕ) (logs dead : List ℕ) where
   -- of good groups, each is good
-  pub each_good : (d i : ℕ) → groups_from p o w d i ≡ Check.Fine → (j : ℕ) → i ≤ j → j < i + d → is_good (group_in p o w j) ≡ true
+  pub each_good : (d i : ℕ) → groups_from p o w d i ≡ (Ok tt) → (j : ℕ) → i ≤ j → j < i + d → is_good (group_in p o w j) ≡ true
   unfolding groups_from
   each_good zero i e j a b = absurd (omega arith)
   each_good (suc d) i e j a b =
@@ -159,8 +153,8 @@ module _ (keys p o : List ℕ) (w : ℕ) (logs dead : List ℕ) where
       ∙ omega arith
 
   -- the edges before a group are those of the degrees before it
-  module _ (n : ℕ) (up : OffsetsRise o w n (length p)) (ok : groups_from p o w n 0 ≡ Check.Fine) where
-    degree_here : (i : ℕ) → i < n → (degree_at p o w i ≡ Degree.Is (key_degree keys p o w logs dead i)) × (1 ≤ key_degree keys p o w logs dead i)
+  module _ (n : ℕ) (up : OffsetsRise o w n (length p)) (ok : groups_from p o w n 0 ≡ (Ok tt)) where
+    degree_here : (i : ℕ) → i < n → (degree_at p o w i ≡ Some (key_degree keys p o w logs dead i)) × (1 ≤ key_degree keys p o w logs dead i)
     degree_here i lt =
         let g = group_at p o w i in
         let good = each_good n 0 ok i (omega arith) (omega arith) in
@@ -171,13 +165,13 @@ module _ (keys p o : List ℕ) (w : ℕ) (logs dead : List ℕ) where
         let some = d.0 in
         (degree_is p o w i refl refl (in_is p (offset_at o w i) (offset_at o w (i + 1)) (omega arith) (omega arith) _ _ (varint_of g d.1.1) (λ z. omega arith)), some)
 
-    before_is : (i : ℕ) → i ≤ n → edges_before p o w i ≡ Sum.Total (degrees_from p o w i 0)
+    before_is : (i : ℕ) → i ≤ n → edges_before p o w i ≡ Some (degrees_from p o w i 0)
     unfolding edges_before plus degrees_from
     before_is zero h = refl
     before_is (suc i) h =
         let d = (degree_here i (omega arith)).0 in
         let z : 0 + i ≡ i = omega arith in
-        rw (before_is i (omega arith), d) (ap Sum.Total (ap (λ (t : ℕ). degrees_from p o w i 0 + key_degree keys p o w logs dead t) (sym z) ∙ sym (degrees_last i 0)))
+        rw (before_is i (omega arith), d) (ap Some (ap (λ (t : ℕ). degrees_from p o w i 0 + key_degree keys p o w logs dead t) (sym z) ∙ sym (degrees_last i 0)))
 
   -- ---- the edges of key k among all of them
 
@@ -234,7 +228,7 @@ absent_says full c es e = e
 says_as : (full : Bool) {x y : Outcome} (es : List Edge) → x ≡ y → Says full y es → Says full x es
 says_as full es e h = rw e h
 
-module _ (f : List ℕ) (o : Opened) (pass : checked_of f ≡ Opening.Good o) (k : ℕ) where
+module _ (f : List ℕ) (o : Opened) (pass : checked_of f ≡ Ok o) (k : ℕ) where
   abbrev keys : List ℕ
   keys = bytes_at f o.keys
 
@@ -257,7 +251,7 @@ module _ (f : List ℕ) (o : Opened) (pass : checked_of f ≡ Opening.Good o) (k
   abbrev mine : List Edge
   mine = of_key k (edges_in (known_of f o))
 
-  opens : open_of f ≡ Opening.Good o
+  opens : open_of f ≡ Ok o
   opens = checked_opened f o pass
 
   rise : KeysRise keys o.keycount
@@ -266,7 +260,7 @@ module _ (f : List ℕ) (o : Opened) (pass : checked_of f ≡ Opening.Good o) (k
   up : OffsetsRise os w o.keycount (length ps)
   up = opened_offsets f o opens
 
-  ok : groups_from ps os w o.keycount 0 ≡ Check.Fine
+  ok : groups_from ps os w o.keycount 0 ≡ (Ok tt)
   ok = (checked_edges f o pass).0
 
   total : degrees_from ps os w o.keycount 0 ≡ o.edgecount
@@ -302,7 +296,7 @@ module _ (f : List ℕ) (o : Opened) (pass : checked_of f ≡ Opening.Good o) (k
     some = (degree_here keys ps os w ls ds o.keycount up ok i here.0).1
 
     -- the group is good
-    seen_good : calls.group f o i ≡ GroupSeen.Good (length group_partners)
+    seen_good : calls.group f o i ≡ Ok (length group_partners)
     unfolding group_partners
     seen_good =
         let lt = here.0 in
@@ -324,7 +318,7 @@ module _ (f : List ℕ) (o : Opened) (pass : checked_of f ≡ Opening.Good o) (k
         omega (arith, ap (λ (x : ℕ). degrees_from ps os w x 0) all, ap (λ (x : ℕ). length (partners_of (group_in ps os w x))) z)
 
     -- they begin where the degrees before it end, as the start index says too
-    begins : before (known_of f o) i (length group_partners) ≡ Sum.Total first
+    begins : before (known_of f o) i (length group_partners) ≡ Some first
     unfolding first group_partners before known_of
     begins = by o.indexed refl
       where
@@ -332,12 +326,12 @@ module _ (f : List ℕ) (o : Opened) (pass : checked_of f ≡ Opening.Good o) (k
         next = degrees_last keys ps os w ls ds i 0 ∙ ap (λ (x : ℕ). degrees_from ps os w i 0 + length (partners_of (group_in ps os w x))) (zero-add i)
 
         by : (b : Bool) → o.indexed ≡ b
-            → pick b (start_of (pick b (bytes_at f o.starts) []) i (length (partners_of (group_in ps os w i)))) (edges_before ps os w i) ≡ Sum.Total (degrees_from ps os w i 0)
+            → pick b (start_of (pick b (bytes_at f o.starts) []) i (length (partners_of (group_in ps os w i)))) (edges_before ps os w i) ≡ Some (degrees_from ps os w i 0)
         by true m =
             let lt = here.0 in
             let at = checked_starts f o pass m i (omega arith) in
             let end = checked_starts f o pass m (i + 1) (omega arith) ∙ ap (λ (x : ℕ). degrees_from ps os w x 0) (add-one i) ∙ next in
-            start_is (bytes_at f o.starts) i (length (partners_of (group_in ps os w i))) (omega arith) ∙ ap Sum.Total at
+            start_is (bytes_at f o.starts) i (length (partners_of (group_in ps os w i))) (omega arith) ∙ ap Some at
         by false m = let lt = here.0 in before_is keys ps os w ls ds o.keycount up ok i (omega arith)
 
     -- and so without the start index
@@ -345,7 +339,7 @@ module _ (f : List ℕ) (o : Opened) (pass : checked_of f ≡ Opening.Good o) (k
     unfolding before known_of first group_partners
     begins_same r = let lt = here.0 in before_is keys ps os w ls ds o.keycount up ok i (omega arith) ∙ sym begins
 
-    placed : capped o.edgecount (before (known_of f o) i (length group_partners)) ≡ Sum.Total first
+    placed : capped o.edgecount (before (known_of f o) i (length group_partners)) ≡ Some first
     placed = let h = through in capped_is o.edgecount (before (known_of f o) i (length group_partners)) first begins (omega arith)
 
     module _ (rooms : Rooms) where
@@ -393,8 +387,8 @@ enough_room rooms d e =
 pub room_enough : (rooms : Rooms) (d : ℕ) → Enough rooms d → short true rooms d ≡ false
 room_enough rooms d room = let bytes = room.bytes in let logs = room.logs in let marks = room.marks in calls_laws.short_none rooms d (omega arith) (omega arith) (omega arith)
 
-module _ (f : List ℕ) (pass : full_check f ≡ Check.Fine) (k : ℕ) where
-  good : checked_of f ≡ Opening.Good (record_of f)
+module _ (f : List ℕ) (pass : full_check f ≡ (Ok tt)) (k : ℕ) where
+  good : checked_of f ≡ Ok (record_of f)
   good = fine_checked f pass
 
   -- partners with log numbers and dead marks, from the file and from the record that opening gave

@@ -2,14 +2,14 @@ use mathlib.Core.Path.{◌≡◌, sym, ap₂, ◌∙◌}
 use Prim.Native.Nat.{ℕ, ◌+◌}
 use mathlib.Core.List.{List}
 use Rattle.codes.specs.declared.ids.Id.{Id}
-use Rattle.codes.specs.declared.ids.Order.{Order}
+use Rattle.std.specs.declared.cmp.Ordering.{Ordering}
 use Rattle.codes.specs.Ids.{id_number, order, halves_at}
 use Rattle.batch.specs.Batch.{edge_at}
 use Rattle.batch_faults.specs.Tally.Laws.{key_less, key_greater, partner_less, partner_equal, partner_greater}
 use Rattle.batch_faults.proofs.follow_by.Goals as goal
 
 -- the ids that are compared are those of the two edges
-module _ (s : List ℕ) (i j : ℕ) (x y : Id) (o : Order) (t : order (id_number x) (id_number y) ≡ o) where
+module _ (s : List ℕ) (i j : ℕ) (x y : Id) (o : Ordering) (t : order (id_number x) (id_number y) ≡ o) where
   keys : x ≡ halves_at s (i + 1) → y ≡ halves_at s (j + 1) → order (id_number (edge_at s i).key) (id_number (edge_at s j).key) ≡ o
   unfolding edge_at
   keys p q = sym (ap₂ (λ (a b : Id). order (id_number a) (id_number b)) p q) ∙ t

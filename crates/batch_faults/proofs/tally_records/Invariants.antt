@@ -1,5 +1,5 @@
 use mathlib.Core.Path.{◌≡◌}
-use Prim.Native.Nat.{ℕ, ◌-◌, ◌≤◌}
+use Prim.Native.Nat.{ℕ, ◌-◌}
 use mathlib.Core.List.{List}
 use mathlib.Core.Bool.{Bool}
 use lib.ListN.{length}
@@ -9,13 +9,9 @@ use Rattle.batch_faults.proofs.tally_records.Given as goal
 
 -- what is left gives the whole, and what was passed is counted
 pub record Head (s : List ℕ) (n e keys : ℕ) (dead : Bool) : Type 0 where
-  pub upto : e ≤ n
   pub rest : fault_from (n - e) s e ≡ fault_from n s 0
   pub keys_are : keys ≡ length (groups_of (edges_at e s 0))
   pub dead_is : dead ≡ any_dead (edges_at e s 0)
 
 abbrev pub invariant-loop-e : goal.invariant-loop-e
 invariant-loop-e l = Head l.s l.n l.e l.keys l.dead
-
-abbrev pub decreases-loop-e : goal.decreases-loop-e
-decreases-loop-e l = l.n - l.e

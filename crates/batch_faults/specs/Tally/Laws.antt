@@ -4,16 +4,15 @@ use Rattle.std.proofs.Common.{ap₂, ◌∙◌, zero-add, add-one}
 use Prim.Native.Nat.{ℕ, zero, suc, ◌+◌, ◌-◌, ◌<◌, ◌≤◌}
 use Rattle.std.proofs.Math.Nat.{add-zero}
 use native.Mathlib.Omega.{arith}
-use Rattle.std.specs.Prelude.{List, [], ◌∷◌, ◌++◌, Bool, ◌||◌, length, get_or}
+use Rattle.std.specs.Prelude.{List, [], ◌∷◌, ◌++◌, Bool, ◌||◌, length, get_or, Ok, Err}
 use Rattle.std.proofs.Math.Bool.{true, false}
 use Rattle.std.proofs.Math.Seq.{append_snoc}
 use Rattle.std.proofs.Math.Dec.{eqb}
 use borrow.Author.Tests.{eq-eqb, ne_eqb, lt-ltb, le-ltb}
 use Rattle.base.specs.Pick.{pick}
-use Rattle.codes.specs.declared.ids.Order.{Order}
+use Rattle.std.specs.declared.cmp.Ordering.{Ordering}
 use Rattle.codes.specs.Ids.{id_number, order}
 use Rattle.refusal.specs.declared.Refusal.{Refusal}
-use Rattle.refusal.specs.declared.Check.{Check}
 use Rattle.batch.specs.declared.Edge.{Edge}
 use Rattle.batch.specs.Batch.{edge_at, edges_at, edges_of, record_count, place, before, in_order, fault_from, batch_check}
 use Rattle.batch_groups.specs.Groups.{any_dead, groups_of}
@@ -22,25 +21,26 @@ use Rattle.batch_groups.proofs.Laws.Order.{less_back, equal_back, greater_back, 
 use Rattle.batch_faults.specs.declared.Follow.{Follow}
 use Rattle.batch_faults.specs.declared.Tally.{Tally}
 use Rattle.batch_faults.specs.Tally.{follow_by, follow_at, tally_by, tally_of, Clean}
+use Rattle.refusal.specs.Check.{Check}
 
 -- ---- two edges
 
 module _ (a b : Edge) where
-  pub key_less : order (id_number a.key) (id_number b.key) ≡ Order.Less → Follow.New ≡ follow_by a b
+  pub key_less : order (id_number a.key) (id_number b.key) ≡ Ordering.Less → Follow.New ≡ follow_by a b
   unfolding follow_by
   key_less q =
       let l = less_back (id_number a.key) (id_number b.key) q in
       simp (before_less a b l, ne_eqb (id_number a.key) (id_number b.key) (λ z. omega arith))
 
-  pub key_greater : order (id_number a.key) (id_number b.key) ≡ Order.Greater → Follow.Wrong ≡ follow_by a b
+  pub key_greater : order (id_number a.key) (id_number b.key) ≡ Ordering.Greater → Follow.Wrong ≡ follow_by a b
   unfolding follow_by
   key_greater q = simp (before_greater a b (greater_back (id_number a.key) (id_number b.key) q))
 
-  module _ (q : order (id_number a.key) (id_number b.key) ≡ Order.Equal) where
+  module _ (q : order (id_number a.key) (id_number b.key) ≡ Ordering.Equal) where
     same : id_number a.key ≡ id_number b.key
     same = equal_back (id_number a.key) (id_number b.key) q
 
-    pub partner_less : order (id_number a.partner) (id_number b.partner) ≡ Order.Less → Follow.Same ≡ follow_by a b
+    pub partner_less : order (id_number a.partner) (id_number b.partner) ≡ Ordering.Less → Follow.Same ≡ follow_by a b
     unfolding follow_by
     partner_less r =
         simp
@@ -50,10 +50,10 @@ module _ (a b : Edge) where
     unfolding follow_by
     not_less l = simp (before_equal a b same, le-ltb (id_number a.partner) (id_number b.partner) l)
 
-    pub partner_equal : order (id_number a.partner) (id_number b.partner) ≡ Order.Equal → Follow.Wrong ≡ follow_by a b
+    pub partner_equal : order (id_number a.partner) (id_number b.partner) ≡ Ordering.Equal → Follow.Wrong ≡ follow_by a b
     partner_equal r = not_less (omega (arith, equal_back (id_number a.partner) (id_number b.partner) r))
 
-    pub partner_greater : order (id_number a.partner) (id_number b.partner) ≡ Order.Greater → Follow.Wrong ≡ follow_by a b
+    pub partner_greater : order (id_number a.partner) (id_number b.partner) ≡ Ordering.Greater → Follow.Wrong ≡ follow_by a b
     partner_greater r = not_less (omega (arith, greater_back (id_number a.partner) (id_number b.partner) r))
 
   -- what an answer says of the order, and of a key more
@@ -151,16 +151,16 @@ module _ (s : List ℕ) where
 
 -- ---- the answer
 
-pub tally_bad : (c : Check) (es : List Edge) (r : Refusal) → c ≡ Check.Bad r → Tally.Bad r ≡ tally_by c es
+pub tally_bad : (c : Check) (es : List Edge) (r : Refusal) → c ≡ Err r → Err r ≡ tally_by c es
 unfolding tally_by
 tally_bad c es r e = rw e
 
-pub tally_fine : (c : Check) (es : List Edge) (keys : ℕ) (dead : Bool) → c ≡ Check.Fine → keys ≡ length (groups_of es) → dead ≡ any_dead es → Tally.Fine keys dead ≡ tally_by c es
+pub tally_fine : (c : Check) (es : List Edge) (keys : ℕ) (dead : Bool) → c ≡ (Ok tt) → keys ≡ length (groups_of es) → dead ≡ any_dead es → Ok (record { keys = keys; dead = dead }) ≡ tally_by c es
 unfolding tally_by
-tally_fine c es keys dead e k d = rw e (ap₂ Tally.Fine k d)
+tally_fine c es keys dead e k d = rw e (cc)
 
 module _ (s : List ℕ) where
-  pub tally_head : (r : Refusal) → batch_check s ≡ Check.Bad r → Tally.Bad r ≡ tally_of s
+  pub tally_head : (r : Refusal) → batch_check s ≡ Err r → Err r ≡ tally_of s
   unfolding tally_of
   tally_head r e = tally_bad (batch_check s) (edges_of s) r e
 
@@ -169,18 +169,20 @@ module _ (s : List ℕ) where
   tally_rest e = ap (λ (t : Check). tally_by t (edges_at (record_count s) s 0)) (sym e)
 
 -- and back
-pub fine_is : (s : List ℕ) (keys : ℕ) (dead : Bool) → tally_of s ≡ Tally.Fine keys dead → Clean s keys dead
+pub fine_is : (s : List ℕ) (keys : ℕ) (dead : Bool) → tally_of s ≡ Ok (record { keys = keys; dead = dead }) → Clean s keys dead
 unfolding tally_of tally_by
 fine_is s keys dead e = go (batch_check s) refl e
   where
-    go : (c : Check) → batch_check s ≡ c → tally_by c (edges_of s) ≡ Tally.Fine keys dead → Clean s keys dead
-    go Check.Fine p q = record { check = p; keys_are = cc; dead_is = cc }
-    go (Check.Bad r) p q = let z : ◌≡◌ {A = ℕ} 0 1 = cc in absurd (omega arith)
+    go : (c : Check) → batch_check s ≡ c → tally_by c (edges_of s) ≡ Ok (record { keys = keys; dead = dead }) → Clean s keys dead
+    go (Ok _) p q =
+        let z : ◌≡◌ {A = Tally} (record { keys = keys; dead = dead }) (record { keys = length (groups_of (edges_of s)); dead = any_dead (edges_of s) }) = cc in
+        record { check = p; keys_are = ap (λ (t : Tally). t.keys) z; dead_is = ap (λ (t : Tally). t.dead) z }
+    go (Err r) p q = let z : ◌≡◌ {A = ℕ} 0 1 = cc in absurd (omega arith)
 
-pub bad_is : (s : List ℕ) (r : Refusal) → tally_of s ≡ Tally.Bad r → batch_check s ≡ Check.Bad r
+pub bad_is : (s : List ℕ) (r : Refusal) → tally_of s ≡ Err r → batch_check s ≡ Err r
 unfolding tally_of tally_by
 bad_is s r e = go (batch_check s) refl e
   where
-    go : (c : Check) → batch_check s ≡ c → tally_by c (edges_of s) ≡ Tally.Bad r → batch_check s ≡ Check.Bad r
-    go Check.Fine p q = let z : ◌≡◌ {A = ℕ} 0 1 = cc in absurd (omega arith)
-    go (Check.Bad t) p q = p ∙ cc
+    go : (c : Check) → batch_check s ≡ c → tally_by c (edges_of s) ≡ Err r → batch_check s ≡ Err r
+    go (Ok _) p q = let z : ◌≡◌ {A = ℕ} 0 1 = cc in absurd (omega arith)
+    go (Err t) p q = p ∙ cc

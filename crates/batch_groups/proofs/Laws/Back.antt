@@ -4,7 +4,7 @@ use Rattle.std.proofs.Common.{◌∙◌, add-one, drop_of_length-le, drop-cons, 
 use Prim.Native.Nat.{ℕ, zero, suc, ◌+◌, ◌*◌, ◌≤◌, ◌<◌}
 use native.Mathlib.Omega.{arith}
 use mathlib.Core.List.{List, [], ◌∷◌, ◌++◌}
-use Rattle.std.specs.Prelude.{Bool, ◌&&◌}
+use Rattle.std.specs.Prelude.{Bool, ◌&&◌, Ok, Err}
 use Rattle.std.proofs.Math.Bool.{true, false}
 use Rattle.std.proofs.lemmas.Bool.{false≢true}
 use Rattle.std.proofs.Math.ListN.{length, get_or, take, drop, take-append-drop}
@@ -14,7 +14,6 @@ use Rattle.base.specs.Pick.{pick}
 use Rattle.base.specs.Bytes.{Bytes}
 use Rattle.codes.specs.Stood.{le_same, id_same}
 use Rattle.refusal.specs.declared.Refusal.{Refusal}
-use Rattle.refusal.specs.declared.Check.{Check}
 use Rattle.refusal.proofs.Laws.Check.{and_parts}
 use Rattle.batch.specs.Batch.{edge_at, edges_at, place, is_edge, fault_from, batch_check, headed, record_count, edges_of, heading_of, heading_bytes, edge_bytes, records_of, batch_bytes}
 use Rattle.batch_groups.proofs.Laws.Order.{fault_inv}
@@ -52,13 +51,13 @@ module _ (s : List ℕ) (b : Bytes s) where
       let y : take 16 (drop (i + 1) s) ++ take 24 (drop (i + 17) s) ≡ take 40 (drop (i + 1) s) = ap (λ (t : ℕ). take 16 (drop (i + 1) s) ++ take 24 (drop t s)) (sym q) ∙ two (i + 1) 16 24 in
       rw (kind_is (get_or s i 0) k, a, c, d, x, y) (sym (first i 40 (omega arith)))
 
-  records_same : (d e : ℕ) → fault_from d s e ≡ Check.Fine → place e + 41 * d ≤ length s → records_of (edges_at d s e) ≡ drop (place e) s
+  records_same : (d e : ℕ) → fault_from d s e ≡ (Ok tt) → place e + 41 * d ≤ length s → records_of (edges_at d s e) ≡ drop (place e) s
   unfolding records_of edges_at fault_from
   records_same zero e f h = go (eqb (place e) (length s)) refl
     where
       go : (t : Bool) → eqb (place e) (length s) ≡ t → [] ≡ drop (place e) s
       go true p = let q = eqb-true (place e) (length s) p in sym (drop_of_length-le s {i = place e} (omega arith))
-      go false p = let r : Check.Bad (Refusal.Batch (place e)) ≡ Check.Fine = rw p at f in let z : ◌≡◌ {A = ℕ} 0 1 = cc in absurd (omega arith)
+      go false p = let r : Err (Refusal.Batch (place e)) ≡ (Ok tt) = rw p at f in let z : ◌≡◌ {A = ℕ} 0 1 = cc in absurd (omega arith)
   records_same (suc d) e f h =
       let i = fault_inv d s e f in
       let p : place e + 41 ≡ place (e + 1) = omega arith in
@@ -72,11 +71,11 @@ module _ (s : List ℕ) (b : Bytes s) where
       ∙ sym (first 0 49 (omega arith) ∙ ap (λ (t : List ℕ). get_or s 0 0 ∷ t) (first 1 48 (omega arith)))
 
   -- what a batch without fault is made of
-  pub batch_same : batch_check s ≡ Check.Fine → batch_bytes (heading_of s) (edges_of s) ≡ s
+  pub batch_same : batch_check s ≡ (Ok tt) → batch_bytes (heading_of s) (edges_of s) ≡ s
   unfolding batch_check batch_bytes edges_of headed
   batch_same f = go (headed s) refl f
     where
-      go : (t : Bool) → headed s ≡ t → pick t (fault_from (record_count s) s 0) (Check.Bad (Refusal.Batch 0)) ≡ Check.Fine → heading_bytes (heading_of s) ++ records_of (edges_of s) ≡ s
+      go : (t : Bool) → headed s ≡ t → pick t (fault_from (record_count s) s 0) (Err (Refusal.Batch 0)) ≡ (Ok tt) → heading_bytes (heading_of s) ++ records_of (edges_of s) ≡ s
       go true h q =
           let u = and_parts (leb 50 (length s)) (eqb (get_or s 0 0) 3 && leb (get_or s 1 0) 1) h in
           let v = and_parts (eqb (get_or s 0 0) 3) (leb (get_or s 1 0) 1) u.1 in

@@ -8,7 +8,9 @@ use Rattle.std.proofs.lemmas.List.{get_or_at}
 use Rattle.std.proofs.Math.Seq.{append_snoc}
 use Rattle.base.specs.Over.{sets_snoc, sets_append}
 use Rattle.std.proofs.Math.Arith.{digits_lt}
-use Rattle.codes.specs.declared.ids.Order.{Order}
+use Rattle.std.specs.declared.cmp.Ordering.{Ordering}
+use Rattle.std.specs.Ordering.{MatchOrdering, nat_cmp, ordering_then}
+use Rattle.std.specs.Cmp.{ranks}
 use Rattle.codes.specs.declared.ids.Id.{Id}
 use Rattle.codes.specs.Ids.{be_at, id_at, order, halves_at, id_number, be_bytes, id_bytes, turned}
 use Rattle.codes.specs.Little.{le_at, le_bytes}
@@ -45,21 +47,33 @@ unfolding id_at
 id_halves s i = be_at_add s i 8 8
 
 -- the order by its cases, and back
-pub less : {m n : ℕ} → m < n → order m n ≡ Order.Less
+pub less : {m n : ℕ} → m < n → order m n ≡ Ordering.Less
 unfolding order
 less {m} {n} h = simp (lt-ltb m n h)
 
-pub greater : {m n : ℕ} → n < m → order m n ≡ Order.Greater
+pub greater : {m n : ℕ} → n < m → order m n ≡ Ordering.Greater
 unfolding order
 greater {m} {n} h = simp (le-ltb m n (omega arith), lt-ltb n m h)
 
-pub equal : {m n : ℕ} → m ≡ n → order m n ≡ Order.Equal
+pub equal : {m n : ℕ} → m ≡ n → order m n ≡ Ordering.Equal
 unfolding order
 equal {m} {n} h = simp (le-ltb m n (omega arith), le-ltb n m (omega arith))
 
 -- the upper halves decide
 pub upper : {p q : ℕ} (v w : ℕ) → p < q → v < 2 ^ 64 → p * 2 ^ 64 + v < q * 2 ^ 64 + w
 upper v w h b = omega arith
+
+-- the derived order of two ids, by their halves, is the order of their numbers
+pub derived_order : (a b : Id) → a.lo < 2 ^ 64 → b.lo < 2 ^ 64 → ordering_then (nat_cmp a.hi b.hi) (nat_cmp a.lo b.lo) ≡ order (id_number a) (id_number b)
+derived_order a b v w = go (nat_cmp a.hi b.hi) (nat_cmp a.lo b.lo) (ranks a.hi b.hi) (ranks a.lo b.lo)
+  where
+    go : (r s : Ordering) → MatchOrdering r (a.hi < b.hi) (a.hi ≡ b.hi) (b.hi < a.hi) → MatchOrdering s (a.lo < b.lo) (a.lo ≡ b.lo) (b.lo < a.lo)
+        → ordering_then r s ≡ order (id_number a) (id_number b)
+    go Ordering.Less s h k = sym (less (upper a.lo b.lo h v))
+    go Ordering.Greater s h k = sym (greater (upper b.lo a.lo h w))
+    go Ordering.Equal Ordering.Less h k = sym (less (omega arith))
+    go Ordering.Equal Ordering.Greater h k = sym (greater (omega arith))
+    go Ordering.Equal Ordering.Equal h k = sym (equal (omega arith))
 
 -- ---- halves
 

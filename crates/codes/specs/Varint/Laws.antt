@@ -1,5 +1,5 @@
 -- The laws of varint_at and var_bytes.
-use Rattle.std.specs.Prelude.{◌≡◌, ℕ, zero, suc, ◌+◌, ◌-◌, ◌*◌, ◌/◌, ◌%◌, ◌^◌, ◌≤◌, ◌<◌, List, [], ◌∷◌, ◌++◌, length, get_or, take, drop}
+use Rattle.std.specs.Prelude.{◌≡◌, ℕ, zero, suc, ◌+◌, ◌-◌, ◌*◌, ◌/◌, ◌%◌, ◌^◌, ◌≤◌, ◌<◌, List, [], ◌∷◌, ◌++◌, length, get_or, take, drop, Ok, Err}
 use Rattle.std.proofs.Math.Path.{refl}
 use Rattle.std.proofs.Common.{sym, ap, ap₂, ◌∙◌, pow-suc, div-add-mod', div-lt_iff_lt-mul, zero-lt-suc, mul_assoc, mul_comm, not-le_of_lt, add-mul, zero-mul, add-one, arith, length-append, length-drop, lit<, drop-cons, take_at}
 use Rattle.std.proofs.Math.Nat.{pow-le-pow_right}
@@ -7,11 +7,11 @@ use Rattle.std.proofs.Math.Decide.{dec_le, dec_lt, ℕ_discrete}
 use Rattle.std.proofs.Math.Arith.{digits_lt}
 use Rattle.std.proofs.Math.Seq.{get_or-append_seam, append_snoc}
 use borrow.Author.Tests.{lt-ltb, le-ltb, eq-eqb, ne_eqb}
-use Rattle.codes.specs.declared.varint.Varint.TheVariants.{Value, Bad}
+use Rattle.codes.specs.declared.varint.Unread.{Unread}
 use Rattle.codes.specs.declared.varint.Unread.TheVariants.{Cut, Long, Large}
 use Rattle.base.specs.Over.{part}
 use Rattle.base.specs.Bytes.{Bytes}
-use Rattle.codes.specs.Varint.{last_byte, var_from, varint_at, bytes_from, var_bytes}
+use Rattle.codes.specs.Varint.{Varint, last_byte, var_from, varint_at, bytes_from, var_bytes}
 
 -- ---- the definition of reading, case by case
 
@@ -20,29 +20,29 @@ unfolding varint_at
 varint_from s i = refl
 
 module _ (b i x m : ℕ) where
-  pub last_long : b ≡ 0 → 1 < m → last_byte b i x m ≡ Bad Long
+  pub last_long : b ≡ 0 → 1 < m → last_byte b i x m ≡ Err Long
   unfolding last_byte
   last_long e g = simp (eq-eqb b 0 e, lt-ltb 1 m g)
 
-  pub last_zero : b ≡ 0 → m ≤ 1 → last_byte b i x m ≡ Value x (i + 1)
+  pub last_zero : b ≡ 0 → m ≤ 1 → last_byte b i x m ≡ Ok (x, i + 1)
   unfolding last_byte
   last_zero e g = simp (eq-eqb b 0 e, le-ltb 1 m g)
 
   module _ (ne : b ≡ 0 → ⊥) where
-    pub last_value : x + b * m < 2 ^ 64 → last_byte b i x m ≡ Value (x + b * m) (i + 1)
+    pub last_value : x + b * m < 2 ^ 64 → last_byte b i x m ≡ Ok (x + b * m, i + 1)
     unfolding last_byte
     last_value h = simp (ne_eqb b 0 ne, lt-ltb (x + b * m) (2 ^ 64) h)
 
-    pub last_large : 2 ^ 64 ≤ x + b * m → last_byte b i x m ≡ Bad Large
+    pub last_large : 2 ^ 64 ≤ x + b * m → last_byte b i x m ≡ Err Large
     unfolding last_byte
     last_large h = simp (ne_eqb b 0 ne, le-ltb (x + b * m) (2 ^ 64) h)
 
 module _ (s : List ℕ) (i x m : ℕ) where
-  pub from_none : var_from 0 s i x m ≡ Bad Large
+  pub from_none : var_from 0 s i x m ≡ Err Large
   unfolding var_from
   from_none = refl
 
-  pub from_cut : (f : ℕ) → length s ≤ i → var_from (suc f) s i x m ≡ Bad Cut
+  pub from_cut : (f : ℕ) → length s ≤ i → var_from (suc f) s i x m ≡ Err Cut
   unfolding var_from
   from_cut f h = rw (le-ltb i (length s) h)
 
@@ -55,17 +55,17 @@ module _ (s : List ℕ) (i x m : ℕ) where
     unfolding var_from
     from_last g = simp (lt-ltb i (length s) h, lt-ltb (get_or s i 0) 128 g)
 
-    pub from_long : get_or s i 0 ≡ 0 → 1 < m → var_from (suc f) s i x m ≡ Bad Long
+    pub from_long : get_or s i 0 ≡ 0 → 1 < m → var_from (suc f) s i x m ≡ Err Long
     from_long e g = from_last (omega arith) ∙ last_long (get_or s i 0) i x m e g
 
-    pub from_zero : get_or s i 0 ≡ 0 → m ≤ 1 → var_from (suc f) s i x m ≡ Value x (i + 1)
+    pub from_zero : get_or s i 0 ≡ 0 → m ≤ 1 → var_from (suc f) s i x m ≡ Ok (x, i + 1)
     from_zero e g = from_last (omega arith) ∙ last_zero (get_or s i 0) i x m e g
 
     module _ (g : get_or s i 0 < 128) (ne : get_or s i 0 ≡ 0 → ⊥) where
-      pub from_value : x + get_or s i 0 * m < 2 ^ 64 → var_from (suc f) s i x m ≡ Value (x + get_or s i 0 * m) (i + 1)
+      pub from_value : x + get_or s i 0 * m < 2 ^ 64 → var_from (suc f) s i x m ≡ Ok (x + get_or s i 0 * m, i + 1)
       from_value b = from_last g ∙ last_value (get_or s i 0) i x m ne b
 
-      pub from_large : 2 ^ 64 ≤ x + get_or s i 0 * m → var_from (suc f) s i x m ≡ Bad Large
+      pub from_large : 2 ^ 64 ≤ x + get_or s i 0 * m → var_from (suc f) s i x m ≡ Err Large
       from_large b = from_last g ∙ last_large (get_or s i 0) i x m ne b
 
 -- ---- the weight of byte k, from 0: a digit more over it stays below the next weight
@@ -79,25 +79,25 @@ weight_le m k e h = rw e (pow-le-pow_right (zero-lt-suc 127) h)
 -- ---- a number of one byte, of two, of more, of none
 
 module _ (s : List ℕ) (i : ℕ) where
-  pub varint_one : i < length s → get_or s i 0 < 128 → varint_at s i ≡ Value (get_or s i 0) (i + 1)
+  pub varint_one : i < length s → get_or s i 0 < 128 → varint_at s i ≡ Ok (get_or s i 0, i + 1)
   varint_one h g =
       let x : ℕ = get_or s i 0 in
       let same : 0 + x * 1 ≡ x = omega arith in
       elim (ℕ_discrete x 0) [
-        | yes z ↦ varint_from s i ∙ from_zero s i 0 1 9 h z (omega arith) ∙ ap (λ (t : ℕ). Value t (i + 1)) (sym z)
-        | no z ↦ varint_from s i ∙ from_value s i 0 1 9 h g z (omega arith) ∙ ap (λ (t : ℕ). Value t (i + 1)) same
+        | yes z ↦ varint_from s i ∙ from_zero s i 0 1 9 h z (omega arith) ∙ ap (λ (t : ℕ). Ok (t, i + 1)) (sym z)
+        | no z ↦ varint_from s i ∙ from_value s i 0 1 9 h g z (omega arith) ∙ ap (λ (t : ℕ). Ok (t, i + 1)) same
       ]
 
   pub varint_two : i + 1 < length s → 128 ≤ get_or s i 0 → 1 ≤ get_or s (i + 1) 0 → get_or s (i + 1) 0 < 128
-      → varint_at s i ≡ Value (get_or s i 0 % 128 + 128 * get_or s (i + 1) 0) (i + 2)
+      → varint_at s i ≡ Ok (get_or s i 0 % 128 + 128 * get_or s (i + 1) 0, i + 2)
   varint_two h g some b =
       let x : ℕ = 0 + get_or s i 0 % 128 * 1 in
       let e : x + get_or s (i + 1) 0 * (1 * 128) ≡ get_or s i 0 % 128 + 128 * get_or s (i + 1) 0 = omega arith in
       let k : i + 1 + 1 ≡ i + 2 = omega arith in
       varint_from s i ∙ from_more s i 0 1 9 (omega arith) g
-      ∙ from_value s (i + 1) x (1 * 128) 8 h b (λ z. omega arith) (omega arith) ∙ ap₂ (λ (v n : ℕ). Value v n) e k
+      ∙ from_value s (i + 1) x (1 * 128) 8 h b (λ z. omega arith) (omega arith) ∙ ap₂ (λ (v n : ℕ). Ok (v, n)) e k
 
-  pub varint_cut : length s ≤ i → varint_at s i ≡ Bad Cut
+  pub varint_cut : length s ≤ i → varint_at s i ≡ Err Cut
   varint_cut h = varint_from s i ∙ from_cut s i 0 1 9 h
 
   -- a longer one goes on with its second byte
@@ -142,7 +142,7 @@ regroup x y m =
 
 -- a last byte y, after the bytes p
 read_last : (f : ℕ) (p r : List ℕ) (y x m : ℕ) → x + y * m < 2 ^ 64 → y < 128 → (y ≡ 0 → m ≤ 1)
-    → var_from (suc f) (p ++ y ∷ r) (length p) x m ≡ Value (x + y * m) (length p + 1)
+    → var_from (suc f) (p ++ y ∷ r) (length p) x m ≡ Ok (x + y * m, length p + 1)
 read_last f p r y x m b h z =
     let s : List ℕ = p ++ y ∷ r in
     let e : get_or s (length p) 0 ≡ y = get_or-append_seam p y r 0 in
@@ -152,11 +152,11 @@ read_last f p r y x m b h z =
       | no q ↦
           let y0 : y ≡ 0 = omega arith in
           from_zero s (length p) x m f lt (e ∙ y0) (z y0)
-          ∙ ap (λ (t : ℕ). Value t (length p + 1)) (let v : y * m ≡ 0 = rw y0 (zero-mul m) in omega arith)
+          ∙ ap (λ (t : ℕ). Ok (t, length p + 1)) (let v : y * m ≡ 0 = rw y0 (zero-mul m) in omega arith)
     ]
 
 read_from : (f : ℕ) (p r : List ℕ) (y x m : ℕ) → x + y * m < 2 ^ 64 → y < 128 ^ suc f → (y ≡ 0 → m ≤ 1)
-    → var_from (suc f) (p ++ (bytes_from f y ++ r)) (length p) x m ≡ Value (x + y * m) (length p + length (bytes_from f y))
+    → var_from (suc f) (p ++ (bytes_from f y ++ r)) (length p) x m ≡ Ok (x + y * m, length p + length (bytes_from f y))
 read_from zero p r y x m b h z = rw (bytes_last 0 y h) (read_last 0 p r y x m b h z)
 read_from (suc f) p r y x m b h z =
     elim (dec_le 128 y) [
@@ -171,15 +171,15 @@ read_from (suc f) p r y x m b h z =
           let len : length p' ≡ length p + 1 = length-append p (d ∷ []) in
           let low : d % 128 ≡ y % 128 = omega arith in
           let ih = read_from f p' r (y / 128) (x + y % 128 * m) (m * 128) (rw regroup b) ((div-lt_iff_lt-mul (zero-lt-suc 127)).1 (rw pow-suc at h)) (λ n. omega arith) in
-          let go : var_from (suc f) s (length p + 1) (x + d % 128 * m) (m * 128) ≡ Value (x + y * m) (length p + 1 + length bs) =
+          let go : var_from (suc f) s (length p + 1) (x + d % 128 * m) (m * 128) ≡ Ok (x + y * m, length p + 1 + length bs) =
           rw low (rw (same, len, regroup) at ih) in
           let fin : length p + 1 + length bs ≡ length p + suc (length bs) = omega arith in
           rw (bytes_more_lem f y q)
-          ((rw e at (from_more s (length p) x m (suc f) lt (rw e (omega arith)))) ∙ go ∙ ap (λ (t : ℕ). Value (x + y * m) t) fin)
+          ((rw e at (from_more s (length p) x m (suc f) lt (rw e (omega arith)))) ∙ go ∙ ap (λ (t : ℕ). Ok (x + y * m, t)) fin)
       | no q ↦ rw (bytes_last (suc f) y (omega arith)) (read_last (suc f) p r y x m b (omega arith) z)
     ]
 
-pub read_back : (p r : List ℕ) (x : ℕ) → x < 2 ^ 64 → varint_at (p ++ (var_bytes x ++ r)) (length p) ≡ Value x (length p + length (var_bytes x))
+pub read_back : (p r : List ℕ) (x : ℕ) → x < 2 ^ 64 → varint_at (p ++ (var_bytes x ++ r)) (length p) ≡ Ok (x, length p + length (var_bytes x))
 unfolding varint_at var_bytes
 read_back p r x h =
     let e : 0 + x * 1 ≡ x = omega arith in
@@ -187,31 +187,49 @@ read_back p r x h =
 
 -- ---- what a number that is read says of the bytes
 
+abbrev value_in : Varint → ℕ
+value_in (Ok (v, n)) = v
+value_in (Err w) = 0
+
+abbrev next_in : Varint → ℕ
+next_in (Ok (v, n)) = n
+next_in (Err w) = 0
+
+abbrev some_in : Varint → ℕ
+some_in (Ok (v, n)) = 1
+some_in (Err w) = 0
+
+-- one number, and one place after it
+pub read_one : {a b v n : ℕ} → ◌≡◌ {A = Varint} (Ok (a, b)) (Ok (v, n)) → (a ≡ v) × (b ≡ n)
+read_one e = (ap value_in e, ap next_in e)
+
+-- none, or one
+pub read_not : {w : Unread} {v n : ℕ} → ◌≡◌ {A = Varint} (Err w) (Ok (v, n)) → ⊥
+read_not e = let z : ◌≡◌ {A = ℕ} 0 1 = ap some_in e in absurd (omega arith)
+
 -- a last byte b that is taken; it is 0 only where it is the first
-last_taken : (f : ℕ) (s : List ℕ) (i x m v n : ℕ) → x < m → i < length s → get_or s i 0 < 128 → var_from (suc f) s i x m ≡ Value v n
+last_taken : (f : ℕ) (s : List ℕ) (i x m v n : ℕ) → x < m → i < length s → get_or s i 0 < 128 → var_from (suc f) s i x m ≡ Ok (v, n)
     → (v ≡ x + get_or s i 0 * m) × (v < 2 ^ 64) × (i + 1 ≡ n) × (1 < m → 0 < get_or s i 0)
 last_taken f s i x m v n l h g e =
     let b : ℕ = get_or s i 0 in
     elim (dec_lt 0 b) [
       | yes p ↦ elim (dec_lt (x + b * m) (2 ^ 64)) [
         | yes w ↦
-            let q : Value (x + b * m) (i + 1) ≡ Value v n = sym (from_value s i x m f h g (λ t. omega arith) w) ∙ e in
-            let val : v ≡ x + b * m = cc in
-            (val, rw val w, cc, λ t. p)
+            let q = read_one (sym (from_value s i x m f h g (λ t. omega arith) w) ∙ e) in
+            let val : v ≡ x + b * m = sym q.0 in
+            (val, rw val w, q.1, λ t. p)
         | no w ↦
-            let q : Bad Large ≡ Value v n = sym (from_large s i x m f h g (λ t. omega arith) (omega arith)) ∙ e in
-            let z : ◌≡◌ {A = ℕ} 0 1 = cc in absurd (omega arith)
+            absurd (read_not (sym (from_large s i x m f h g (λ t. omega arith) (omega arith)) ∙ e))
       ]
       | no p ↦ elim (dec_lt 1 m) [
         | yes w ↦
-            let q : Bad Long ≡ Value v n = sym (from_long s i x m f h (omega arith) w) ∙ e in
-            let z : ◌≡◌ {A = ℕ} 0 1 = cc in absurd (omega arith)
+            absurd (read_not (sym (from_long s i x m f h (omega arith) w) ∙ e))
         | no w ↦
-            let q : Value x (i + 1) ≡ Value v n = sym (from_zero s i x m f h (omega arith) (omega arith)) ∙ e in
-            let val : x ≡ v = cc in
+            let q = read_one (sym (from_zero s i x m f h (omega arith) (omega arith)) ∙ e) in
+            let val : x ≡ v = q.0 in
             let none : b ≡ 0 = omega arith in
             let worth : b * m ≡ 0 = rw none (zero-mul m) in
-            (omega arith, omega arith, cc, λ t. absurd (w t))
+            (omega arith, omega arith, q.1, λ t. absurd (w t))
       ]
     ]
 
@@ -225,7 +243,7 @@ record Taken (f : ℕ) (s : List ℕ) (i x m v n : ℕ) : Type 0 where
   shortest : 1 < m → 0 < digits
   bytes : Bytes s → drop i s ≡ bytes_from f digits ++ drop n s
 
-taken_last : (f : ℕ) (s : List ℕ) (i x m v n : ℕ) → x < m → i < length s → get_or s i 0 < 128 → var_from (suc f) s i x m ≡ Value v n → Taken f s i x m v n
+taken_last : (f : ℕ) (s : List ℕ) (i x m v n : ℕ) → x < m → i < length s → get_or s i 0 < 128 → var_from (suc f) s i x m ≡ Ok (v, n) → Taken f s i x m v n
 taken_last f s i x m v n l h g e =
     let (val, small, next, some) = last_taken f s i x m v n l h g e in
     let there : drop i s ≡ get_or s i 0 ∷ drop (i + 1) s = rw (add-one i) (drop-cons s i 0 h) in record {
@@ -242,18 +260,16 @@ taken_last f s i x m v n l h g e =
 upper_digit : (b y : ℕ) → 128 ≤ b → b < 256 → ((b % 128 + y * 128) % 128 + 128 ≡ b) × ((b % 128 + y * 128) / 128 ≡ y)
 upper_digit b y h g = (omega arith, omega arith)
 
-from_taken : (f : ℕ) (s : List ℕ) (i x m v n : ℕ) → x < m → var_from (suc f) s i x m ≡ Value v n → Taken f s i x m v n
+from_taken : (f : ℕ) (s : List ℕ) (i x m v n : ℕ) → x < m → var_from (suc f) s i x m ≡ Ok (v, n) → Taken f s i x m v n
 from_taken zero s i x m v n l e =
     elim (dec_lt i (length s)) [
       | yes h ↦ elim (dec_lt (get_or s i 0) 128) [
         | yes g ↦ taken_last 0 s i x m v n l h g e
         | no g ↦
-            let q : Bad Large ≡ Value v n = sym (from_more s i x m 0 h (omega arith) ∙ from_none s (i + 1) _ _) ∙ e in
-            let z : ◌≡◌ {A = ℕ} 0 1 = cc in absurd (omega arith)
+            absurd (read_not (sym (from_more s i x m 0 h (omega arith) ∙ from_none s (i + 1) _ _) ∙ e))
       ]
       | no h ↦
-          let q : Bad Cut ≡ Value v n = sym (from_cut s i x m 0 (omega arith)) ∙ e in
-          let z : ◌≡◌ {A = ℕ} 0 1 = cc in absurd (omega arith)
+          absurd (read_not (sym (from_cut s i x m 0 (omega arith)) ∙ e))
     ]
 from_taken (suc f) s i x m v n l e =
     let ih = from_taken f s in
@@ -284,24 +300,23 @@ from_taken (suc f) s i x m v n l e =
             }
       ]
       | no h ↦
-          let q : Bad Cut ≡ Value v n = sym (from_cut s i x m (suc f) (omega arith)) ∙ e in
-          let z : ◌≡◌ {A = ℕ} 0 1 = cc in absurd (omega arith)
+          absurd (read_not (sym (from_cut s i x m (suc f) (omega arith)) ∙ e))
     ]
 
-taken : (s : List ℕ) (i v n : ℕ) → varint_at s i ≡ Value v n → Taken 9 s i 0 1 v n
+taken : (s : List ℕ) (i v n : ℕ) → varint_at s i ≡ Ok (v, n) → Taken 9 s i 0 1 v n
 unfolding varint_at
 taken s i v n e = from_taken 9 s i 0 1 v n (lit< tt) e
 
 -- the place after a number lies within the bytes
-pub varint_next : (s : List ℕ) (i v n : ℕ) → varint_at s i ≡ Value v n → (i < n) × (n ≤ length s)
+pub varint_next : (s : List ℕ) (i v n : ℕ) → varint_at s i ≡ Ok (v, n) → (i < n) × (n ≤ length s)
 varint_next s i v n e = let t = taken s i v n e in (t.after, t.within)
 
 -- a number is below 2 ^ 64
-pub varint_lt : (s : List ℕ) (i v n : ℕ) → varint_at s i ≡ Value v n → v < 2 ^ 64
+pub varint_lt : (s : List ℕ) (i v n : ℕ) → varint_at s i ≡ Ok (v, n) → v < 2 ^ 64
 varint_lt s i v n e = (taken s i v n e).below
 
 -- shortest is unique: the bytes that are read as a number are the bytes that are written for it
-pub varint_bytes : (s : List ℕ) (i v n : ℕ) → Bytes s → varint_at s i ≡ Value v n → part s i n ≡ var_bytes v
+pub varint_bytes : (s : List ℕ) (i v n : ℕ) → Bytes s → varint_at s i ≡ Ok (v, n) → part s i n ≡ var_bytes v
 varint_bytes s i v n b e =
     let t = taken s i v n e in
     let y : v ≡ t.digits = omega (arith, t.value) in
@@ -317,7 +332,7 @@ var_bytes_one x y a b e =
     let p = read_back [] [] x a in
     let q = read_back [] [] y b in
     let same : varint_at (var_bytes x ++ []) 0 ≡ varint_at (var_bytes y ++ []) 0 = ap (λ (t : List ℕ). varint_at (t ++ []) 0) e in
-    cc
+    (read_one (sym p ∙ same ∙ q)).0
 
 -- ---- what is written
 

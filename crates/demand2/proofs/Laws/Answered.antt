@@ -1,13 +1,12 @@
 -- What a lookup answers of a written file, to the last number: a key's index is its place among the different keys of the batch,
 -- and the count of keys compared is the halving rule's own among them.
-use Rattle.std.specs.Prelude.{◌≡◌, refl, ℕ, zero, suc, ◌+◌, ◌≤◌, ◌<◌, Bool, length, get_or, take, drop}
+use Rattle.std.specs.Prelude.{◌≡◌, refl, ℕ, zero, suc, ◌+◌, ◌≤◌, ◌<◌, Bool, length, get_or, take, drop, Ok, Err}
 use Rattle.std.proofs.Math.Path.{sym, ap₂}
 use Rattle.std.proofs.Common.{ap, ◌∙◌, arith, take-append-drop, drop-cons, length-take-le, lt-ltb, le-ltb}
 use mathlib.Core.List.{List, [], ◌∷◌, ◌++◌}
 use Rattle.base.specs.Pick.{pick}
 use Rattle.codes.specs.declared.ids.Id.{Id}
 use Rattle.codes.specs.Ids.{id_number}
-use Rattle.refusal.specs.declared.Check.{Check}
 use Rattle.frame.specs.Open.{Known, key_at}
 use Rattle.index.specs.declared.keys.Found.{Found}
 use Rattle.index.specs.Find.{find_in, compared_of}
@@ -20,6 +19,7 @@ use Rattle.agreement.specs.SameEdges.{Says}
 use Rattle.demand2.proofs.Laws.Below.{none_below}
 use Rattle.demand2.proofs.Laws.Contents.{group_key}
 use Rattle.demand2.specs.Answers.{index_in, comparisons_in, outcome_by, PlaceTold}
+use Rattle.refusal.specs.Check.{Check}
 
 -- ---- the index
 
@@ -67,8 +67,8 @@ module _ (gs : List Group) (order : Grouped 0 gs) (k : ℕ) where
 module _ (known : Known) (gs : List Group) (order : Grouped 0 gs) (keys : known.keys ≡ key_bytes gs) (count : known.keycount ≡ length gs) (full : Bool) (rooms : Rooms) (k : ℕ) where
   on_group : (i c : ℕ) (chk : Check) (ps : List Id) (logs marks : List ℕ) → find_in (key_bytes gs) (length gs) k ≡ Found.At i c → PlaceTold k gs (outcome chk (found i c ps logs marks))
   unfolding PlaceTold outcome compared_of
-  on_group i c Check.Fine ps logs marks e = (found_at gs order k i c e, sym (ap compared_of e))
-  on_group i c (Check.Bad r) ps logs marks e = tt
+  on_group i c (Ok _) ps logs marks e = (found_at gs order k i c e, sym (ap compared_of e))
+  on_group i c (Err r) ps logs marks e = tt
 
   on_search : (x : Found) → find_in (key_bytes gs) (length gs) k ≡ x → PlaceTold k gs (on_found full rooms known x)
   unfolding PlaceTold on_found look_group compared_of

@@ -1,6 +1,6 @@
 -- The contents of the writer's sections, read: keys, offsets, groups, edges. In each statement the groups are split, all ≡ gs ++
 -- g ∷ hs, and the number of g is the length of gs.
-use Rattle.std.specs.Prelude.{◌≡◌, ℕ, zero, suc, ◌+◌, ◌-◌, ◌*◌, ◌/◌, ◌%◌, ◌^◌, ◌≤◌, ◌<◌, Bool, true, false, not, ◌||◌, get_or, eqb}
+use Rattle.std.specs.Prelude.{◌≡◌, ℕ, zero, suc, ◌+◌, ◌-◌, ◌*◌, ◌/◌, ◌%◌, ◌^◌, ◌≤◌, ◌<◌, Bool, true, false, not, ◌||◌, get_or, eqb, Ok, Err}
 use Rattle.std.proofs.Math.Path.{refl, sym, ap, ap₂}
 use Rattle.std.proofs.Common.{◌∙◌, zero-add, arith, lt-ltb, eq-eqb}
 use Rattle.std.proofs.Math.Nat.{zero-div}
@@ -15,7 +15,6 @@ use Rattle.codes.specs.Little.{le_at}
 use Rattle.codes.specs.Ids.{halves_at, id_number}
 use Rattle.codes.specs.Ids.Laws.{number_halves}
 use Rattle.refusal.specs.declared.Refusal.{Refusal}
-use Rattle.refusal.specs.declared.Check.{Check}
 use Rattle.refusal.proofs.Laws.Check.{fine_both, fine_pick}
 use Rattle.frame.specs.Open.{key_at, keys_from, offset_at, start_at}
 use Rattle.group.specs.Group.{good, group_of, partners_of, bytes_of}
@@ -113,7 +112,7 @@ pub group_key : (all gs : List Group) (g : Group) (hs : List Group) → all ≡ 
 group_key all gs g hs e f = sym (number_halves (key_bytes all) (length gs * 16)) ∙ ap id_number (key_back all gs g hs e f)
 
 -- each key is above the one before: the groups hs after g, which comes after gs
-keys_rise : (all : List Group) (hs gs : List Group) (g : Group) (floor : ℕ) → all ≡ gs ++ g ∷ hs → Grouped floor (g ∷ hs) → keys_from (length hs) (key_bytes all) (length gs + 1) ≡ Check.Fine
+keys_rise : (all : List Group) (hs gs : List Group) (g : Group) (floor : ℕ) → all ≡ gs ++ g ∷ hs → Grouped floor (g ∷ hs) → keys_from (length hs) (key_bytes all) (length gs + 1) ≡ (Ok tt)
 unfolding keys_from Grouped
 keys_rise all [] gs g floor e o = refl
 keys_rise all (h ∷ hs) gs g floor e o =
@@ -126,9 +125,9 @@ keys_rise all (h ∷ hs) gs g floor e o =
     let up : key_at (key_bytes all) (length gs + 1 - 1) < key_at (key_bytes all) (length gs + 1) = omega arith in
     let ih = keys_rise all hs (gs ++ (g ∷ [])) h (suc (id_number g.key)) e' o.4 in
     let next : length (gs ++ (g ∷ [])) + 1 ≡ length gs + 1 + 1 = omega arith in
-    fine_pick (Check.Bad (Refusal.Key (length gs + 1))) (lt-ltb (key_at (key_bytes all) (length gs + 1 - 1)) (key_at (key_bytes all) (length gs + 1)) up) (ap (keys_from (length hs) (key_bytes all)) (sym next) ∙ ih)
+    fine_pick (Err (Refusal.Key (length gs + 1))) (lt-ltb (key_at (key_bytes all) (length gs + 1 - 1)) (key_at (key_bytes all) (length gs + 1)) up) (ap (keys_from (length hs) (key_bytes all)) (sym next) ∙ ih)
 
-pub keys_fine : (all : List Group) → Grouped 0 all → keys_from (length all - 1) (key_bytes all) 1 ≡ Check.Fine
+pub keys_fine : (all : List Group) → Grouped 0 all → keys_from (length all - 1) (key_bytes all) 1 ≡ (Ok tt)
 unfolding keys_from
 keys_fine [] o = refl
 keys_fine (g ∷ hs) o =
@@ -188,7 +187,7 @@ module _ (all : List Group) (w : ℕ) (small : length (partner_bytes (length all
   os = offset_bytes w (length all) 0 all
 
   pub record Read (gs hs : List Group) : Type 0 where
-    pub good : groups_from ps os w (length hs) (length gs) ≡ Check.Fine
+    pub good : groups_from ps os w (length hs) (length gs) ≡ (Ok tt)
     pub degrees : degrees_from ps os w (length hs) (length gs) ≡ length (flat hs)
     pub dense : dense_from ps os w (length hs) (length gs) ≡ any_dense (length all) hs
     pub edges : read_from (key_bytes all) ps os w (log_bytes es) (tombs es) (length hs) (length gs) (length (flat gs)) ≡ flat hs
@@ -213,7 +212,7 @@ module _ (all : List Group) (w : ℕ) (small : length (partner_bytes (length all
     degree : length (partners_of (group_in ps os w (length gs))) ≡ length g.edges
     degree = ap length found ∙ length_partners g.edges
 
-    fine : group_check (length gs) (group_in ps os w (length gs)) ≡ Check.Fine
+    fine : group_check (length gs) (group_in ps os w (length gs)) ≡ (Ok tt)
     unfolding group_check
     fine = ap (group_check (length gs)) here
 

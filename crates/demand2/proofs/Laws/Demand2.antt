@@ -1,16 +1,14 @@
 -- Demand 2: "For each well-formed batch within the limits, given room, the file we write passes the full check, reads out to
 -- that same batch, and a lookup of any key gives exactly its written partners, in order, with log numbers and dead marks, or
 -- absence."
-use Rattle.std.specs.Prelude.{◌≡◌, refl, ℕ, ◌*◌, ◌^◌, ◌≤◌, List, Bool, true, false, ◌&&◌, length, get_or, ltb, leb, eqb}
+use Rattle.std.specs.Prelude.{◌≡◌, refl, ℕ, ◌*◌, ◌^◌, ◌≤◌, List, Bool, true, false, ◌&&◌, length, get_or, ltb, leb, eqb, Ok}
 use Rattle.std.proofs.Math.Path.{ap}
 use Rattle.std.proofs.Common.{◌∙◌, arith, leb-true}
 use Rattle.base.specs.Pick.{pick}
 use Rattle.base.specs.Over.{length_part}
 use Rattle.base.specs.Bytes.{Bytes}
 use Rattle.refusal.specs.declared.Refusal.{Refusal}
-use Rattle.refusal.specs.declared.Check.{Check}
 use Rattle.refusal.proofs.Laws.Check.{and_parts, pick_fine}
-use Rattle.frame.specs.declared.Opening.{Opening}
 use Rattle.frame.specs.Frame.{header_in, record_of}
 use Rattle.frame.specs.Open.{known_of, open_of}
 use Rattle.lookup.specs.Lookup.{Rooms, look_of, look_with}
@@ -27,7 +25,6 @@ use Rattle.agreement.specs.SameEdges.{of_key, Says, Enough, edges_of_file}
 use Rattle.agreement.proofs.Laws.SameEdges.{same_edges, same_partners}
 use Rattle.agreement.specs.Heading.{header_for}
 use Rattle.agreement.proofs.Laws.Heading.{same_heading}
-use Rattle.reader.specs.declared.header.HeaderRead.{HeaderRead}
 use Rattle.reader.specs.Header.{header_of}
 use Rattle.reader.proofs.Laws.Header.{header_good}
 use Rattle.reader.proofs.Laws.Look.{of_good, with_record}
@@ -38,7 +35,7 @@ use Rattle.demand2.proofs.Laws.Answered.{look_placed, outcome_is}
 use Rattle.demand2.specs.Demand2.{file_for, flags_for, minor_for, Lawful, Demand2}
 
 -- whatever bytes the batch's check takes within the bounds are lawful
-pub lawful_is : (s : List ℕ) → Bytes s → batch_check s ≡ Check.Fine
+pub lawful_is : (s : List ℕ) → Bytes s → batch_check s ≡ (Ok tt)
     → length (groups_of (edges_of s)) ≤ 2 ^ 24 → length (edges_of s) ≤ 2 ^ 26 → length (file_for s) ≤ 2 ^ 30 → Lawful s
 lawful_is s bytes fine keys edges size = record { bytes = bytes; fine = fine; limits = record { keys = keys; edges = edges; bytes = size } }
 
@@ -47,7 +44,7 @@ bit_pick true = refl
 bit_pick false = refl
 
 -- a batch without fault has a heading
-way : (s : List ℕ) → batch_check s ≡ Check.Fine → get_or s 1 0 ≤ 1
+way : (s : List ℕ) → batch_check s ≡ (Ok tt) → get_or s 1 0 ≤ 1
 unfolding batch_check headed
 way s e =
     let h = (pick_fine (headed s) (fault_from (record_count s) s 0) (Refusal.Batch 0) e).0 in
@@ -58,7 +55,7 @@ module _ (s : List ℕ) (lawful : Lawful s) where
   abbrev f : List ℕ
   f = file_for s
 
-  fine : batch_check s ≡ Check.Fine
+  fine : batch_check s ≡ (Ok tt)
   fine = lawful.fine
 
   written : WrittenFile (heading_of s) (edges_of s)
@@ -72,7 +69,7 @@ module _ (s : List ℕ) (lawful : Lawful s) where
     size = let few = lawful.limits.bytes in omega arith;
   }
 
-  full : full_check f ≡ Check.Fine
+  full : full_check f ≡ (Ok tt)
   full = passes (heading_of s) (edges_of s) written
 
   -- the file's edges are the batch's
@@ -80,19 +77,19 @@ module _ (s : List ℕ) (lawful : Lawful s) where
   edges_written = edges_again (heading_of s) (edges_of s) written
 
   -- it opens, and its keys are those of the groups
-  opens : open_of f ≡ Opening.Good (record_of f)
+  opens : open_of f ≡ Ok (record_of f)
   opens = file_opens (heading_of s) (edges_of s) written
 
   back : batch_in f ≡ s
   back = batch_back (heading_of s) (edges_of s) written ∙ batch_same s lawful.bytes fine
 
-  header : header_of f ≡ HeaderRead.Good (header_for (minor_for s) (flags_for s) s)
+  header : header_of f ≡ Ok (header_for (minor_for s) (flags_for s) s)
   unfolding header_in
   header =
       let good = header_good f (record_of f) opens in
       let minor = minor_is (heading_of s) (edges_of s) written ∙ bit_pick (ltb 1024 (length (groups_of (edges_of s)))) in
       let flags = flags_is (heading_of s) (edges_of s) written in
-      good ∙ ap HeaderRead.Good (same_heading f (header_in f) good ∙ (λ j. header_for (minor j) (flags j) (back j)))
+      good ∙ ap Ok (same_heading f (header_in f) good ∙ (λ j. header_for (minor j) (flags j) (back j)))
 
   starts_there : (record_of f).indexed ≡ ltb 1024 (length (groups_of (edges_of s)))
   unfolding known_of

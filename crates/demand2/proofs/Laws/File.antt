@@ -1,5 +1,5 @@
 -- The writer's file: it opens to what was written, passes the full check, and reads out to the same batch.
-use Rattle.std.specs.Prelude.{◌≡◌, ℕ, suc, ◌+◌, ◌*◌, ◌/◌, ◌%◌, ◌^◌, ◌≤◌, ◌<◌, Bool, ◌&&◌, ◌||◌, ltb, leb}
+use Rattle.std.specs.Prelude.{◌≡◌, ℕ, suc, ◌+◌, ◌*◌, ◌/◌, ◌%◌, ◌^◌, ◌≤◌, ◌<◌, Bool, ◌&&◌, ◌||◌, ltb, leb, Ok}
 use Rattle.std.proofs.Math.Path.{refl, ap}
 use Rattle.std.proofs.Common.{sym, ap₂, ◌∙◌, arith, length-append}
 use Rattle.std.proofs.Math.Decide.{dec_le}
@@ -14,11 +14,9 @@ use Rattle.base.specs.Over.{part}
 use Rattle.codes.specs.Little.{le_at, le_bytes}
 use Rattle.codes.specs.Little.Laws.{length_le_bytes}
 use Rattle.refusal.specs.declared.Refusal.{Refusal}
-use Rattle.refusal.specs.declared.Check.{Check}
 use Rattle.refusal.specs.Check.{◌⊳◌, refuse}
 use Rattle.refusal.proofs.Laws.Check.{fine_both, good_fine, and_both}
 use Rattle.frame.specs.declared.Row.{Row}
-use Rattle.frame.specs.declared.Opening.{Opening}
 use Rattle.frame.specs.Kind as kind
 use Rattle.frame.specs.Frame.{all, rows_of, entry_count, key_count, edge_count, bits_of, has, section_of, kinds_good, flag, flags_of, width_good, sizes_good, presence_good, counts_good, body_of, head_check, record_from, record_of, framed_from, framed_of}
 use Rattle.frame.specs.Frame.Laws.{Table}
@@ -222,7 +220,7 @@ module _ (h : Heading) (es : List Edge) (q : WrittenFile h es) where
       let few = fl.few in
       le_at_at 4 (kind.magic_bytes ++ (1 ∷ minor_of n ∷ le_bytes 2 64)) (h.ids ++ (payload ss ++ (body ++ trailer body))) flags f 12 (parts ∙ refl) refl (omega arith)
 
-  head_fine : head_check f ≡ Check.Fine
+  head_fine : head_check f ≡ (Ok tt)
   unfolding head_check head_bytes le_bytes le_at
   head_fine =
       let few = fl.few in
@@ -401,7 +399,7 @@ module _ (h : Heading) (es : List Edge) (q : WrittenFile h es) where
   eight : 8 * w / 8 ≡ w
   eight = omega arith
 
-  content_fine : content_check (known_of f (record_of f)) (framed_of f).fenced (bytes_at f (framed_of f).fences) ≡ Check.Fine
+  content_fine : content_check (known_of f (record_of f)) (framed_of f).fenced (bytes_at f (framed_of f).fences) ≡ (Ok tt)
   unfolding content_check framed_of framed_from known
   content_fine =
       (λ j. content_check (known_is j) ((there kind.fences ∙ t.fences) j) ((content kind.fences ∙ t.fences_are) j))
@@ -409,7 +407,7 @@ module _ (h : Heading) (es : List Edge) (q : WrittenFile h es) where
       (fine_both (ap (λ (v : ℕ). offsets_check os v n (length ps)) eight ∙ offsets_fine gs w partners_small)
       (fine_both (ap (refuse Refusal.Fences) (fences_good_lem fence)) (starts_good index)))
     where
-      starts_good : (b : Bool) → pick b (starts_check (pick b (start_bytes gs) []) n (length es)) Check.Fine ≡ Check.Fine
+      starts_good : (b : Bool) → pick b (starts_check (pick b (start_bytes gs) []) n (length es)) (Ok tt) ≡ (Ok tt)
       starts_good true =
           let all = ap length (flat_groups es) in
           let few = q.edges in
@@ -420,7 +418,7 @@ module _ (h : Heading) (es : List Edge) (q : WrittenFile h es) where
       fences_good_lem true = ap not (fences_fine gs q.order q.keys)
       fences_good_lem false = refl
 
-  pub file_opens : open_of f ≡ Opening.Good (record_of f)
+  pub file_opens : open_of f ≡ Ok (record_of f)
   unfolding open_of opening file_check
   file_opens = rw (fine_both (frames_made (length f) f f frames) content_fine)
 
@@ -451,7 +449,7 @@ module _ (h : Heading) (es : List Edge) (q : WrittenFile h es) where
       (and_both (ap₂ beq fl.marked (dead_back es) ∙ same_bool dead)
       (and_both (ap₂ beq fl.thick reads.dense ∙ same_bool dense) (and_both (ap not (unused_back es)) (ap not (stray_fine index)))))
 
-  edges_fine : edges_check (flags_of f) (known_of f (record_of f)) ≡ Check.Fine
+  edges_fine : edges_check (flags_of f) (known_of f (record_of f)) ≡ (Ok tt)
   unfolding edges_check known stray
   edges_fine =
       (λ j. edges_check (flags_is j) (known_is j))
@@ -459,7 +457,7 @@ module _ (h : Heading) (es : List Edge) (q : WrittenFile h es) where
       ∙ fine_both reads.good (good_fine Refusal.Data data_fine)
 
   -- the file that we write passes the full check
-  pub passes : full_check f ≡ Check.Fine
+  pub passes : full_check f ≡ (Ok tt)
   unfolding full_check file_check
   passes =
       fine_both (fine_both (frames_made (length f) f f frames) content_fine)

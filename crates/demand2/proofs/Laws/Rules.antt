@@ -1,5 +1,5 @@
 -- Rules 14, 15, 23 and 37 of the writer's sections: offsets, fences, marks, start index.
-use Rattle.std.specs.Prelude.{◌≡◌, List, [], ◌∷◌, ◌++◌, Bool, not, ◌||◌, length, get_or, ltb, eqb}
+use Rattle.std.specs.Prelude.{◌≡◌, List, [], ◌∷◌, ◌++◌, Bool, not, ◌||◌, length, get_or, ltb, eqb, Ok, Err}
 use Rattle.std.proofs.Math.Path.{refl, ap₂}
 use Rattle.std.proofs.Common.{sym, ap, ◌∙◌, zero-add, length-append}
 use Prim.Native.Nat.{ℕ, zero, suc, ◌+◌, ◌-◌, ◌*◌, ◌/◌, ◌^◌, ◌≤◌, ◌<◌}
@@ -12,7 +12,6 @@ use Rattle.batch.specs.Batch.{marks_in}
 use Rattle.base.specs.Pick.{pick}
 use Rattle.codes.specs.Ids.{id_number}
 use Rattle.refusal.specs.declared.Refusal.{Refusal}
-use Rattle.refusal.specs.declared.Check.{Check}
 use Rattle.refusal.proofs.Laws.Check.{fine_pick, and_both}
 use Rattle.frame.specs.Kind as kind
 use Rattle.frame.specs.Open.{offset_at, offset_good, rising_from, offsets_check, start_at, starts_check}
@@ -53,16 +52,16 @@ module _ (told : ℕ → Refusal) (os : List ℕ) (w n len : ℕ) (start : offse
           eq-eqb (offset_at os w i) len (ap (offset_at os w) z ∙ end)
       last false q = refl
 
-  fine_from : (d i : ℕ) → i + d ≡ n + 1 → rising_from told d os w n len i ≡ Check.Fine
+  fine_from : (d i : ℕ) → i + d ≡ n + 1 → rising_from told d os w n len i ≡ (Ok tt)
   unfolding rising_from
   fine_from zero i h = refl
-  fine_from (suc d) i h = fine_pick (Check.Bad (told i)) (good i (omega arith)) (fine_from d (i + 1) (omega arith))
+  fine_from (suc d) i h = fine_pick (Err (told i)) (good i (omega arith)) (fine_from d (i + 1) (omega arith))
 
-  rising_fine : rising_from told (n + 1) os w n len 0 ≡ Check.Fine
+  rising_fine : rising_from told (n + 1) os w n len 0 ≡ (Ok tt)
   rising_fine = fine_from (n + 1) 0 (zero-add (n + 1))
 
 module _ (all : List Group) (w : ℕ) (small : length (partner_bytes (length all) all) < 2 ^ (8 * w)) where
-  pub offsets_fine : offsets_check (offset_bytes w (length all) 0 all) w (length all) (length (partner_bytes (length all) all)) ≡ Check.Fine
+  pub offsets_fine : offsets_check (offset_bytes w (length all) 0 all) w (length all) (length (partner_bytes (length all) all)) ≡ (Ok tt)
   offsets_fine =
       rising_fine Refusal.Offset (offset_bytes w (length all) 0 all) w (length all) (length (partner_bytes (length all) all)) (offset_first all w small)
       (λ i h. let (gs, g, hs, e, q) = cut_at all i h in let up = offset_rises all w small gs g hs e in rw (← q) up)
@@ -75,7 +74,7 @@ group_edge [] g hs floor o = o.2
 group_edge (x ∷ gs) g hs floor o = group_edge gs g hs (suc (id_number x.key)) o.4
 
 module _ (all : List Group) (o : Grouped 0 all) (small : length (flat all) < 2 ^ 64) where
-  pub starts_fine : starts_check (start_bytes all) (length all) (length (flat all)) ≡ Check.Fine
+  pub starts_fine : starts_check (start_bytes all) (length all) (length (flat all)) ≡ (Ok tt)
   starts_fine =
       rising_fine Refusal.Start (start_bytes all) kind.start_size (length all) (length (flat all)) (start_first all small)
       (λ i h.

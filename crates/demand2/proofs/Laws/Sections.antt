@@ -1,10 +1,9 @@
 -- Sections without a name, raw, with their checksums, as the writer lays them out: what their table says.
-use Rattle.std.specs.Prelude.{◌≡◌, refl, ℕ, ◌+◌, ◌^◌, ◌≤◌, ◌<◌, List, [], ◌∷◌, ◌++◌, Bool, true, false, not, ◌&&◌, ◌||◌, length, leb, eqb}
+use Rattle.std.specs.Prelude.{◌≡◌, refl, ℕ, ◌+◌, ◌^◌, ◌≤◌, ◌<◌, List, [], ◌∷◌, ◌++◌, Bool, true, false, not, ◌&&◌, ◌||◌, length, leb, eqb, Ok, Err}
 use Rattle.std.proofs.Common.{sym, ap, ap₂, ◌∙◌, ⊎_elim, arith, append_assoc, length-append, eq-eqb}
 use Rattle.base.specs.Pick.{pick}
 use Rattle.xxh3_spec.specs.Xxh3.{xxh3}
 use Rattle.refusal.specs.declared.Refusal.{Refusal}
-use Rattle.refusal.specs.declared.Check.{Check}
 use Rattle.refusal.proofs.Laws.Check.{fine_pick, and_both}
 use Rattle.frame.specs.declared.Row.{Row}
 use Rattle.frame.specs.Kind as kind
@@ -54,15 +53,15 @@ names_fine (s ∷ ss) at i r =
 
 -- what is asked of each entry, where the sections written are good
 each_fine : (good : Row → Bool) (told : ℕ → Refusal) → ((r : Row) → kind.fixed r.kind ≡ true → r.codec ≡ 0 → good r ≡ true)
-    → (ss : List Section) (at i k : ℕ) → AllRaw ss → each_row good told (rows_in at i ss) k ≡ Check.Fine
+    → (ss : List Section) (at i k : ℕ) → AllRaw ss → each_row good told (rows_in at i ss) k ≡ (Ok tt)
 unfolding each_row rows_in AllRaw
 each_fine good told is [] at i k r = refl
-each_fine good told is (s ∷ ss) at i k r = fine_pick (Check.Bad (told k)) (is _ r.0.known r.0.codec) (each_fine good told is ss _ _ (k + 1) r.1)
+each_fine good told is (s ∷ ss) at i k r = fine_pick (Err (told k)) (is _ r.0.known r.0.codec) (each_fine good told is ss _ _ (k + 1) r.1)
 
-pub reserved_fine : (ss : List Section) (at i : ℕ) → AllRaw ss → reserved_check (rows_in at i ss) ≡ Check.Fine
+pub reserved_fine : (ss : List Section) (at i : ℕ) → AllRaw ss → reserved_check (rows_in at i ss) ≡ (Ok tt)
 reserved_fine ss at i = each_fine kind_good Refusal.Reserved (λ r f c. ap not (fixed_unreserved r.kind f)) ss at i 0
 
-pub codecs_fine : (ss : List Section) (at i : ℕ) → AllRaw ss → codec_check (rows_in at i ss) ≡ Check.Fine
+pub codecs_fine : (ss : List Section) (at i : ℕ) → AllRaw ss → codec_check (rows_in at i ss) ≡ (Ok tt)
 codecs_fine ss at i = each_fine codec_good Refusal.Codec (λ r f c. rw f (eq-eqb r.codec 0 c)) ss at i 0
 
 pub raw_numbers : (ss : List Section) → AllRaw ss → AllNumbers ss
@@ -122,9 +121,9 @@ length_content k (s ∷ ss) = go (eqb s.kind k) (length_content k ss)
     go false h = omega (arith, length-append s.bytes (payload ss))
 
 -- every checksum is right
-pub sums_fine : (ss : List Section) (f p q : List ℕ) (at i k : ℕ) → AllRaw ss → f ≡ p ++ (payload ss ++ q) → length p ≡ at → sums_from f (rows_in at i ss) k ≡ Check.Fine
+pub sums_fine : (ss : List Section) (f p q : List ℕ) (at i k : ℕ) → AllRaw ss → f ≡ p ++ (payload ss ++ q) → length p ≡ at → sums_from f (rows_in at i ss) k ≡ (Ok tt)
 unfolding sums_from rows_in AllRaw
 sums_fine [] f p q at i k r e l = refl
 sums_fine (s ∷ ss) f p q at i k r e l =
-    fine_pick (Check.Bad (Refusal.Sum k)) (eq-eqb _ _ (ap xxh3 (first f p s ss q at e l) ∙ sym r.0.sum))
+    fine_pick (Err (Refusal.Sum k)) (eq-eqb _ _ (ap xxh3 (first f p s ss q at e l) ∙ sym r.0.sum))
     (sums_fine ss f (p ++ s.bytes) q (at + length s.bytes) (i + 28 + length s.name) (k + 1) r.1 (after f p s ss q e) (length-append p s.bytes ∙ ap (λ (t : ℕ). t + length s.bytes) l))

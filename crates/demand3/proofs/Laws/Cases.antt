@@ -1,12 +1,11 @@
 -- A later writer's file, by computation: minor 200, and a section of an unknown kind with a name, a codec and a checksum of its
 -- own. It opens, and its stripped copy is the file of 218 bytes that has no keys.
-use Rattle.std.specs.Prelude.{◌≡◌, refl, ℕ, List, [], ◌∷◌, true, false}
+use Rattle.std.specs.Prelude.{◌≡◌, refl, ℕ, List, [], ◌∷◌, true, false, Ok, Err}
 use Rattle.codes.specs.Little.{le_at, le_bytes}
 use Rattle.codes.specs.Ids.{be_at, id_at, halves_at}
 use Rattle.xxh3_spec.specs.Xxh3.{mul, fold, xorshift, rotl, swap, rrmxmx, secret, of1to3, of4to8, of9to16, small, pair, mix_step, inward, of17to128, onward, of129to240, lane, accumulate, stir, scramble, turn, run_on, start_lanes, twice, merge, finish, large, xxh3}
 use Rattle.refusal.specs.declared.Refusal.{Refusal}
 use Rattle.frame.specs.declared.Opened.{Opened}
-use Rattle.frame.specs.declared.Opening.{Opening}
 use Rattle.frame.specs.Kind as kind
 use Rattle.frame.specs.Frame.{row_at, rows_from, end_from, rows_of, end_of, has, repeated, section_of, all, kinds_good, table_good, each_row, ranges, sizes_good, presence_good, counts_good, body_of, header_in, at_minor, size_check, head_check, tail_check, sum_check, frame_check, record_from, record_of, framed_from, framed_of, shape_check, ends_check, footer_check, rows_check}
 use Rattle.frame.specs.Open.{known_of, keys_from, offset_good, rising_from, fence_good, fences_from, fences_good, content_check, file_check, opening, open_of}
@@ -46,18 +45,18 @@ later_record = record {
   bits = 24;
 }
 
-pub opens_later : (open_of later_file ≡ Opening.Good later_record) × (strip later_file ≡ heading_only)
+pub opens_later : (open_of later_file ≡ Ok later_record) × (strip later_file ≡ heading_only)
 unfolding later_with heading_only le_at le_bytes be_at id_at mul fold xorshift rotl swap rrmxmx secret of1to3 of4to8 of9to16 small pair mix_step inward of17to128 onward of129to240 lane accumulate stir scramble turn run_on start_lanes twice merge finish large xxh3 row_at rows_from end_from rows_of end_of has repeated section_of all kinds_good table_good each_row ranges sizes_good presence_good counts_good body_of size_check head_check tail_check sum_check frame_check record_from record_of framed_from framed_of known_of keys_from offset_good rising_from fence_good fences_from fences_good content_check file_check opening open_of head_bytes payload entry entries body_bytes trailer lay_out section_at kept_of stripped strip shape_check ends_check footer_check rows_check
 opens_later = (refl, refl)
 
 -- with a kind of the reserved range it does not open, whatever its minor version, and `strip` leaves that section where it is; with the
 -- kinds beside the range and with 0 it opens
 pub opens_never :
-    (open_of (later_with 200 0x00FF) ≡ Opening.Refused (Refusal.Reserved 2))
-    × (open_of (later_with 0 0x0007) ≡ Opening.Refused (Refusal.Reserved 2))
-    × (open_of (strip (later_with 200 0x00FF)) ≡ Opening.Refused (Refusal.Reserved 2))
-    × (open_of (later_with 200 0x0101) ≡ Opening.Good later_record)
-    × (open_of (later_with 0 0x0000) ≡ Opening.Good later_record)
+    (open_of (later_with 200 0x00FF) ≡ Err (Refusal.Reserved 2))
+    × (open_of (later_with 0 0x0007) ≡ Err (Refusal.Reserved 2))
+    × (open_of (strip (later_with 200 0x00FF)) ≡ Err (Refusal.Reserved 2))
+    × (open_of (later_with 200 0x0101) ≡ Ok later_record)
+    × (open_of (later_with 0 0x0000) ≡ Ok later_record)
 unfolding later_with heading_only le_at le_bytes be_at id_at mul fold xorshift rotl swap rrmxmx secret of1to3 of4to8 of9to16 small pair mix_step inward of17to128 onward of129to240 lane accumulate stir scramble turn run_on start_lanes twice merge finish large xxh3 row_at rows_from end_from rows_of end_of has repeated section_of all kinds_good table_good each_row ranges sizes_good presence_good counts_good body_of size_check head_check tail_check sum_check frame_check record_from record_of framed_from framed_of known_of keys_from offset_good rising_from fence_good fences_from fences_good content_check file_check opening open_of head_bytes payload entry entries body_bytes trailer lay_out section_at kept_of stripped strip shape_check ends_check footer_check rows_check
 opens_never = (refl, refl, refl, refl, refl)
 
@@ -83,7 +82,7 @@ abbrev later_indexed : List ℕ
 later_indexed = indexed_by 200 (record { kind = 0x0201; codec = 9; sum = 5; name = 104 ∷ 105 ∷ []; bytes = 1 ∷ 2 ∷ 3 ∷ 4 ∷ [] } ∷ [])
 
 pub opens_indexed :
-    (open_of later_indexed ≡ Opening.Good (record {
+    (open_of later_indexed ≡ Ok (record {
       keys = record { start = 72; len = 0 };
       offsets = record { start = 72; len = 3 };
       partners = record { start = 75; len = 0 };

@@ -1,5 +1,5 @@
 -- The stripped copy itself: laid out without gaps, the sections' sums as they were stored. It is a copy as Stripped says.
-use Rattle.std.specs.Prelude.{◌≡◌, Bool, true, false, length, take, leb}
+use Rattle.std.specs.Prelude.{◌≡◌, Bool, true, false, length, take, leb, Ok}
 use Rattle.std.proofs.Math.Path.{refl, sym, ap}
 use Rattle.std.proofs.Common.{ap₂, ◌∙◌, inl, length-append, length-set, length-take-le}
 use Prim.Native.Nat.{ℕ, zero, suc, ◌+◌, ◌-◌, ◌*◌, ◌^◌, ◌≤◌, ◌<◌}
@@ -15,7 +15,6 @@ use Rattle.codes.specs.Little.{le_bytes}
 use Rattle.codes.specs.Little.Laws.{le_at_lt}
 use Rattle.xxh3_spec.specs.Xxh3.{xxh3}
 use Rattle.refusal.specs.declared.Refusal.{Refusal}
-use Rattle.refusal.specs.declared.Check.{Check}
 use Rattle.refusal.proofs.Laws.Check.{pick_fine, and_parts}
 use Rattle.frame.specs.declared.Row.{Row}
 use Rattle.frame.specs.Frame.{row_at, next_at, rows_from, end_from, rows_of, end_of, entry_count, key_count, edge_count, bits_of, range_good, ranges, foot_len, body_of}
@@ -30,7 +29,7 @@ use Rattle.demand3.specs.Stripped.{Kept, Copied, none, dropped, kept, Outer, cop
 use Rattle.demand3.specs.Strip.{section_at, kept_of, head_of, stripped, strip, RowWithin, AllWithin, end, more}
 
 module _ (f b : List ℕ) (by : Bytes b) (limit : ℕ) (lim : limit ≤ length f) where
-  within : (d i floor k : ℕ) → end_from d b i ≤ length b → ranges limit (rows_from d b i) floor k ≡ Check.Fine → AllWithin f b (rows_from d b i)
+  within : (d i floor k : ℕ) → end_from d b i ≤ length b → ranges limit (rows_from d b i) floor k ≡ (Ok tt) → AllWithin f b (rows_from d b i)
   unfolding rows_from ranges end_from row_at
   within zero i floor k e g = end
   within (suc d) i floor k e g =
@@ -43,7 +42,7 @@ module _ (f b : List ℕ) (by : Bytes b) (limit : ℕ) (lim : limit ≤ length f
       more one (within d (next_at b i) (r.start + r.len) (k + 1) e p.1)
 
   -- the sections lie apart, so together they are no longer than the room
-  total : (d i floor k : ℕ) → floor ≤ limit → ranges limit (rows_from d b i) floor k ≡ Check.Fine → floor + length (payload (kept_of f b (rows_from d b i))) ≤ limit
+  total : (d i floor k : ℕ) → floor ≤ limit → ranges limit (rows_from d b i) floor k ≡ (Ok tt) → floor + length (payload (kept_of f b (rows_from d b i))) ≤ limit
   unfolding rows_from ranges kept_of payload section_at
   total zero i floor k h g = omega arith
   total (suc d) i floor k h g =
@@ -160,7 +159,7 @@ module _ (f : List ℕ) (by : Bytes f) (l : Later f) where
   z : Outer f
   z = l.outer
 
-  apart : ranges (length f - foot_len f) (rows_of b) 64 0 ≡ Check.Fine
+  apart : ranges (length f - foot_len f) (rows_of b) 64 0 ≡ (Ok tt)
   apart = ranges_made (length f - foot_len f) 64 (rows_of b) 0 z.apart
 
   length_b : length b ≡ foot_len f - 20

@@ -1,17 +1,15 @@
 -- Demand 3, as a relation: a copy of a file "without the unknown sections, minor 0, and offsets, lengths and checksums
 -- mended"; "Kind 0x0200 now counts as known in demand 3 and isn't taken away; where it is present the stripped copy has minor 1".
 -- It opens exactly if the file does, and it knows the same.
-use Rattle.std.specs.Prelude.{◌≡◌, ◌↔◌, ℕ, ◌+◌, ◌-◌, ◌≤◌, List, [], Bool, not, ◌||◌, length, eqb}
+use Rattle.std.specs.Prelude.{◌≡◌, ◌↔◌, ℕ, ◌+◌, ◌-◌, ◌≤◌, List, [], Bool, not, ◌||◌, length, eqb, Ok, Err}
 use Rattle.std.proofs.Math.Path.{refl, sym, ap, ap₂}
 use Rattle.std.proofs.Common.{◌∙◌, arith}
 use Rattle.std.proofs.Math.Bool.{true, false}
 use Rattle.base.specs.Pick.{pick}
 use Rattle.refusal.specs.declared.Refusal.{Refusal}
-use Rattle.refusal.specs.declared.Check.{Check}
 use Rattle.refusal.proofs.Laws.Check.{fine_parts, fine_both, fine_pick, and_parts, and_both}
 use Rattle.frame.specs.declared.Row.{Row}
 use Rattle.frame.specs.declared.Opened.{Opened}
-use Rattle.frame.specs.declared.Opening.{Opening}
 use Rattle.frame.specs.Kind as kind
 use Rattle.frame.specs.Frame.{record_from, record_of, framed_from, framed_of, has, repeated, range_of, section_of, all, name_good, kinds_good, each_row, kind_good, codec_good, ranges, entry_count, rows_of, counts_good, body_of, foot_len, flags_of, size_check, tail_check, sum_check, reserved_check, codec_check, frame_check}
 use Rattle.frame.specs.Frame.Laws.{Table}
@@ -83,7 +81,7 @@ module _ (f b g c : List ℕ) where
 
   -- what is asked of each entry, where it lets unknown kinds be and sees no more than kind and codec
   module _ (good : Row → Bool) (told : ℕ → Refusal) (passes : (r : Row) → kind.unknown r.kind ≡ true → good r ≡ true) (same : (r t : Row) → t.kind ≡ r.kind → t.codec ≡ r.codec → good t ≡ good r) where
-    each_copied : {rs ts : List Row} → Copied f b g c rs ts → (i j : ℕ) → (each_row good told rs i ≡ Check.Fine) ↔ (each_row good told ts j ≡ Check.Fine)
+    each_copied : {rs ts : List Row} → Copied f b g c rs ts → (i j : ℕ) → (each_row good told rs i ≡ (Ok tt)) ↔ (each_row good told ts j ≡ (Ok tt))
     unfolding each_row
     each_copied none i j = (λ e. refl, λ e. refl)
     each_copied (dropped {r} {rs} u d) i j =
@@ -93,14 +91,14 @@ module _ (f b g c : List ℕ) where
     each_copied (kept {r} {t} {rs} {ts} u w d) i j =
         let ih = each_copied d (i + 1) (j + 1) in
         let is : good t ≡ good r = same r t w.kind w.codec in (
-          λ e. let p = each_parts good told r rs i e in fine_pick (Check.Bad (told j)) (is ∙ p.0) (ih.0 p.1),
-          λ e. let p = each_parts good told t ts j e in fine_pick (Check.Bad (told i)) (sym is ∙ p.0) (ih.1 p.1),
+          λ e. let p = each_parts good told r rs i e in fine_pick (Err (told j)) (is ∙ p.0) (ih.0 p.1),
+          λ e. let p = each_parts good told t ts j e in fine_pick (Err (told i)) (sym is ∙ p.0) (ih.1 p.1),
         )
 
-  reserved_copied : {rs ts : List Row} → Copied f b g c rs ts → (reserved_check rs ≡ Check.Fine) ↔ (reserved_check ts ≡ Check.Fine)
+  reserved_copied : {rs ts : List Row} → Copied f b g c rs ts → (reserved_check rs ≡ (Ok tt)) ↔ (reserved_check ts ≡ (Ok tt))
   reserved_copied d = each_copied kind_good Refusal.Reserved (λ r u. kind_skipped r [] u) (λ r t k x. ap (λ (n : ℕ). not (kind.reserved n)) k) d 0 0
 
-  codecs_copied : {rs ts : List Row} → Copied f b g c rs ts → (codec_check rs ≡ Check.Fine) ↔ (codec_check ts ≡ Check.Fine)
+  codecs_copied : {rs ts : List Row} → Copied f b g c rs ts → (codec_check rs ≡ (Ok tt)) ↔ (codec_check ts ≡ (Ok tt))
   codecs_copied d = each_copied codec_good Refusal.Codec (λ r u. codec_skipped r [] u) (λ r t k x. ap₂ (λ (n m : ℕ). not (kind.fixed n) || eqb m 0) k x) d 0 0
 
   length_copied : {rs ts : List Row} → Copied f b g c rs ts → length ts ≤ length rs
@@ -116,12 +114,12 @@ rows_count b = length_rows (entry_count b) b 2
 
 -- rules 1, 6 to 8 and 11
 outer_checks : (f : List ℕ) → Outer f
-    → (size_check (length f) ≡ Check.Fine) × (tail_check (length f) f ≡ Check.Fine) × (sum_check f ≡ Check.Fine) × (ranges (length f - foot_len f) (rows_of (body_of f)) 64 0 ≡ Check.Fine)
+    → (size_check (length f) ≡ (Ok tt)) × (tail_check (length f) f ≡ (Ok tt)) × (sum_check f ≡ (Ok tt)) × (ranges (length f - foot_len f) (rows_of (body_of f)) 64 0 ≡ (Ok tt))
 outer_checks f o =
     (size_made (length f) o.low o.high, tail_made (length f) f o.magic o.least o.most, sum_made f o.sum, ranges_made _ 64 (rows_of (body_of f)) 0 o.apart)
 
 -- a file that opens keeps them
-pub opened_later : (f : List ℕ) (o : Opened) → open_of f ≡ Opening.Good o → Later f
+pub opened_later : (f : List ℕ) (o : Opened) → open_of f ≡ Ok o → Later f
 opened_later f o e =
     let w = (opens_parts f o e).frames in
     let size = size_parts (length f) w.size in
@@ -204,16 +202,16 @@ module _ (f g : List ℕ) (s : Stripped f g) where
         kinds = sym kinds_same ∙ t.kinds;
       }
 
-  module _ (o : Opened) (e : open_of f ≡ Opening.Good o) where
-    good : open_of f ≡ Opening.Good (record_of f)
-    good = e ∙ ap Opening.Good (sym (opens_record f o e))
+  module _ (o : Opened) (e : open_of f ≡ Ok o) where
+    good : open_of f ≡ Ok (record_of f)
+    good = e ∙ ap Ok (sym (opens_record f o e))
 
-    pub copy_opens : open_of g ≡ Opening.Good (record_of g)
+    pub copy_opens : open_of g ≡ Ok (record_of g)
     unfolding file_check
     copy_opens =
         let file = (opens_parts f o e).frames in
         let (size, tail, sum, apart) = outer_checks g s.outer in
-        let frame : frame_check (length g) g g ≡ Check.Fine = frames_made (length g) g g (record {
+        let frame : frame_check (length g) g g ≡ (Ok tt) = frames_made (length g) g g (record {
           size = size;
           head = head_minor g f s.header ∙ file.head;
           tail = tail;
@@ -232,12 +230,12 @@ module _ (f g : List ℕ) (s : Stripped f g) where
     copy_answers full rooms key = look_known full rooms key g f (record_of g) (record_of f) copy_opens good known_same
 
   -- the other way: a later writer's file opens where its copy does
-  pub added_opens : Later f → open_of g ≡ Opening.Good (record_of g) → open_of f ≡ Opening.Good (record_of f)
+  pub added_opens : Later f → open_of g ≡ Ok (record_of g) → open_of f ≡ Ok (record_of f)
   unfolding file_check
   added_opens l e =
       let copy = (opens_parts g (record_of g) e).frames in
       let (size, tail, sum, apart) = outer_checks f l.outer in
-      let frame : frame_check (length f) f f ≡ Check.Fine = frames_made (length f) f f (record {
+      let frame : frame_check (length f) f f ≡ (Ok tt) = frames_made (length f) f f (record {
         size = size;
         head = sym (head_minor g f s.header) ∙ copy.head;
         tail = tail;

@@ -1,6 +1,6 @@
 -- What the calls for C tell, read back by the words of include/edge_sst.h: the library's answers, and the record of
 -- `edge_sst_open` where it is lent to a lookup.
-use Rattle.std.specs.Prelude.{◌≡◌, refl, ℕ, ◌+◌, ◌-◌, ◌^◌, ◌≤◌, ◌<◌, List, [], ◌∷◌, Bool, true, false, length, take, drop, replicate, ltb}
+use Rattle.std.specs.Prelude.{◌≡◌, refl, ℕ, ◌+◌, ◌-◌, ◌^◌, ◌≤◌, ◌<◌, List, [], ◌∷◌, Bool, true, false, length, take, drop, replicate, ltb, Ok, Option, Some, Result, None, Err}
 use Rattle.std.proofs.Common.{sym, ap, ◌∙◌, arith, append-nil, lt-ltb}
 use Rattle.base.specs.Bytes.{Bytes}
 use Rattle.base.specs.Pick.{pick}
@@ -10,30 +10,23 @@ use Rattle.codes.specs.Ids.{be_at, id_at, halves_at, id_bytes}
 use Rattle.codes.specs.Ids.Laws.{be_at_lt, halves_is, halves_back}
 use Rattle.codes.specs.Stood.{id_same}
 use Rattle.refusal.specs.declared.Refusal.{Refusal}
-use Rattle.refusal.specs.declared.Check.{Check}
 use Rattle.refusal.specs.Refusal.{number_of, place_of, beside_of, refusal_told}
 use Rattle.refusal.proofs.Laws.Refusal.{number_some, told_back}
 use Rattle.frame.specs.declared.Opened.{Opened}
-use Rattle.frame.specs.declared.Opening.{Opening}
 use Rattle.frame.specs.Open.{open_of, record_good}
 use Rattle.lookup.specs.declared.Looked.{Looked}
 use Rattle.lookup.proofs.Laws.Record.{holds}
 use Rattle.lookup.specs.Lookup.{Outcome, Rooms, refused, look_with, look_of, looked_of, partners_left, logs_left, marks_left}
 use Rattle.lookup.specs.Calls.{alone, lent}
-use Rattle.reader.specs.declared.header.HeaderRead.{HeaderRead}
 use Rattle.reader.specs.Header.{header_of}
 use Rattle.reader.proofs.Laws.Header.{header_long, header_ids}
 use Rattle.reader.proofs.Laws.Look.{with_bad, with_record, opened_holds}
-use Rattle.readout.specs.declared.ReadOut.{ReadOut}
 use Rattle.full_check.specs.Full.{full_check}
 use Rattle.summary.specs.declared.figures.Extremes.{Extremes}
-use Rattle.summary.specs.declared.Summarised.{Summarised}
 use Rattle.summary.specs.declared.figures.Summary.{Summary}
 use Rattle.summary.specs.Summary.{nothing, summarised_of}
 use Rattle.summary.specs.Promise.{EndsThere, ExtremesFit}
 use Rattle.summary.proofs.Laws.Promise.{summary_refuses, summary_there, summary_fits}
-use Rattle.write_file.specs.declared.Written.{Written}
-use Rattle.listing.specs.declared.Listed.{Listed}
 use Rattle.edge_sst_c.specs.declared.EdgeSstOpened.{EdgeSstOpened}
 use Rattle.edge_sst_c.specs.declared.look.EdgeSstLooked.{EdgeSstLooked}
 use Rattle.edge_sst_c.specs.declared.desk.EdgeSstTold.{EdgeSstTold}
@@ -43,41 +36,38 @@ use Rattle.edge_sst_c.proofs.Laws.Told.{told_good, told_refused}
 use Rattle.edge_sst_c.specs.Header.{header_told}
 use Rattle.edge_sst_c.specs.Look.{looked_told, record_lent, PartnersTold, EdgesTold}
 use Rattle.edge_sst_c.proofs.Laws.Look.{byte_small}
-use Rattle.edge_sst_c.specs.Desk.{check_told, read_told}
-use Rattle.edge_sst_c.specs.Write.{written_told}
+use Rattle.edge_sst_c.specs.Desk.{check_told, done_told}
 use Rattle.edge_sst_c.specs.SectionList.{listed_told}
 use Rattle.edge_sst_c.proofs.Laws.Refused.{opened_zero}
-use Rattle.edge_sst_c.specs.Back.{unless, looked_from, check_from, read_out_from, written_from, listed_from, header_from, extremes_from, summarised_from, EndsTold, fields_of, none, opening_from}
+use Rattle.edge_sst_c.specs.Back.{unless, looked_from, check_from, done_from, listed_from, header_from, extremes_from, summarised_from, EndsTold, fields_of, none, opening_from}
+use Rattle.frame.specs.Opening.{Opening}
+use Rattle.refusal.specs.Check.{Check}
+use Rattle.frame.specs.declared.ends.Header.{Header}
 
 unless_told : {A : Type 0} (bad : Refusal → A) (x : A) (r : Refusal) → unless bad (number_of r) (place_of r) (beside_of r) x ≡ bad r
 unless_told bad x r =
     ap (λ (t : Bool). pick t (bad (refusal_told (number_of r) (place_of r) (beside_of r))) x) (lt-ltb 0 (number_of r) (number_some r)) ∙ ap bad (told_back r)
 
-pub looked_back : (x : Looked) → looked_from (looked_told x) ≡ x
+pub looked_back : (x : Result Looked Refusal) → looked_from (looked_told x) ≡ x
 unfolding looked_told
-looked_back (Looked.Found d i c) = refl
-looked_back (Looked.Absent c) = refl
-looked_back (Looked.Refused r) = unless_told Looked.Refused (Looked.Absent 0) r
+looked_back (Ok (Looked.Found d i c)) = refl
+looked_back (Ok (Looked.Absent c)) = refl
+looked_back (Err r) = unless_told Err (Ok (Looked.Absent 0)) r
 
 pub check_back : (x : Check) → check_from (check_told x) ≡ x
 unfolding check_told
-check_back Check.Fine = refl
-check_back (Check.Bad r) = unless_told Check.Bad Check.Fine r
+check_back (Ok _) = refl
+check_back (Err r) = unless_told Err (Ok tt) r
 
-pub read_out_back : (x : ReadOut) → read_out_from (read_told x) ≡ x
-unfolding read_told
-read_out_back (ReadOut.Done n) = refl
-read_out_back (ReadOut.Refused r) = unless_told ReadOut.Refused (ReadOut.Done 0) r
+pub done_back : (x : Result ℕ Refusal) → done_from (done_told x) ≡ x
+unfolding done_told
+done_back (Ok n) = refl
+done_back (Err r) = unless_told Err (Ok 0) r
 
-pub written_back : (x : Written) → written_from (written_told x) ≡ x
-unfolding written_told
-written_back (Written.Done n) = refl
-written_back (Written.Refused r) = unless_told Written.Refused (Written.Done 0) r
-
-pub listed_back : (x : Listed) → listed_from (listed_told x) ≡ x
+pub listed_back : (x : Result ℕ Refusal) → listed_from (listed_told x) ≡ x
 unfolding listed_told
-listed_back (Listed.Done n) = refl
-listed_back (Listed.Refused r) = unless_told Listed.Refused (Listed.Done 0) r
+listed_back (Ok n) = refl
+listed_back (Err r) = unless_told Err (Ok 0) r
 
 -- ---- the header
 
@@ -94,8 +84,8 @@ id_back f by i d e =
     ∙ sym same
 
 -- no header: what is told beside a refusal
-abbrev no_header : HeaderRead
-no_header = HeaderRead.Good (record {
+abbrev no_header : Result Header Refusal
+no_header = Ok (record {
   minor = 0;
   direction = 0;
   flags = 0;
@@ -105,10 +95,10 @@ no_header = HeaderRead.Good (record {
 })
 
 -- of a file of bytes
-pub header_back : (f : List ℕ) → Bytes f → (x : HeaderRead) → header_of f ≡ x → header_from (header_told x) ≡ x
+pub header_back : (f : List ℕ) → Bytes f → (x : Result Header Refusal) → header_of f ≡ x → header_from (header_told x) ≡ x
 unfolding header_told
-header_back f by (HeaderRead.Good h) e =
-    let ids = header_ids f h e in λ i. HeaderRead.Good (record {
+header_back f by (Ok h) e =
+    let ids = header_ids f h e in λ i. Ok (record {
       minor = h.minor;
       direction = h.direction;
       flags = h.flags;
@@ -116,60 +106,64 @@ header_back f by (HeaderRead.Good h) e =
       source = id_back f by 32 h.source ids.1 i;
       destination = id_back f by 48 h.destination ids.2 i;
     })
-header_back f by (HeaderRead.Refused r) e = unless_told HeaderRead.Refused no_header r
+header_back f by (Err r) e = unless_told Err no_header r
 
 -- the ids that are told are the header's bytes
-pub header_bytes : (f : List ℕ) → Bytes f → (x : HeaderRead) → header_of f ≡ x → (header_told x).number ≡ 0
+pub header_bytes : (f : List ℕ) → Bytes f → (x : Result Header Refusal) → header_of f ≡ x → (header_told x).number ≡ 0
     → ((header_told x).edgetype ≡ part f 16 32) × ((header_told x).source ≡ part f 32 48) × ((header_told x).destination ≡ part f 48 64)
 unfolding header_told
-header_bytes f by (HeaderRead.Good h) e zero =
+header_bytes f by (Ok h) e zero =
     let ids = header_ids f h e in
     let there = header_long f h e in
     (bytes 16 h.edgetype ids.0 (omega arith), bytes 32 h.source ids.1 (omega arith), bytes 48 h.destination ids.2 (omega arith))
   where
     bytes : (i : ℕ) (d : Id) → d ≡ halves_at f i → i + 16 ≤ length f → id_bytes d ≡ part f i (i + 16)
     bytes i d q l = let len : 16 ≡ i + 16 - i = omega arith in ap id_bytes q ∙ id_same f by i l ∙ ap (λ (n : ℕ). take n (drop i f)) len
-header_bytes f by (HeaderRead.Refused r) e zero = absurd (omega (arith, number_some r))
+header_bytes f by (Err r) e zero = absurd (omega (arith, number_some r))
 
-extremes_back : (x : Extremes) → ExtremesFit x → extremes_from (extremes_told x) ≡ x
+extremes_back : (x : Option Extremes) → ExtremesFit x → extremes_from (extremes_told x) ≡ x
 unfolding extremes_told ExtremesFit
-extremes_back Extremes.None h = refl
-extremes_back (Extremes.Some a b s l) ((p, q), (u, v)) = λ i. Extremes.Some (back a p q i) (back b u v i) s l
+extremes_back None h = refl
+extremes_back (Some x) ((p, q), (u, v)) =
+    λ i. Some (record { smallestkey = back x.smallestkey p q i; largestkey = back x.largestkey u v i; smallestlog = x.smallestlog; largestlog = x.largestlog })
   where
     back : (d : Id) → d.hi < 2 ^ 64 → d.lo < 2 ^ 64 → halves_at (id_bytes d) 0 ≡ d
     back d hi lo = ap (λ (t : List ℕ). halves_at t 0) (sym (append-nil (id_bytes d))) ∙ halves_back [] [] d hi lo
 
 -- of a file of bytes
 pub summary_back : (f : List ℕ) → Bytes f → summarised_from (summary_told (summarised_of f)) ≡ summarised_of f
-unfolding summary_told
-summary_back f by =
-    let s : Summarised = summarised_of f in
-    λ i. record {
-      told = check_back s.told i;
-      summary = record {
-        keycount = s.summary.keycount;
-        edgecount = s.summary.edgecount;
-        tombstones = s.summary.tombstones;
-        largestdegree = s.summary.largestdegree;
-        extremes = extremes_back s.summary.extremes (summary_fits f by) i;
-        buckets = s.summary.buckets;
-      };
-    }
+unfolding summary_told check_told
+summary_back f by = go (summarised_of f) refl
+  where
+    go : (x : Result Summary Refusal) → summarised_of f ≡ x → summarised_from (summary_told x) ≡ x
+    go (Ok s) e = λ i. Ok (record {
+      keycount = s.keycount;
+      edgecount = s.edgecount;
+      tombstones = s.tombstones;
+      largestdegree = s.largestdegree;
+      extremes = extremes_back s.extremes (summary_fits f by s e) i;
+      buckets = s.buckets;
+    })
+    go (Err r) e = unless_told Err (Ok nothing) r
 
 -- beside a refusal all is 0
-pub summary_zeros : (f : List ℕ) (r : Refusal) → full_check f ≡ Check.Bad r
-    → summary_told (summarised_of f) ≡ figures_told (check_told (Check.Bad r)) nothing none_told
+pub summary_zeros : (f : List ℕ) (r : Refusal) → full_check f ≡ Err r
+    → summary_told (summarised_of f) ≡ figures_told (check_told (Err r)) nothing none_told
 unfolding summary_told extremes_told
 summary_zeros f r e = ap summary_told ((summary_refuses f r).1 e)
 
-ends_told : (told : EdgeSstTold) (s : Summary) → EndsThere s → (x : Extremes) → s.extremes ≡ x → EndsTold (figures_told told s (extremes_told x))
+ends_told : (told : EdgeSstTold) (s : Summary) → EndsThere s → (x : Option Extremes) → s.extremes ≡ x → EndsTold (figures_told told s (extremes_told x))
 unfolding extremes_told
-ends_told told s h Extremes.None e = record { some = λ l. absurd (h.some l e); none = λ z. (refl, refl, refl, refl, refl) }
-ends_told told s h (Extremes.Some a b p q) e = record { some = λ l. refl; none = λ z. let n : ◌≡◌ {A = ℕ} 0 1 = cc (sym e ∙ h.none z) in absurd (omega arith) }
+ends_told told s h None e = record { some = λ l. absurd (h.some l e); none = λ z. (refl, refl, refl, refl, refl) }
+ends_told told s h (Some x) e = record { some = λ l. refl; none = λ z. let n : ◌≡◌ {A = ℕ} 0 1 = cc (sym e ∙ h.none z) in absurd (omega arith) }
 
 pub summary_ends : (f : List ℕ) → EndsTold (summary_told (summarised_of f))
 unfolding summary_told
-summary_ends f = let s = summarised_of f in ends_told (check_told s.told) s.summary (summary_there f) s.summary.extremes refl
+summary_ends f = go (summarised_of f) refl
+  where
+    go : (x : Result Summary Refusal) → summarised_of f ≡ x → EndsTold (summary_told x)
+    go (Ok s) e = ends_told (check_told (Ok tt)) s (summary_there f s e) s.extremes refl
+    go (Err r) e = record { some = λ l. absurd (omega arith); none = λ z. (refl, refl, refl, refl, refl) }
 
 -- which number says what of a record
 pub fields_say : (o : Opened) (m x : ℕ) → fields_of (record_with o m x)
@@ -199,18 +193,18 @@ lent_back o h = λ i. record {
 }
 
 -- of every file that opens
-pub opened_back : (f : List ℕ) (o : Opened) → open_of f ≡ Opening.Good o → record_lent (fields_of (opened_told (open_of f))) ≡ o
+pub opened_back : (f : List ℕ) (o : Opened) → open_of f ≡ Ok o → record_lent (fields_of (opened_told (open_of f))) ≡ o
 opened_back f o e =
     let w = (opened_holds f o e).wide in
     ap (λ (c : EdgeSstOpened). record_lent (fields_of c)) (told_good (open_of f) o e) ∙ lent_back o (omega arith)
 
 pub opening_back : (f : List ℕ) (x : Opening) → open_of f ≡ x → opening_from (opened_told x) ≡ x
 unfolding opened_told
-opening_back f (Opening.Good o) e = let w = (opened_holds f o e).wide in ap Opening.Good (lent_back o (omega arith))
-opening_back f (Opening.Refused r) e = unless_told Opening.Refused (Opening.Good none) r
+opening_back f (Ok o) e = let w = (opened_holds f o e).wide in ap Ok (lent_back o (omega arith))
+opening_back f (Err r) e = unless_told Err (Ok none) r
 
 -- a lookup by it is the one-call lookup
-pub look_back : (full : Bool) (rooms : Rooms) (key : ℕ) (f : List ℕ) (o : Opened) → open_of f ≡ Opening.Good o
+pub look_back : (full : Bool) (rooms : Rooms) (key : ℕ) (f : List ℕ) (o : Opened) → open_of f ≡ Ok o
     → look_with full rooms key f (record_lent (fields_of (opened_told (open_of f)))) ≡ look_of full rooms key f
 look_back full rooms key f o e = ap (look_with full rooms key f) (opened_back f o e) ∙ with_record full rooms key f o e
 
@@ -219,7 +213,7 @@ none_bad f true e = let n = (holds f none e).narrow in absurd (omega (arith, byt
 none_bad f false e = e
 
 -- what is told of a file that does not open is no record: every lookup by it, in any file, is refused with 21
-pub unopened_back : (full : Bool) (rooms : Rooms) (key : ℕ) (f g : List ℕ) (r : Refusal) → open_of g ≡ Opening.Refused r
+pub unopened_back : (full : Bool) (rooms : Rooms) (key : ℕ) (f g : List ℕ) (r : Refusal) → open_of g ≡ Err r
     → look_with full rooms key f (record_lent (fields_of (opened_told (open_of g)))) ≡ refused Refusal.Record
 unopened_back full rooms key f g r e =
     ap (λ (c : EdgeSstOpened). look_with full rooms key f (record_lent (fields_of c))) (told_refused (open_of g) r e)

@@ -1,5 +1,5 @@
 -- What the header's call for C tells of the library's answer.
-use Rattle.std.specs.Prelude.{◌≡◌, ℕ, List, ◌++◌, drop, replicate}
+use Rattle.std.specs.Prelude.{◌≡◌, ℕ, List, ◌++◌, drop, replicate, Result, Ok, Err}
 use Rattle.std.proofs.Common.{ap, ◌∙◌, arith, append-nil}
 use Rattle.std.proofs.lemmas.List.Edits.{sets}
 use Rattle.base.specs.Over.{sets_over}
@@ -9,16 +9,15 @@ use Rattle.codes.specs.Ids.Laws.{length_id_bytes}
 use Rattle.refusal.specs.declared.Refusal.{Refusal}
 use Rattle.refusal.specs.Refusal.{number_of, place_of, beside_of}
 use Rattle.frame.specs.declared.ends.Header.{Header}
-use Rattle.reader.specs.declared.header.HeaderRead.{HeaderRead}
 use Rattle.edge_sst_c.specs.Header.{fields_told, without_fields, header_told}
 
 -- ---- laws
 
-pub header_told_lem : (x : HeaderRead) (h : Header) → x ≡ HeaderRead.Good h → header_told x ≡ fields_told h
+pub header_told_lem : (x : Result Header Refusal) (h : Header) → x ≡ Ok h → header_told x ≡ fields_told h
 unfolding header_told
 header_told_lem x h e = rw e
 
-pub header_refused : (x : HeaderRead) (r : Refusal) → x ≡ HeaderRead.Refused r → header_told x ≡ without_fields (number_of r) (place_of r) (beside_of r)
+pub header_refused : (x : Result Header Refusal) (r : Refusal) → x ≡ Err r → header_told x ≡ without_fields (number_of r) (place_of r) (beside_of r)
 unfolding header_told
 header_refused x r e = rw e
 

@@ -1,30 +1,19 @@
 -- What the section list for C tells of the library's answer, and the numbers that it leaves.
-use Rattle.std.specs.Prelude.{◌≡◌, refl, ℕ, zero, suc, ◌+◌, ◌*◌, ◌/◌, ◌≤◌, List, [], ◌∷◌, ◌++◌, length, set}
+use Rattle.std.specs.Prelude.{◌≡◌, refl, ℕ, zero, suc, ◌+◌, ◌*◌, ◌/◌, ◌≤◌, List, [], ◌∷◌, ◌++◌, length, set, Result, Ok, Err}
+use Rattle.std.specs.Result.{result_unwrap_or}
 use Rattle.std.proofs.Common.{sym, ap, ◌∙◌, zero-add, arith, length-append}
 use Rattle.std.proofs.Math.Numerals.{unary_clauses}
 use Rattle.std.proofs.lemmas.List.Edits.{sets}
 use Rattle.std.proofs.Math.Seq.{length-sets}
 use Rattle.base.specs.Over.{over, sets_append, sets_over}
 use Rattle.refusal.specs.declared.Refusal.{Refusal}
-use Rattle.refusal.specs.Refusal.{number_of, place_of, beside_of}
 use Rattle.frame.specs.declared.Row.{Row}
-use Rattle.listing.specs.declared.Listed.{Listed}
-use Rattle.listing.specs.declared.ListPlan.{ListPlan}
-use Rattle.listing.specs.List.{plan_of, row_is}
+use Rattle.listing.specs.List.{listed_of, rows_written, row_is}
 use Rattle.listing.proofs.Laws.List.{plan_fits}
 use Rattle.listing.specs.Table.{rows_to}
-use Rattle.edge_sst_c.specs.SectionList.{listed_told, numbers_of, numbered, in_numbers}
+use Rattle.edge_sst_c.specs.SectionList.{numbers_of, numbered, in_numbers}
 
 -- ---- laws
-
-pub listed_done : (x : Listed) (n : ℕ) → x ≡ Listed.Done n → record { number = 0; place = 0; beside = 0; rows = n } ≡ listed_told x
-unfolding listed_told
-listed_done x n e = sym (ap listed_told e)
-
-pub listed_refused : (x : Listed) (r : Refusal) {n p s : ℕ} → x ≡ Listed.Refused r → n ≡ number_of r → p ≡ place_of r → s ≡ beside_of r
-    → record { number = n; place = p; beside = s; rows = 0 } ≡ listed_told x
-unfolding listed_told
-listed_refused x r e a b c = (λ i. record { number = a i; place = b i; beside = c i; rows = 0 }) ∙ sym (ap listed_told e)
 
 -- seven stores in a row
 pub seven : (o : List ℕ) (i a b c d e g h : ℕ)
@@ -36,8 +25,13 @@ unfolding numbered
 length_numbered f zero o = refl
 length_numbered f (suc n) o = simp length-sets (length_numbered f n o)
 
+-- a plan's number, or 0 where it is refused
+pub written_or : (x : Result ℕ Refusal) → result_unwrap_or x 0 ≡ rows_written x
+written_or (Ok n) = refl
+written_or (Err r) = refl
+
 -- the rows that are written have room for their numbers
-pub numbers_fit : (f : List ℕ) (m : ℕ) {p : ListPlan} → p ≡ plan_of f (m / 7) → 7 * p.n ≤ m
+pub numbers_fit : (f : List ℕ) (m : ℕ) {x : Result ℕ Refusal} → x ≡ listed_of f (m / 7) → 7 * rows_written x ≤ m
 numbers_fit f m e = let h = plan_fits f (m / 7) in rw e (omega arith)
 
 pub numbered_on : (f o : List ℕ) (i : ℕ) {t u : List ℕ} {r : Row} → t ≡ numbered f i o → r ≡ row_is f i → u ≡ sets t (7 * i) (numbers_of r) → u ≡ numbered f (i + 1) o

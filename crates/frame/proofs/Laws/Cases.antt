@@ -1,13 +1,11 @@
 -- Two files held to bytes that the second program made, laid out by the definitions and opened by them; and the rules of the section table
 -- at their edges.
-use Rattle.std.specs.Prelude.{◌≡◌, refl, List, [], ◌∷◌, ◌++◌, true, false, not, ℕ, zero, suc, ◌-◌, ◌^◌, replicate}
+use Rattle.std.specs.Prelude.{◌≡◌, refl, List, [], ◌∷◌, ◌++◌, true, false, not, ℕ, zero, suc, ◌-◌, ◌^◌, replicate, Ok, Err}
 use Rattle.codes.specs.Little.{le_at, le_bytes}
 use Rattle.codes.specs.Ids.{be_at, id_at, halves_at}
 use Rattle.xxh3_spec.specs.Xxh3.{mul, fold, xorshift, rotl, swap, rrmxmx, secret, of1to3, of4to8, of9to16, small, pair, mix_step, inward, of17to128, onward, of129to240, lane, accumulate, stir, scramble, turn, run_on, start_lanes, twice, merge, finish, large, xxh3}
 use Rattle.refusal.specs.declared.Refusal.{Refusal}
-use Rattle.refusal.specs.declared.Check.{Check}
 use Rattle.frame.specs.declared.Row.{Row}
-use Rattle.frame.specs.declared.Opening.{Opening}
 use Rattle.frame.specs.declared.ends.Header.{Header}
 use Rattle.frame.specs.Kind as kind
 use Rattle.frame.specs.Frame.{row_at, rows_from, end_from, rows_of, end_of, has, repeated, section_of, all, kinds_good, table_good, each_row, ranges, sizes_good, presence_good, counts_good, body_of, header_in, size_check, head_check, tail_check, sum_check, ends_check, rows_check, footer_check, shape_check, frame_check, codec_check, range_check}
@@ -15,6 +13,7 @@ use Rattle.frame.specs.Open.{record_from, record_of, framed_from, framed_of, kno
 use Rattle.frame.specs.Given.{early_numbers, opening_numbers}
 use Rattle.frame.specs.Reserved.{kind_at}
 use Rattle.frame.specs.Layout.{Section, raw_section, head_bytes, payload, entry, entries, body_bytes, trailer, lay_out}
+use Rattle.refusal.specs.Check.{Check}
 
 -- the three ids of both headers
 abbrev pub ids : List ℕ
@@ -82,7 +81,7 @@ unfolding heading_only one_edge le_at le_bytes head_bytes payload entry entries 
 laid_out = (refl, refl)
 
 pub opened :
-    (open_of heading_only ≡ Opening.Good (record {
+    (open_of heading_only ≡ Ok (record {
       keys = record { start = 64; len = 0 };
       offsets = record { start = 64; len = 3 };
       partners = record { start = 67; len = 0 };
@@ -95,7 +94,7 @@ pub opened :
       edgecount = 0;
       bits = 24;
     }))
-    × (open_of one_edge ≡ Opening.Good (record {
+    × (open_of one_edge ≡ Ok (record {
       keys = record { start = 64; len = 16 };
       offsets = record { start = 80; len = 6 };
       partners = record { start = 86; len = 11 };
@@ -133,12 +132,12 @@ abbrev entry_of : ℕ → ℕ → Row
 entry_of codec start = record { kind = kind.keys; codec = codec; namelen = 0; nameat = 0; start = start; len = 1; sum = 0 }
 
 pub first_place :
-    (codec_check (entry_of 1 64 ∷ entry_of 0 65 ∷ entry_of 1 66 ∷ []) ≡ Check.Bad (Refusal.Codec 0))
-    × (codec_check (entry_of 0 64 ∷ entry_of 0 65 ∷ entry_of 1 66 ∷ []) ≡ Check.Bad (Refusal.Codec 2))
-    × (range_check 67 (entry_of 0 63 ∷ entry_of 0 65 ∷ entry_of 0 67 ∷ []) ≡ Check.Bad (Refusal.Range 0))
-    × (range_check 67 (entry_of 0 64 ∷ entry_of 0 65 ∷ entry_of 0 67 ∷ []) ≡ Check.Bad (Refusal.Range 2))
-    × (range_check 67 (entry_of 0 64 ∷ entry_of 0 64 ∷ entry_of 0 66 ∷ []) ≡ Check.Bad (Refusal.Range 1))
-    × (range_check 67 (entry_of 0 64 ∷ entry_of 0 65 ∷ entry_of 0 66 ∷ []) ≡ Check.Fine)
+    (codec_check (entry_of 1 64 ∷ entry_of 0 65 ∷ entry_of 1 66 ∷ []) ≡ Err (Refusal.Codec 0))
+    × (codec_check (entry_of 0 64 ∷ entry_of 0 65 ∷ entry_of 1 66 ∷ []) ≡ Err (Refusal.Codec 2))
+    × (range_check 67 (entry_of 0 63 ∷ entry_of 0 65 ∷ entry_of 0 67 ∷ []) ≡ Err (Refusal.Range 0))
+    × (range_check 67 (entry_of 0 64 ∷ entry_of 0 65 ∷ entry_of 0 67 ∷ []) ≡ Err (Refusal.Range 2))
+    × (range_check 67 (entry_of 0 64 ∷ entry_of 0 64 ∷ entry_of 0 66 ∷ []) ≡ Err (Refusal.Range 1))
+    × (range_check 67 (entry_of 0 64 ∷ entry_of 0 65 ∷ entry_of 0 66 ∷ []) ≡ (Ok tt))
 unfolding each_row ranges
 first_place = (refl, refl, refl, refl, refl, refl)
 
@@ -203,37 +202,37 @@ abbrev lastly : ℕ → Check
 lastly k = rules 64 (bare 1 ∷ bare 2 ∷ bare 3 ∷ bare 4 ∷ bare k ∷ [])
 
 pub one_more :
-    (firstly 0 ≡ Check.Fine) × (firstly 7 ≡ Check.Bad (Refusal.Reserved 0)) × (firstly 0x00FF ≡ Check.Bad (Refusal.Reserved 0)) × (firstly 0x0100 ≡ Check.Fine) × (firstly 0x0101 ≡ Check.Fine)
-    × (amid 0 ≡ Check.Fine) × (amid 8 ≡ Check.Bad (Refusal.Reserved 2)) × (amid 0x00FF ≡ Check.Bad (Refusal.Reserved 2)) × (amid 0x0100 ≡ Check.Fine) × (amid 0x0200 ≡ Check.Fine)
-    × (lastly 0 ≡ Check.Fine) × (lastly 7 ≡ Check.Bad (Refusal.Reserved 4)) × (lastly 0x00FF ≡ Check.Bad (Refusal.Reserved 4)) × (lastly 0x01FF ≡ Check.Fine) × (lastly 0xFFFF ≡ Check.Fine)
+    (firstly 0 ≡ (Ok tt)) × (firstly 7 ≡ Err (Refusal.Reserved 0)) × (firstly 0x00FF ≡ Err (Refusal.Reserved 0)) × (firstly 0x0100 ≡ (Ok tt)) × (firstly 0x0101 ≡ (Ok tt))
+    × (amid 0 ≡ (Ok tt)) × (amid 8 ≡ Err (Refusal.Reserved 2)) × (amid 0x00FF ≡ Err (Refusal.Reserved 2)) × (amid 0x0100 ≡ (Ok tt)) × (amid 0x0200 ≡ (Ok tt))
+    × (lastly 0 ≡ (Ok tt)) × (lastly 7 ≡ Err (Refusal.Reserved 4)) × (lastly 0x00FF ≡ Err (Refusal.Reserved 4)) × (lastly 0x01FF ≡ (Ok tt)) × (lastly 0xFFFF ≡ (Ok tt))
 unfolding le_at le_bytes entry entries body_bytes row_at rows_from end_from rows_of end_of has repeated all kinds_good table_good each_row ranges rows_check
 one_more = (refl, refl, refl, refl, refl, refl, refl, refl, refl, refl, refl, refl, refl, refl, refl)
 
 pub in_order :
     -- the first of two, also of one kind; every entry counts; whatever its codec and its name
-    (rules 64 (bare 1 ∷ bare 0x00FF ∷ bare 2 ∷ bare 3 ∷ bare 4 ∷ bare 7 ∷ []) ≡ Check.Bad (Refusal.Reserved 1))
-    × (rules 64 (bare 0 ∷ bare 1 ∷ bare 2 ∷ bare 0x0100 ∷ bare 3 ∷ bare 4 ∷ bare 5 ∷ bare 0xFFFF ∷ bare 6 ∷ bare 7 ∷ bare 7 ∷ []) ≡ Check.Bad (Refusal.Reserved 9))
-    × (rules 64 (bare 1 ∷ bare 2 ∷ bare 3 ∷ empty_section 0x0080 9 (104 ∷ 105 ∷ []) ∷ bare 4 ∷ []) ≡ Check.Bad (Refusal.Reserved 3))
-    × (rules 64 (empty_section 7 0 (104 ∷ []) ∷ bare 1 ∷ bare 2 ∷ bare 3 ∷ bare 4 ∷ []) ≡ Check.Bad (Refusal.Reserved 0))
+    (rules 64 (bare 1 ∷ bare 0x00FF ∷ bare 2 ∷ bare 3 ∷ bare 4 ∷ bare 7 ∷ []) ≡ Err (Refusal.Reserved 1))
+    × (rules 64 (bare 0 ∷ bare 1 ∷ bare 2 ∷ bare 0x0100 ∷ bare 3 ∷ bare 4 ∷ bare 5 ∷ bare 0xFFFF ∷ bare 6 ∷ bare 7 ∷ bare 7 ∷ []) ≡ Err (Refusal.Reserved 9))
+    × (rules 64 (bare 1 ∷ bare 2 ∷ bare 3 ∷ empty_section 0x0080 9 (104 ∷ 105 ∷ []) ∷ bare 4 ∷ []) ≡ Err (Refusal.Reserved 3))
+    × (rules 64 (empty_section 7 0 (104 ∷ []) ∷ bare 1 ∷ bare 2 ∷ bare 3 ∷ bare 4 ∷ []) ≡ Err (Refusal.Reserved 0))
     -- 10 before it and after it; alone it is told
-    × (rules 64 (empty_section 1 1 [] ∷ bare 2 ∷ bare 3 ∷ bare 4 ∷ bare 7 ∷ []) ≡ Check.Bad (Refusal.Reserved 4))
-    × (rules 64 (bare 7 ∷ empty_section 1 1 [] ∷ bare 2 ∷ bare 3 ∷ bare 4 ∷ []) ≡ Check.Bad (Refusal.Reserved 0))
-    × (rules 64 (bare 0 ∷ empty_section 1 1 [] ∷ bare 2 ∷ bare 3 ∷ bare 4 ∷ []) ≡ Check.Bad (Refusal.Codec 1))
+    × (rules 64 (empty_section 1 1 [] ∷ bare 2 ∷ bare 3 ∷ bare 4 ∷ bare 7 ∷ []) ≡ Err (Refusal.Reserved 4))
+    × (rules 64 (bare 7 ∷ empty_section 1 1 [] ∷ bare 2 ∷ bare 3 ∷ bare 4 ∷ []) ≡ Err (Refusal.Reserved 0))
+    × (rules 64 (bare 0 ∷ empty_section 1 1 [] ∷ bare 2 ∷ bare 3 ∷ bare 4 ∷ []) ≡ Err (Refusal.Codec 1))
     -- 11 at the first entry, which ends after the limit; 10 comes before it
-    × (rules 63 (bare 1 ∷ bare 2 ∷ bare 3 ∷ bare 4 ∷ bare 7 ∷ []) ≡ Check.Bad (Refusal.Reserved 4))
-    × (rules 63 (bare 1 ∷ bare 2 ∷ bare 3 ∷ bare 4 ∷ bare 0x0101 ∷ []) ≡ Check.Bad (Refusal.Range 0))
-    × (rules 63 (bare 1 ∷ bare 2 ∷ bare 3 ∷ empty_section 4 1 [] ∷ []) ≡ Check.Bad (Refusal.Codec 3))
+    × (rules 63 (bare 1 ∷ bare 2 ∷ bare 3 ∷ bare 4 ∷ bare 7 ∷ []) ≡ Err (Refusal.Reserved 4))
+    × (rules 63 (bare 1 ∷ bare 2 ∷ bare 3 ∷ bare 4 ∷ bare 0x0101 ∷ []) ≡ Err (Refusal.Range 0))
+    × (rules 63 (bare 1 ∷ bare 2 ∷ bare 3 ∷ empty_section 4 1 [] ∷ []) ≡ Err (Refusal.Codec 3))
     -- 9: a kind is missing; one is doubled after it; one that is read has a name; its own name is too long; the body is not filled
-    × (rules 64 (bare 7 ∷ bare 1 ∷ bare 2 ∷ bare 3 ∷ []) ≡ Check.Bad Refusal.Table)
-    × (rules 64 (bare 7 ∷ bare 1 ∷ bare 2 ∷ bare 3 ∷ bare 4 ∷ bare 4 ∷ []) ≡ Check.Bad Refusal.Table)
-    × (rules 64 (bare 7 ∷ bare 1 ∷ bare 2 ∷ bare 3 ∷ empty_section 4 0 (104 ∷ []) ∷ []) ≡ Check.Bad Refusal.Table)
-    × (rules 64 (empty_section 7 0 (replicate 64 104) ∷ bare 1 ∷ bare 2 ∷ bare 3 ∷ bare 4 ∷ []) ≡ Check.Bad Refusal.Table)
-    × (rules 64 (empty_section 7 0 (replicate 63 104) ∷ bare 1 ∷ bare 2 ∷ bare 3 ∷ bare 4 ∷ []) ≡ Check.Bad (Refusal.Reserved 0))
-    × (rows_check 64 (body_bytes (bare 7 ∷ bare 1 ∷ bare 2 ∷ bare 3 ∷ bare 4 ∷ []) 0 0 24 ++ (0 ∷ [])) ≡ Check.Bad Refusal.Table)
+    × (rules 64 (bare 7 ∷ bare 1 ∷ bare 2 ∷ bare 3 ∷ []) ≡ Err Refusal.Table)
+    × (rules 64 (bare 7 ∷ bare 1 ∷ bare 2 ∷ bare 3 ∷ bare 4 ∷ bare 4 ∷ []) ≡ Err Refusal.Table)
+    × (rules 64 (bare 7 ∷ bare 1 ∷ bare 2 ∷ bare 3 ∷ empty_section 4 0 (104 ∷ []) ∷ []) ≡ Err Refusal.Table)
+    × (rules 64 (empty_section 7 0 (replicate 64 104) ∷ bare 1 ∷ bare 2 ∷ bare 3 ∷ bare 4 ∷ []) ≡ Err Refusal.Table)
+    × (rules 64 (empty_section 7 0 (replicate 63 104) ∷ bare 1 ∷ bare 2 ∷ bare 3 ∷ bare 4 ∷ []) ≡ Err (Refusal.Reserved 0))
+    × (rows_check 64 (body_bytes (bare 7 ∷ bare 1 ∷ bare 2 ∷ bare 3 ∷ bare 4 ∷ []) 0 0 24 ++ (0 ∷ [])) ≡ Err Refusal.Table)
     -- the start index: once, without a name, raw
-    × (rules 64 (bare 0x0200 ∷ bare 1 ∷ bare 2 ∷ bare 0x0200 ∷ bare 3 ∷ bare 4 ∷ []) ≡ Check.Bad Refusal.Table)
-    × (rules 64 (bare 1 ∷ bare 2 ∷ bare 3 ∷ bare 4 ∷ empty_section 0x0200 0 (104 ∷ []) ∷ []) ≡ Check.Bad Refusal.Table)
-    × (rules 64 (bare 1 ∷ bare 2 ∷ empty_section 0x0200 1 [] ∷ bare 3 ∷ bare 4 ∷ []) ≡ Check.Bad (Refusal.Codec 2))
+    × (rules 64 (bare 0x0200 ∷ bare 1 ∷ bare 2 ∷ bare 0x0200 ∷ bare 3 ∷ bare 4 ∷ []) ≡ Err Refusal.Table)
+    × (rules 64 (bare 1 ∷ bare 2 ∷ bare 3 ∷ bare 4 ∷ empty_section 0x0200 0 (104 ∷ []) ∷ []) ≡ Err Refusal.Table)
+    × (rules 64 (bare 1 ∷ bare 2 ∷ empty_section 0x0200 1 [] ∷ bare 3 ∷ bare 4 ∷ []) ≡ Err (Refusal.Codec 2))
 unfolding le_at le_bytes entry entries body_bytes row_at rows_from end_from rows_of end_of has repeated all kinds_good table_good each_row ranges rows_check
 in_order = (refl, refl, refl, refl, refl, refl, refl, refl, refl, refl, refl, refl, refl, refl, refl, refl, refl, refl, refl)
 
@@ -247,17 +246,17 @@ abbrev starts37 : ℕ → ℕ → ℕ → ℕ → Check
 starts37 a b c d = starts_check (words (a ∷ b ∷ c ∷ d ∷ [])) 3 5
 
 pub starts_cases :
-    (starts37 0 1 3 5 ≡ Check.Fine) × (starts37 0 1 2 5 ≡ Check.Fine) × (starts37 0 3 4 5 ≡ Check.Fine)
+    (starts37 0 1 3 5 ≡ (Ok tt)) × (starts37 0 1 2 5 ≡ (Ok tt)) × (starts37 0 3 4 5 ≡ (Ok tt))
     -- the first is not 0
-    × (starts37 1 2 3 5 ≡ Check.Bad (Refusal.Start 0)) × (starts37 (2 ^ 64 - 1) 1 3 5 ≡ Check.Bad (Refusal.Start 0)) × (starts37 0x0100 1 1 1 ≡ Check.Bad (Refusal.Start 0))
+    × (starts37 1 2 3 5 ≡ Err (Refusal.Start 0)) × (starts37 (2 ^ 64 - 1) 1 3 5 ≡ Err (Refusal.Start 0)) × (starts37 0x0100 1 1 1 ≡ Err (Refusal.Start 0))
     -- one is not above the one before
-    × (starts37 0 0 3 5 ≡ Check.Bad (Refusal.Start 1)) × (starts37 0 3 3 5 ≡ Check.Bad (Refusal.Start 2)) × (starts37 0 3 2 5 ≡ Check.Bad (Refusal.Start 2)) × (starts37 0 1 5 5 ≡ Check.Bad (Refusal.Start 3)) × (starts37 0 1 3 2 ≡ Check.Bad (Refusal.Start 3))
+    × (starts37 0 0 3 5 ≡ Err (Refusal.Start 1)) × (starts37 0 3 3 5 ≡ Err (Refusal.Start 2)) × (starts37 0 3 2 5 ≡ Err (Refusal.Start 2)) × (starts37 0 1 5 5 ≡ Err (Refusal.Start 3)) × (starts37 0 1 3 2 ≡ Err (Refusal.Start 3))
     -- the last is not the edge count
-    × (starts37 0 1 3 4 ≡ Check.Bad (Refusal.Start 3)) × (starts37 0 1 3 6 ≡ Check.Bad (Refusal.Start 3))
+    × (starts37 0 1 3 4 ≡ Err (Refusal.Start 3)) × (starts37 0 1 3 6 ≡ Err (Refusal.Start 3))
     -- "A middle entry above the edge count is told at the next one that does not rise, or at n"
-    × (starts37 0 6 3 5 ≡ Check.Bad (Refusal.Start 2)) × (starts37 0 6 7 5 ≡ Check.Bad (Refusal.Start 3)) × (starts37 0 6 7 8 ≡ Check.Bad (Refusal.Start 3)) × (starts37 0 1 (2 ^ 64 - 2) (2 ^ 64 - 1) ≡ Check.Bad (Refusal.Start 3))
+    × (starts37 0 6 3 5 ≡ Err (Refusal.Start 2)) × (starts37 0 6 7 5 ≡ Err (Refusal.Start 3)) × (starts37 0 6 7 8 ≡ Err (Refusal.Start 3)) × (starts37 0 1 (2 ^ 64 - 2) (2 ^ 64 - 1) ≡ Err (Refusal.Start 3))
     -- "No keys: one entry, 0"
-    × (starts_check (words (0 ∷ [])) 0 0 ≡ Check.Fine) × (starts_check (words (1 ∷ [])) 0 0 ≡ Check.Bad (Refusal.Start 0)) × (starts_check (words (0 ∷ [])) 0 1 ≡ Check.Bad (Refusal.Start 0))
+    × (starts_check (words (0 ∷ [])) 0 0 ≡ (Ok tt)) × (starts_check (words (1 ∷ [])) 0 0 ≡ Err (Refusal.Start 0)) × (starts_check (words (0 ∷ [])) 0 1 ≡ Err (Refusal.Start 0))
 unfolding le_at le_bytes offset_good rising_from
 starts_cases = (refl, refl, refl, refl, refl, refl, refl, refl, refl, refl, refl, refl, refl, refl, refl, refl, refl, refl, refl, refl)
 
@@ -277,7 +276,7 @@ with_starts minor bytes more =
     })
 
 pub starts_opened :
-    (open_of (with_starts 0 (words (0 ∷ 1 ∷ [])) []) ≡ Opening.Good (record {
+    (open_of (with_starts 0 (words (0 ∷ 1 ∷ [])) []) ≡ Ok (record {
       keys = record { start = 80; len = 16 };
       offsets = record { start = 96; len = 6 };
       partners = record { start = 102; len = 11 };
@@ -290,15 +289,15 @@ pub starts_opened :
       edgecount = 1;
       bits = 24;
     }))
-    × (file_check (with_starts 200 (words (0 ∷ 1 ∷ [])) []) ≡ Check.Fine)
-    × (file_check (with_starts 1 (words (1 ∷ 1 ∷ [])) []) ≡ Check.Bad (Refusal.Start 0))
-    × (file_check (with_starts 1 (words (0 ∷ 2 ∷ [])) []) ≡ Check.Bad (Refusal.Start 1))
+    × (file_check (with_starts 200 (words (0 ∷ 1 ∷ [])) []) ≡ (Ok tt))
+    × (file_check (with_starts 1 (words (1 ∷ 1 ∷ [])) []) ≡ Err (Refusal.Start 0))
+    × (file_check (with_starts 1 (words (0 ∷ 2 ∷ [])) []) ≡ Err (Refusal.Start 1))
     -- a length that the counts do not give is 12; 15 comes before 37
-    × (file_check (with_starts 1 (words (0 ∷ [])) []) ≡ Check.Bad Refusal.Counts)
-    × (file_check (with_starts 1 (words (0 ∷ 1 ∷ []) ++ (0 ∷ [])) []) ≡ Check.Bad Refusal.Counts)
-    × (file_check (with_starts 1 (words (0 ∷ 1 ∷ 1 ∷ [])) []) ≡ Check.Bad Refusal.Counts)
+    × (file_check (with_starts 1 (words (0 ∷ [])) []) ≡ Err Refusal.Counts)
+    × (file_check (with_starts 1 (words (0 ∷ 1 ∷ []) ++ (0 ∷ [])) []) ≡ Err Refusal.Counts)
+    × (file_check (with_starts 1 (words (0 ∷ 1 ∷ 1 ∷ [])) []) ≡ Err Refusal.Counts)
     -- beside tombstones and fences, each with its own range
-    × (open_of (with_starts 1 (words (0 ∷ 1 ∷ [])) (raw_section kind.tombstones (0 ∷ []) ∷ raw_section kind.fences (1 ∷ 0 ∷ 0 ∷ 0 ∷ 1 ∷ 0 ∷ 0 ∷ 0 ∷ 0 ∷ 0 ∷ 0 ∷ 0 ∷ 0 ∷ 0 ∷ 0 ∷ 1 ∷ 0 ∷ 0 ∷ 0 ∷ 0 ∷ 0 ∷ 0 ∷ 0 ∷ 2 ∷ words (0 ∷ [])) ∷ [])) ≡ Opening.Good (record {
+    × (open_of (with_starts 1 (words (0 ∷ 1 ∷ [])) (raw_section kind.tombstones (0 ∷ []) ∷ raw_section kind.fences (1 ∷ 0 ∷ 0 ∷ 0 ∷ 1 ∷ 0 ∷ 0 ∷ 0 ∷ 0 ∷ 0 ∷ 0 ∷ 0 ∷ 0 ∷ 0 ∷ 0 ∷ 1 ∷ 0 ∷ 0 ∷ 0 ∷ 0 ∷ 0 ∷ 0 ∷ 0 ∷ 2 ∷ words (0 ∷ [])) ∷ [])) ≡ Ok (record {
       keys = record { start = 80; len = 16 };
       offsets = record { start = 96; len = 6 };
       partners = record { start = 102; len = 11 };
@@ -311,6 +310,6 @@ pub starts_opened :
       edgecount = 1;
       bits = 24;
     }))
-    × (file_check (with_starts 1 (words (0 ∷ 2 ∷ [])) (raw_section kind.fences [] ∷ [])) ≡ Check.Bad Refusal.Fences)
+    × (file_check (with_starts 1 (words (0 ∷ 2 ∷ [])) (raw_section kind.fences [] ∷ [])) ≡ Err Refusal.Fences)
 unfolding le_at le_bytes head_bytes payload entry entries body_bytes trailer lay_out be_at id_at mul fold xorshift rotl swap rrmxmx secret of1to3 of4to8 of9to16 small pair mix_step inward of17to128 onward of129to240 lane accumulate stir scramble turn run_on start_lanes twice merge finish large xxh3 row_at rows_from end_from rows_of end_of has repeated section_of all kinds_good table_good each_row ranges sizes_good presence_good counts_good body_of size_check head_check tail_check sum_check ends_check rows_check footer_check shape_check frame_check record_from record_of framed_from framed_of known_of keys_from offset_good rising_from fence_good fences_from fences_good content_check file_check opening open_of
 starts_opened = (refl, refl, refl, refl, refl, refl, refl, refl, refl)

@@ -1,6 +1,6 @@
 -- The laws of the section table and of rules 9 to 12 and 36, and what the rules do not see: sections of unknown kinds and the minor
 -- version.
-use Rattle.std.specs.Prelude.{◌≡◌, ◌↔◌, ◌⊎◌, List, [], ◌∷◌, Bool, true, false, not, ◌&&◌, ◌||◌, length, leb, eqb}
+use Rattle.std.specs.Prelude.{◌≡◌, ◌↔◌, ◌⊎◌, List, [], ◌∷◌, Bool, true, false, not, ◌&&◌, ◌||◌, length, leb, eqb, Ok, Err}
 use Rattle.std.proofs.Math.Path.{refl, ap}
 use Rattle.std.proofs.Common.{sym, subst, ◌∙◌, inl, inr, ⊎_elim, eqb-true, leb-true, eq-eqb, ne_eqb, le-leb, lt-ltb, ltb-true}
 use Prim.Native.Nat.{ℕ, zero, suc, ◌+◌, ◌-◌, ◌*◌, ◌≤◌, ◌<◌}
@@ -13,7 +13,6 @@ use Rattle.codes.specs.Little.{le_bytes}
 use Rattle.codes.specs.Little.Laws.{le_at_same}
 use Rattle.codes.specs.Ids.Laws.{halves_same}
 use Rattle.refusal.specs.declared.Refusal.{Refusal}
-use Rattle.refusal.specs.declared.Check.{Check}
 use Rattle.refusal.proofs.Laws.Check.{pick_fine, fine_pick, and_parts, and_both}
 use Rattle.frame.specs.declared.Row.{Row}
 use Rattle.frame.specs.declared.Range.{Range}
@@ -102,7 +101,7 @@ end_none b count i k h = let d : count - k ≡ 0 = omega arith in rw d
 -- ---- ranges
 
 -- where the ranges are good, each section ends at the limit or before
-pub section_within : (limit q : ℕ) (rs : List Row) (floor k : ℕ) → ranges limit rs floor k ≡ Check.Fine → (section_of q rs).start + (section_of q rs).len ≤ limit
+pub section_within : (limit q : ℕ) (rs : List Row) (floor k : ℕ) → ranges limit rs floor k ≡ (Ok tt) → (section_of q rs).start + (section_of q rs).len ≤ limit
 unfolding ranges section_of
 section_within limit q [] floor k e = omega arith
 section_within limit q (r ∷ rs) floor k e =
@@ -120,7 +119,7 @@ unfoldable pub Apart : ℕ → ℕ → List Row → Type 0
 Apart limit floor [] = Unit {0}
 Apart limit floor (r ∷ rs) = (floor ≤ r.start) × (r.start + r.len ≤ limit) × Apart limit (r.start + r.len) rs
 
-pub ranges_parts : (limit floor : ℕ) (rs : List Row) (k : ℕ) → ranges limit rs floor k ≡ Check.Fine → Apart limit floor rs
+pub ranges_parts : (limit floor : ℕ) (rs : List Row) (k : ℕ) → ranges limit rs floor k ≡ (Ok tt) → Apart limit floor rs
 unfolding ranges Apart
 ranges_parts limit floor [] k e = tt
 ranges_parts limit floor (r ∷ rs) k e =
@@ -128,12 +127,12 @@ ranges_parts limit floor (r ∷ rs) k e =
     let w = and_parts (leb floor r.start) (leb (r.start + r.len) limit) p.0 in
     (leb-true _ _ w.0, leb-true _ _ w.1, ranges_parts limit (r.start + r.len) rs (k + 1) p.1)
 
-pub ranges_made : (limit floor : ℕ) (rs : List Row) (k : ℕ) → Apart limit floor rs → ranges limit rs floor k ≡ Check.Fine
+pub ranges_made : (limit floor : ℕ) (rs : List Row) (k : ℕ) → Apart limit floor rs → ranges limit rs floor k ≡ (Ok tt)
 unfolding ranges Apart
 ranges_made limit floor [] k a = refl
 ranges_made limit floor (r ∷ rs) k a =
     let good : range_good limit floor r ≡ true = and_both (le-leb floor r.start a.0) (le-leb (r.start + r.len) limit a.1) in
-    fine_pick (Check.Bad (Refusal.Range k)) good (ranges_made limit (r.start + r.len) rs (k + 1) a.2)
+    fine_pick (Err (Refusal.Range k)) good (ranges_made limit (r.start + r.len) rs (k + 1) a.2)
 
 -- ---- what is asked of each entry
 
@@ -142,11 +141,11 @@ module _ (good : Row → Bool) (told : ℕ → Refusal) where
   unfolding each_row
   each_good r rs k e = rw e
 
-  pub each_bad : (r : Row) (rs : List Row) (k : ℕ) → good r ≡ false → each_row good told (r ∷ rs) k ≡ Check.Bad (told k)
+  pub each_bad : (r : Row) (rs : List Row) (k : ℕ) → good r ≡ false → each_row good told (r ∷ rs) k ≡ Err (told k)
   unfolding each_row
   each_bad r rs k e = rw e
 
-  pub each_parts : (r : Row) (rs : List Row) (k : ℕ) → each_row good told (r ∷ rs) k ≡ Check.Fine → (good r ≡ true) × (each_row good told rs (k + 1) ≡ Check.Fine)
+  pub each_parts : (r : Row) (rs : List Row) (k : ℕ) → each_row good told (r ∷ rs) k ≡ (Ok tt) → (good r ≡ true) × (each_row good told rs (k + 1) ≡ (Ok tt))
   unfolding each_row
   each_parts r rs k e = pick_fine (good r) (each_row good told rs (k + 1)) (told k) e
 

@@ -1,5 +1,5 @@
 -- Which refusals opening gives: the order of checks in parts, and the numbers of each.
-use Rattle.std.specs.Prelude.{◌≡◌, Bool, true, not, ◌&&◌, ◌||◌, length, get_or, ltb, eqb}
+use Rattle.std.specs.Prelude.{◌≡◌, Bool, true, not, ◌&&◌, ◌||◌, length, get_or, ltb, eqb, Ok, Err}
 use Rattle.std.proofs.Math.Path.{refl, ap}
 use Rattle.std.proofs.Common.{sym, ◌∙◌}
 use Prim.Native.Nat.{ℕ, zero, suc, ◌+◌, ◌-◌, ◌/◌}
@@ -7,9 +7,8 @@ use mathlib.Core.List.{List, [], ◌∷◌, ◌++◌}
 use Rattle.codes.specs.Little.{le_at}
 use Rattle.xxh3_spec.specs.Xxh3.{xxh3}
 use Rattle.refusal.specs.declared.Refusal.{Refusal}
-use Rattle.refusal.specs.declared.Check.{Check}
 use Rattle.refusal.specs.Refusal.{number_of}
-use Rattle.refusal.specs.Check.{◌⊳◌, refuse}
+use Rattle.refusal.specs.Check.{◌⊳◌, refuse, Check}
 use Rattle.refusal.proofs.Laws.Check.{then_assoc, listed, Numbers, numbers_fine, numbers_bad, numbers_refuse, numbers_then, numbers_pick, numbers_more}
 use Rattle.frame.specs.declared.Row.{Row}
 use Rattle.frame.specs.Kind as kind
@@ -144,15 +143,15 @@ module _ (f : List ℕ) where
 
 -- parts of the order, one after the other
 flat : (a b c d e r x y z w v : Check) → ((a ⊳ ((b ⊳ c) ⊳ (d ⊳ (e ⊳ (r ⊳ (x ⊳ y)))))) ⊳ z) ⊳ (w ⊳ v) ≡ a ⊳ (b ⊳ ((c ⊳ (d ⊳ e)) ⊳ (r ⊳ ((x ⊳ (y ⊳ (z ⊳ w))) ⊳ v))))
-flat (Check.Bad q) b c d e r x y z w v = refl
-flat Check.Fine (Check.Bad q) c d e r x y z w v = refl
-flat Check.Fine Check.Fine (Check.Bad q) d e r x y z w v = refl
-flat Check.Fine Check.Fine Check.Fine (Check.Bad q) e r x y z w v = refl
-flat Check.Fine Check.Fine Check.Fine Check.Fine (Check.Bad q) r x y z w v = refl
-flat Check.Fine Check.Fine Check.Fine Check.Fine Check.Fine (Check.Bad q) x y z w v = refl
-flat Check.Fine Check.Fine Check.Fine Check.Fine Check.Fine Check.Fine (Check.Bad q) y z w v = refl
-flat Check.Fine Check.Fine Check.Fine Check.Fine Check.Fine Check.Fine Check.Fine (Check.Bad q) z w v = refl
-flat Check.Fine Check.Fine Check.Fine Check.Fine Check.Fine Check.Fine Check.Fine Check.Fine z w v = sym (then_assoc z w v)
+flat (Err q) b c d e r x y z w v = refl
+flat (Ok _) (Err q) c d e r x y z w v = refl
+flat (Ok _) (Ok _) (Err q) d e r x y z w v = refl
+flat (Ok _) (Ok _) (Ok _) (Err q) e r x y z w v = refl
+flat (Ok _) (Ok _) (Ok _) (Ok _) (Err q) r x y z w v = refl
+flat (Ok _) (Ok _) (Ok _) (Ok _) (Ok _) (Err q) x y z w v = refl
+flat (Ok _) (Ok _) (Ok _) (Ok _) (Ok _) (Ok _) (Err q) y z w v = refl
+flat (Ok _) (Ok _) (Ok _) (Ok _) (Ok _) (Ok _) (Ok _) (Err q) z w v = refl
+flat (Ok _) (Ok _) (Ok _) (Ok _) (Ok _) (Ok _) (Ok _) (Ok _) z w v = sym (then_assoc z w v)
 
 module _ (f : List ℕ) where
   pub chain : file_check f ≡ size_check (length f) ⊳ head_check f ⊳ foot f ⊳ reserved_check (rows f) ⊳ remaining f ⊳ starts_rule f
@@ -171,11 +170,11 @@ module _ (f : List ℕ) where
   chain_starts = chain ∙ regroup (size_check (length f)) (head_check f) (foot f) (reserved_check (rows f)) (remaining f) (starts_rule f)
     where
       regroup : (a b c d e v : Check) → a ⊳ (b ⊳ (c ⊳ (d ⊳ (e ⊳ v)))) ≡ (a ⊳ (b ⊳ (c ⊳ (d ⊳ e)))) ⊳ v
-      regroup (Check.Bad q) b c d e v = refl
-      regroup Check.Fine (Check.Bad q) c d e v = refl
-      regroup Check.Fine Check.Fine (Check.Bad q) d e v = refl
-      regroup Check.Fine Check.Fine Check.Fine (Check.Bad q) e v = refl
-      regroup Check.Fine Check.Fine Check.Fine Check.Fine e v = refl
+      regroup (Err q) b c d e v = refl
+      regroup (Ok _) (Err q) c d e v = refl
+      regroup (Ok _) (Ok _) (Err q) d e v = refl
+      regroup (Ok _) (Ok _) (Ok _) (Err q) e v = refl
+      regroup (Ok _) (Ok _) (Ok _) (Ok _) e v = refl
 
   pub others_numbers : Numbers (early_numbers ++ (36 ∷ remaining_numbers)) other_rules
   unfolding other_rules

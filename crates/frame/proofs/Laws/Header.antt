@@ -1,5 +1,5 @@
 -- Another major version and an unassigned flag bit: when opening gives 3 and 5, exactly.
-use Rattle.std.specs.Prelude.{◌≡◌, ◌↔◌, true, length, get_or}
+use Rattle.std.specs.Prelude.{◌≡◌, ◌↔◌, true, length, get_or, Ok, Err}
 use Rattle.std.proofs.Math.Path.{refl}
 use Rattle.std.proofs.Common.{sym, ap, ◌∙◌, div-one, pow-suc, mul_comm, zero-lt-suc, arith}
 use Prim.Native.Nat.{ℕ, zero, suc, ◌+◌, ◌*◌, ◌/◌, ◌%◌, ◌^◌, ◌≤◌, ◌<◌}
@@ -12,9 +12,8 @@ use Rattle.base.specs.Bytes.{Bytes}
 use Rattle.codes.specs.Little.{le_at}
 use Rattle.codes.specs.Little.Laws.{le_at_lt}
 use Rattle.refusal.specs.declared.Refusal.{Refusal}
-use Rattle.refusal.specs.declared.Check.{Check}
 use Rattle.refusal.specs.Refusal.{number_of}
-use Rattle.refusal.specs.Check.{◌⊳◌, refuse}
+use Rattle.refusal.specs.Check.{◌⊳◌, refuse, Check}
 use Rattle.refusal.proofs.Laws.Check.{fine_parts, by_first, by_second, refuse_bad, refuse_fine, refuse_own, listed, none_listed, Numbers, numbers_refuse, numbers_then, numbers_more, not_given}
 use Rattle.frame.specs.Kind as kind
 use Rattle.frame.specs.Frame.{flag, flags_of, size_check, head_check, reserved_check}
@@ -34,7 +33,7 @@ module _ (f : List ℕ) where
       (numbers_then after_numbers _ _ (numbers_more (36 ∷ []) after_numbers refl (reserved_numbers f)) (numbers_more rest_numbers after_numbers refl (rest_numbers_lem f)))
 
   -- the header's refusal is opening's exactly if the size is right
-  head_first : (r : Refusal) → listed (number_of r) head_numbers ≡ true → (file_check f ≡ Check.Bad r) ↔ ((size_check (length f) ≡ Check.Fine) × (head_check f ≡ Check.Bad r))
+  head_first : (r : Refusal) → listed (number_of r) head_numbers ≡ true → (file_check f ≡ Err r) ↔ ((size_check (length f) ≡ (Ok tt)) × (head_check f ≡ Err r))
   head_first r h =
       let a = by_second (size_check (length f)) _ r (not_given (1 ∷ []) (size_numbers (length f)) r (none_listed head_numbers (1 ∷ []) (number_of r) refl h)) in
       let b = by_first (head_check f) _ r (not_given after_numbers after_numbers_lem r (none_listed head_numbers after_numbers (number_of r) refl h)) in
@@ -85,23 +84,23 @@ module _ (f : List ℕ) where
   flags_rule = refuse Refusal.Flags (more_flags f)
 
   -- where 5 passes, bits 0 to 3 alone are set
-  pub flags_few : head_check f ≡ Check.Fine → flags_of f ≤ 15
+  pub flags_few : head_check f ≡ (Ok tt) → flags_of f ≤ 15
   unfolding head_check
   flags_few e =
       let a = fine_parts magic_rule (major_rule ⊳ (size_rule ⊳ flags_rule)) e in
       let b = fine_parts major_rule (size_rule ⊳ flags_rule) a.1 in
       ltb-false 15 (flags_of f) ((refuse_fine Refusal.Flags (more_flags f)).0 (fine_parts size_rule flags_rule b.1).1)
 
-  begins : size_check (length f) ≡ Check.Fine → magic_rule ≡ Check.Fine → Begins f
+  begins : size_check (length f) ≡ (Ok tt) → magic_rule ≡ (Ok tt) → Begins f
   begins s m =
       let z = size_parts (length f) s in
       record { low = z.0; high = z.1; magic = eqb-true _ _ (not-false _ ((refuse_fine Refusal.Magic (other_magic f)).0 m)) }
 
-  begun : Begins f → (size_check (length f) ≡ Check.Fine) × (magic_rule ≡ Check.Fine)
+  begun : Begins f → (size_check (length f) ≡ (Ok tt)) × (magic_rule ≡ (Ok tt))
   begun b = (size_made (length f) b.low b.high, (refuse_fine Refusal.Magic (other_magic f)).1 (ap not (eq-eqb (le_at f 0 8) kind.magic b.magic)))
 
   -- 3, exactly
-  pub major_exactly : (file_check f ≡ Check.Bad Refusal.Major) ↔ OtherMajor f
+  pub major_exactly : (file_check f ≡ Err Refusal.Major) ↔ OtherMajor f
   unfolding head_check
   major_exactly =
       let first = head_first f Refusal.Major refl in
@@ -119,7 +118,7 @@ module _ (f : List ℕ) where
       )
 
   -- 5, exactly, of a file of bytes
-  pub flags_exactly : Bytes f → (file_check f ≡ Check.Bad Refusal.Flags) ↔ UnassignedFlag f
+  pub flags_exactly : Bytes f → (file_check f ≡ Err Refusal.Flags) ↔ UnassignedFlag f
   unfolding head_check
   flags_exactly by =
       let first = head_first f Refusal.Flags refl in

@@ -1,6 +1,6 @@
 -- Opening taken apart and put together: a file opens exactly if each rule is fine.
 use Rattle.std.proofs.Math.Path.{◌≡◌, ap}
-use Rattle.std.specs.Prelude.{refl, ◌↔◌, ℕ, ◌+◌, ◌-◌, ◌/◌, ◌^◌, ◌≤◌, List, [], Bool, true, false, not, ◌&&◌, ◌||◌, length, ltb, leb}
+use Rattle.std.specs.Prelude.{refl, ◌↔◌, ℕ, ◌+◌, ◌-◌, ◌/◌, ◌^◌, ◌≤◌, List, [], Bool, true, false, not, ◌&&◌, ◌||◌, length, ltb, leb, Ok, Err}
 use Rattle.std.proofs.Common.{◌∙◌, arith}
 use Rattle.std.proofs.Math.Dec.{eqb}
 use borrow.Author.Tests.{ltb-false, leb-true, eqb-true, le-leb, le-ltb, eq-eqb}
@@ -9,14 +9,11 @@ use Rattle.base.specs.Over.{length_part}
 use Rattle.codes.specs.Little.{le_at}
 use Rattle.xxh3_spec.specs.Xxh3.{xxh3}
 use Rattle.refusal.specs.declared.Refusal.{Refusal}
-use Rattle.refusal.specs.declared.Check.{Check}
-use Rattle.refusal.specs.Check.{◌⊳◌, refuse}
+use Rattle.refusal.specs.Check.{◌⊳◌, refuse, Check}
 use Rattle.refusal.proofs.Laws.Check.{fine_parts, fine_both, then_assoc, good_parts, good_fine, either_parts, and_parts, and_both}
 use Rattle.frame.specs.declared.Range.{Range}
 use Rattle.frame.specs.declared.Opened.{Opened}
 use Rattle.frame.specs.declared.Framed.{Framed}
-use Rattle.frame.specs.declared.Framing.{Framing}
-use Rattle.frame.specs.declared.Opening.{Opening}
 use Rattle.frame.specs.Kind as kind
 use Rattle.frame.specs.Frame.{rows_of, section_of, width_good, sizes_good, counts_good, flags_of, foot_len, body_of, record_of, framed_from, framed_of, size_check, head_check, tail_check, sum_check, table_check, reserved_check, codec_check, counts_check, ends_check, rows_check, footer_check, shape_check, frame_check}
 use Rattle.frame.proofs.Laws.Frame.{table_parts, table_made, section_within}
@@ -24,7 +21,7 @@ use Rattle.frame.specs.Open.{known_of, bytes_at, inside, options_inside, record_
 use Rattle.frame.specs.Open.Laws.{FramesBy, Frames}
 
 module _ (size : ℕ) (h t : List ℕ) where
-  pub frames_parts : frame_check size h t ≡ Check.Fine → FramesBy size h t
+  pub frames_parts : frame_check size h t ≡ (Ok tt) → FramesBy size h t
   unfolding frame_check shape_check ends_check footer_check rows_check
   frames_parts e =
       let a = fine_parts (shape_check size h t) _ e in
@@ -55,48 +52,48 @@ module _ (size : ℕ) (h t : List ℕ) where
       ∙ ap (λ (c : Check). size_check size ⊳ c) (then_assoc (ends_check size h t) (footer_check size t) (counts_check (flags_of h) (framed_of t)))
 
   -- what 2 to 7 say of the footer's length
-  pub ends_parts : ends_check size h t ≡ Check.Fine → tail_check size t ≡ Check.Fine
+  pub ends_parts : ends_check size h t ≡ (Ok tt) → tail_check size t ≡ (Ok tt)
   unfolding ends_check
   ends_parts e = (fine_parts (head_check h) (tail_check size t) e).1
 
-  pub frames_made : FramesBy size h t → frame_check size h t ≡ Check.Fine
+  pub frames_made : FramesBy size h t → frame_check size h t ≡ (Ok tt)
   unfolding frame_check shape_check ends_check footer_check rows_check
   frames_made s =
-      let rows : rows_check (size - foot_len t) (body_of t) ≡ Check.Fine = fine_both (good_fine Refusal.Table (table_made (body_of t) s.table)) (fine_both s.unreserved (fine_both s.raw s.apart)) in
+      let rows : rows_check (size - foot_len t) (body_of t) ≡ (Ok tt) = fine_both (good_fine Refusal.Table (table_made (body_of t) s.table)) (fine_both s.unreserved (fine_both s.raw s.apart)) in
       fine_both (fine_both s.size (fine_both (fine_both s.head s.tail) (fine_both s.sum rows))) (good_fine Refusal.Counts s.counts)
 
 -- the size and the footer's length, as numbers
-pub size_parts : (n : ℕ) → size_check n ≡ Check.Fine → (84 ≤ n) × (n ≤ kind.most_bytes)
+pub size_parts : (n : ℕ) → size_check n ≡ (Ok tt) → (84 ≤ n) × (n ≤ kind.most_bytes)
 unfolding size_check
 size_parts n e = let a = either_parts Refusal.Size (ltb n 84) (ltb (2 ^ 30) n) e in (ltb-false n 84 a.0, ltb-false (2 ^ 30) n a.1)
 
-pub tail_parts : (n : ℕ) (t : List ℕ) → tail_check n t ≡ Check.Fine → (kind.least_footer ≤ foot_len t) × (foot_len t ≤ n - kind.header_size)
+pub tail_parts : (n : ℕ) (t : List ℕ) → tail_check n t ≡ (Ok tt) → (kind.least_footer ≤ foot_len t) × (foot_len t ≤ n - kind.header_size)
 unfolding tail_check
 tail_parts n t e =
     let p = fine_parts (refuse Refusal.TailMagic (not (eqb (le_at t (length t - 8) 8) kind.magic))) _ e in
     let a = either_parts Refusal.FooterLength (ltb (foot_len t) kind.least_footer) (ltb (n - kind.header_size) (foot_len t)) p.1 in
     (ltb-false (foot_len t) kind.least_footer a.0, ltb-false (n - kind.header_size) (foot_len t) a.1)
 
-pub tail_magic : (n : ℕ) (t : List ℕ) → tail_check n t ≡ Check.Fine → le_at t (length t - 8) 8 ≡ kind.magic
+pub tail_magic : (n : ℕ) (t : List ℕ) → tail_check n t ≡ (Ok tt) → le_at t (length t - 8) 8 ≡ kind.magic
 unfolding tail_check
 tail_magic n t e =
     let magic : Bool = eqb (le_at t (length t - 8) 8) kind.magic in
     eqb-true _ _ (good_parts Refusal.TailMagic magic (fine_parts (refuse Refusal.TailMagic (not magic)) _ e).0)
 
-pub sum_parts : (t : List ℕ) → sum_check t ≡ Check.Fine → xxh3 (body_of t) ≡ le_at t (length t - 20) 8
+pub sum_parts : (t : List ℕ) → sum_check t ≡ (Ok tt) → xxh3 (body_of t) ≡ le_at t (length t - 20) 8
 unfolding sum_check
 sum_parts t e = eqb-true _ _ (good_parts Refusal.FooterSum (eqb (xxh3 (body_of t)) (le_at t (length t - 20) 8)) e)
 
 -- rules 1, 6 and 7, and 8, from the numbers
-pub size_made : (n : ℕ) → 84 ≤ n → n ≤ 2 ^ 30 → size_check n ≡ Check.Fine
+pub size_made : (n : ℕ) → 84 ≤ n → n ≤ 2 ^ 30 → size_check n ≡ (Ok tt)
 unfolding size_check
 size_made n a b = rw (le-ltb n 84 a, le-ltb (2 ^ 30) n b)
 
-pub tail_made : (n : ℕ) (t : List ℕ) → le_at t (length t - 8) 8 ≡ kind.magic → kind.least_footer ≤ foot_len t → foot_len t ≤ n - kind.header_size → tail_check n t ≡ Check.Fine
+pub tail_made : (n : ℕ) (t : List ℕ) → le_at t (length t - 8) 8 ≡ kind.magic → kind.least_footer ≤ foot_len t → foot_len t ≤ n - kind.header_size → tail_check n t ≡ (Ok tt)
 unfolding tail_check
 tail_made n t m a b = rw (eq-eqb (le_at t (length t - 8) 8) kind.magic m, le-ltb (foot_len t) kind.least_footer a, le-ltb (n - kind.header_size) (foot_len t) b)
 
-pub sum_made : (t : List ℕ) → xxh3 (body_of t) ≡ le_at t (length t - 20) 8 → sum_check t ≡ Check.Fine
+pub sum_made : (t : List ℕ) → xxh3 (body_of t) ≡ le_at t (length t - 20) 8 → sum_check t ≡ (Ok tt)
 unfolding sum_check
 sum_made t e = rw (eq-eqb (xxh3 (body_of t)) (le_at t (length t - 20) 8) e)
 
@@ -246,21 +243,21 @@ module _ (size : ℕ) (o : Opened) where
 
 pub record Opens (f : List ℕ) : Type 0 where
   pub frames : Frames f
-  pub keys : keys_from ((record_of f).keycount - 1) (bytes_at f (record_of f).keys) 1 ≡ Check.Fine
-  pub offsets : offsets_check (bytes_at f (record_of f).offsets) ((record_of f).bits / 8) (record_of f).keycount (length (bytes_at f (record_of f).partners)) ≡ Check.Fine
+  pub keys : keys_from ((record_of f).keycount - 1) (bytes_at f (record_of f).keys) 1 ≡ (Ok tt)
+  pub offsets : offsets_check (bytes_at f (record_of f).offsets) ((record_of f).bits / 8) (record_of f).keycount (length (bytes_at f (record_of f).partners)) ≡ (Ok tt)
   pub fences : ((framed_of f).fenced && not (fences_good (bytes_at f (framed_of f).fences) (bytes_at f (record_of f).keys) (record_of f).keycount)) ≡ false
-  pub starts : (record_of f).indexed ≡ true → starts_check (bytes_at f (record_of f).starts) (record_of f).keycount (record_of f).edgecount ≡ Check.Fine
+  pub starts : (record_of f).indexed ≡ true → starts_check (bytes_at f (record_of f).starts) (record_of f).keycount (record_of f).edgecount ≡ (Ok tt)
 
-not_refused : (r : Refusal) (t : Bool) → refuse r t ≡ Check.Fine → t ≡ false
+not_refused : (r : Refusal) (t : Bool) → refuse r t ≡ (Ok tt) → t ≡ false
 not_refused r true e = let z : ◌≡◌ {A = ℕ} 0 1 = cc in absurd (omega arith)
 not_refused r false e = refl
 
-opening_good : (c : Check) (o p : Opened) → opening c p ≡ Opening.Good o → (c ≡ Check.Fine) × (p ≡ o)
+opening_good : (c : Check) (o p : Opened) → opening c p ≡ Ok o → (c ≡ (Ok tt)) × (p ≡ o)
 unfolding opening
-opening_good Check.Fine o p e = (refl, cc)
-opening_good (Check.Bad r) o p e = let z : ◌≡◌ {A = ℕ} 0 1 = cc in absurd (omega arith)
+opening_good (Ok _) o p e = (refl, cc)
+opening_good (Err r) o p e = let z : ◌≡◌ {A = ℕ} 0 1 = cc in absurd (omega arith)
 
-pub opens_parts : (f : List ℕ) (o : Opened) → open_of f ≡ Opening.Good o → Opens f
+pub opens_parts : (f : List ℕ) (o : Opened) → open_of f ≡ Ok o → Opens f
 unfolding open_of file_check content_check known_of
 opens_parts f o e =
     let a = fine_parts (frame_check (length f) f f) _ (opening_good (file_check f) o (record_of f) e).0 in
@@ -276,47 +273,47 @@ opens_parts f o e =
     }
 
 -- the record that opening gives is the file's
-pub opens_record : (f : List ℕ) (o : Opened) → open_of f ≡ Opening.Good o → record_of f ≡ o
+pub opens_record : (f : List ℕ) (o : Opened) → open_of f ≡ Ok o → record_of f ≡ o
 unfolding open_of
 opens_record f o e = (opening_good (file_check f) o (record_of f) e).1
 
-pub opens_made : (f : List ℕ) → Opens f → open_of f ≡ Opening.Good (record_of f)
+pub opens_made : (f : List ℕ) → Opens f → open_of f ≡ Ok (record_of f)
 unfolding open_of file_check content_check known_of opening
 opens_made f s =
-    let fences : refuse Refusal.Fences ((framed_of f).fenced && not (fences_good (bytes_at f (framed_of f).fences) (bytes_at f (record_of f).keys) (record_of f).keycount)) ≡ Check.Fine =
+    let fences : refuse Refusal.Fences ((framed_of f).fenced && not (fences_good (bytes_at f (framed_of f).fences) (bytes_at f (record_of f).keys) (record_of f).keycount)) ≡ (Ok tt) =
     ap (refuse Refusal.Fences) s.fences in
-    let good : file_check f ≡ Check.Fine = fine_both (frames_made (length f) f f s.frames) (fine_both s.keys (fine_both s.offsets (fine_both fences (starts (record_of f).indexed refl)))) in
+    let good : file_check f ≡ (Ok tt) = fine_both (frames_made (length f) f f s.frames) (fine_both s.keys (fine_both s.offsets (fine_both fences (starts (record_of f).indexed refl)))) in
     ap (λ (t : Check). opening t (record_of f)) good
   where
-    starts : (b : Bool) → (record_of f).indexed ≡ b → pick b (starts_check (pick b (bytes_at f (record_of f).starts) []) (record_of f).keycount (record_of f).edgecount) Check.Fine ≡ Check.Fine
+    starts : (b : Bool) → (record_of f).indexed ≡ b → pick b (starts_check (pick b (bytes_at f (record_of f).starts) []) (record_of f).keycount (record_of f).edgecount) (Ok tt) ≡ (Ok tt)
     starts true m = s.starts m
     starts false m = refl
 
 -- what opening answers, exactly: the record where no rule is broken, or the first refusal
 module _ (f : List ℕ) where
-  pub opens_fine : (open_of f ≡ Opening.Good (record_of f)) ↔ (file_check f ≡ Check.Fine)
+  pub opens_fine : (open_of f ≡ Ok (record_of f)) ↔ (file_check f ≡ (Ok tt))
   unfolding open_of opening
   opens_fine = (λ e. (opening_good (file_check f) (record_of f) (record_of f) e).0, λ e. rw e)
 
-  pub opens_refused : (r : Refusal) → (open_of f ≡ Opening.Refused r) ↔ (file_check f ≡ Check.Bad r)
+  pub opens_refused : (r : Refusal) → (open_of f ≡ Err r) ↔ (file_check f ≡ Err r)
   unfolding open_of opening
   opens_refused r = (go (file_check f), λ e. rw e)
     where
-      go : (c : Check) → opening c (record_of f) ≡ Opening.Refused r → c ≡ Check.Bad r
-      go Check.Fine e = let z : ◌≡◌ {A = ℕ} 0 1 = cc in absurd (omega arith)
-      go (Check.Bad q) e = let same : q ≡ r = cc in ap Check.Bad same
+      go : (c : Check) → opening c (record_of f) ≡ Err r → c ≡ Err r
+      go (Ok _) e = let z : ◌≡◌ {A = ℕ} 0 1 = cc in absurd (omega arith)
+      go (Err q) e = let same : q ≡ r = cc in ap Err same
 
 -- ---- a chain of rules, one after the other, as the code goes through them
 
 module _ (b : Check) (x : Framed) where
-  pub framing_bad : {a : Check} (r : Refusal) → a ≡ Check.Bad r → framing (a ⊳ b) x ≡ Framing.Refused r
+  pub framing_bad : {a : Check} (r : Refusal) → a ≡ Err r → framing (a ⊳ b) x ≡ Err r
   unfolding framing
   framing_bad r e = rw e
 
-  pub framing_on : {a : Check} → a ≡ Check.Fine → framing (a ⊳ b) x ≡ framing b x
+  pub framing_on : {a : Check} → a ≡ (Ok tt) → framing (a ⊳ b) x ≡ framing b x
   framing_on e = rw e
 
-  pub framing_refused : (r : Refusal) {t : Bool} → t ≡ false → framing (refuse r (not t) ⊳ b) x ≡ Framing.Refused r
+  pub framing_refused : (r : Refusal) {t : Bool} → t ≡ false → framing (refuse r (not t) ⊳ b) x ≡ Err r
   unfolding framing
   framing_refused r e = rw e
 
@@ -324,20 +321,20 @@ module _ (b : Check) (x : Framed) where
   framing_good r e = rw e
 
 -- and the answer taken apart
-pub good_framing : (c : Check) (y x : Framed) → framing c y ≡ Framing.Good x → (c ≡ Check.Fine) × (y ≡ x)
+pub good_framing : (c : Check) (y x : Framed) → framing c y ≡ Ok x → (c ≡ (Ok tt)) × (y ≡ x)
 unfolding framing
-good_framing Check.Fine y x e = (refl, cc)
-good_framing (Check.Bad r) y x e = let z : ◌≡◌ {A = ℕ} 0 1 = cc in absurd (omega arith)
+good_framing (Ok _) y x e = (refl, cc)
+good_framing (Err r) y x e = let z : ◌≡◌ {A = ℕ} 0 1 = cc in absurd (omega arith)
 
-pub refused_framing : (c : Check) (y : Framed) (r : Refusal) → framing c y ≡ Framing.Refused r → c ≡ Check.Bad r
+pub refused_framing : (c : Check) (y : Framed) (r : Refusal) → framing c y ≡ Err r → c ≡ Err r
 unfolding framing
-refused_framing Check.Fine y r e = let z : ◌≡◌ {A = ℕ} 0 1 = cc in absurd (omega arith)
-refused_framing (Check.Bad q) y r e = cc
+refused_framing (Ok _) y r e = let z : ◌≡◌ {A = ℕ} 0 1 = cc in absurd (omega arith)
+refused_framing (Err q) y r e = cc
 
-pub framing_last : (r : Refusal) (x : Framed) {t : Bool} → t ≡ true → framing (refuse r (not t)) x ≡ Framing.Good x
+pub framing_last : (r : Refusal) (x : Framed) {t : Bool} → t ≡ true → framing (refuse r (not t)) x ≡ Ok x
 unfolding framing
 framing_last r x e = rw e
 
-pub framing_lost : (r : Refusal) (x : Framed) {t : Bool} → t ≡ false → framing (refuse r (not t)) x ≡ Framing.Refused r
+pub framing_lost : (r : Refusal) (x : Framed) {t : Bool} → t ≡ false → framing (refuse r (not t)) x ≡ Err r
 unfolding framing
 framing_lost r x e = rw e

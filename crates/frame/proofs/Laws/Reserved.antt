@@ -1,13 +1,12 @@
 -- Sections of the reserved range: when opening gives 36, exactly, and that no file with such a section opens.
-use Rattle.std.specs.Prelude.{◌≡◌, ◌↔◌, ◌⊎◌, ℕ, zero, suc, ◌+◌, ◌<◌, List, [], ◌∷◌, Bool, true, false, not, length, eqb}
+use Rattle.std.specs.Prelude.{◌≡◌, ◌↔◌, ◌⊎◌, ℕ, zero, suc, ◌+◌, ◌<◌, List, [], ◌∷◌, Bool, true, false, not, length, eqb, Ok, Err}
 use Rattle.std.proofs.Math.Path.{refl, sym, ap}
 use Rattle.std.proofs.Common.{subst, ◌∙◌, inl, inr, ⊎_elim, zero-add, arith, ne_eqb}
 use Rattle.std.proofs.Math.Decide.{dec_lt}
 use Rattle.codes.specs.Little.{le_at}
 use Rattle.refusal.specs.declared.Refusal.{Refusal}
-use Rattle.refusal.specs.declared.Check.{Check}
 use Rattle.refusal.specs.Refusal.{number_of}
-use Rattle.refusal.specs.Check.{◌⊳◌}
+use Rattle.refusal.specs.Check.{◌⊳◌, Check}
 use Rattle.refusal.proofs.Laws.Check.{fine_parts, fine_both, bad_then, then_assoc, by_first, by_second, good_parts, good_fine, listed, Numbers, numbers_then, numbers_more, not_given}
 use Rattle.frame.specs.declared.Row.{Row}
 use Rattle.frame.specs.Kind as kind
@@ -49,15 +48,15 @@ kind_found r e = (reserved_kinds r.kind).0 (go (kind.reserved r.kind) e)
 -- rows the first of which is entry k: there is no such entry and they are fine, or there is a first and it is told
 abbrev Scanned : List Row → ℕ → Type 0
 Scanned rs k =
-    (((i : ℕ) → ReservedKind (kind_at rs i) → ⊥) × (rule rs k ≡ Check.Fine)) ⊎ ((j : ℕ) × FirstReserved rs j × (rule rs k ≡ Check.Bad (Refusal.Reserved (k + j))))
+    (((i : ℕ) → ReservedKind (kind_at rs i) → ⊥) × (rule rs k ≡ (Ok tt))) ⊎ ((j : ℕ) × FirstReserved rs j × (rule rs k ≡ Err (Refusal.Reserved (k + j))))
 
 scan : (rs : List Row) (k : ℕ) → Scanned rs k
 unfolding kind_at each_row
 scan [] k = inl (λ i h. omega (arith, h.0), refl)
 scan (r ∷ rs) k = go (kind_good r) refl (scan rs (k + 1))
   where
-    at : {i j : ℕ} → i ≡ j → Check.Bad (Refusal.Reserved i) ≡ Check.Bad (Refusal.Reserved j)
-    at e = ap (λ (i : ℕ). Check.Bad (Refusal.Reserved i)) e
+    at : {i j : ℕ} → i ≡ j → ◌≡◌ {A = Check} (Err (Refusal.Reserved i)) (Err (Refusal.Reserved j))
+    at e = ap (λ (i : ℕ). Err (Refusal.Reserved i)) e
 
     none : kind_good r ≡ true → ((i : ℕ) → ReservedKind (kind_at rs i) → ⊥) → (i : ℕ) → ReservedKind (kind_at (r ∷ rs) i) → ⊥
     none g n zero h = kind_good_lem r g h
@@ -86,12 +85,12 @@ first_once rs i j s t =
 
 -- rule 36: entry j is told exactly if it is the first
 module _ (rs : List Row) where
-  rule_told : (j : ℕ) → (reserved_check rs ≡ Check.Bad (Refusal.Reserved j)) ↔ FirstReserved rs j
+  rule_told : (j : ℕ) → (reserved_check rs ≡ Err (Refusal.Reserved j)) ↔ FirstReserved rs j
   rule_told j = (
     λ e. ⊎_elim (λ x. let z : ◌≡◌ {A = ℕ} 0 1 = cc (x.1, e) in absurd (omega arith)) (λ x. let same : 0 + x.0 ≡ j = cc (x.2, e) in subst (FirstReserved rs) (sym (zero-add x.0) ∙ same) x.1) (scan rs 0),
     λ t.
         ⊎_elim (λ x. absurd (x.0 j t.here))
-        (λ x. x.2 ∙ ap (λ (i : ℕ). Check.Bad (Refusal.Reserved i)) (zero-add x.0 ∙ first_once rs x.0 j x.1 t)) (scan rs 0),
+        (λ x. x.2 ∙ ap (λ (i : ℕ). Err (Refusal.Reserved i)) (zero-add x.0 ∙ first_once rs x.0 j x.1 t)) (scan rs 0),
   )
 
   -- a first, of any
@@ -135,7 +134,7 @@ module _ (f : List ℕ) where
   early : Check
   early = size_check (length f) ⊳ head_check f ⊳ foot f
 
-  tabled_parts : early ≡ Check.Fine → Tabled f
+  tabled_parts : early ≡ (Ok tt) → Tabled f
   unfolding early foot
   tabled_parts e =
       let a = fine_parts (size_check (length f)) _ e in
@@ -144,7 +143,7 @@ module _ (f : List ℕ) where
       let d = fine_parts (sum_check f) _ c.1 in
       record { size = a.0; head = b.0; tail = c.0; sum = d.0; table = table_parts (body_of f) (good_parts Refusal.Table _ d.1) }
 
-  tabled_made : Tabled f → early ≡ Check.Fine
+  tabled_made : Tabled f → early ≡ (Ok tt)
   unfolding early foot
   tabled_made t = fine_both t.size (fine_both t.head (fine_both t.tail (fine_both t.sum (good_fine Refusal.Table (table_made (body_of f) t.table)))))
 
@@ -160,7 +159,7 @@ module _ (f : List ℕ) where
       chain f ∙ sym (then_assoc (size_check (length f)) (head_check f ⊳ foot f) _ ∙ ap (λ (c : Check). size_check (length f) ⊳ c) (then_assoc (head_check f) (foot f) (reserved_check (rows f) ⊳ remaining f ⊳ starts_rule f)))
 
   -- 36 at j, exactly
-  pub reserved_exactly : (j : ℕ) → (file_check f ≡ Check.Bad (Refusal.Reserved j)) ↔ ReservedAt f j
+  pub reserved_exactly : (j : ℕ) → (file_check f ≡ Err (Refusal.Reserved j)) ↔ ReservedAt f j
   reserved_exactly j =
       let a = by_second early _ (Refusal.Reserved j) (not_given early_numbers early_numbers_lem (Refusal.Reserved j) refl) in
       let b = by_first (reserved_check (rows f)) (remaining f ⊳ starts_rule f) (Refusal.Reserved j) (not_given rest_numbers (rest_numbers_lem f) (Refusal.Reserved j) refl) in (
@@ -170,12 +169,12 @@ module _ (f : List ℕ) where
 
   -- a file with a section of the range is refused: by one of rules 1 to 9, or by 36 at the first such section
   pub reserved_refused : (i : ℕ) → ReservedKind (kind_at (rows_of (body_of f)) i)
-      → (r : Refusal) × (file_check f ≡ Check.Bad r) × ((listed (number_of r) early_numbers ≡ true) ⊎ ((j : ℕ) × ReservedAt f j × (r ≡ Refusal.Reserved j)))
+      → (r : Refusal) × (file_check f ≡ Err r) × ((listed (number_of r) early_numbers ≡ true) ⊎ ((j : ℕ) × ReservedAt f j × (r ≡ Refusal.Reserved j)))
   reserved_refused i h = go early refl
     where
-      go : (c : Check) → early ≡ c → (r : Refusal) × (file_check f ≡ Check.Bad r) × ((listed (number_of r) early_numbers ≡ true) ⊎ ((j : ℕ) × ReservedAt f j × (r ≡ Refusal.Reserved j)))
-      go (Check.Bad r) e = (r, parts_order ∙ bad_then _ e, inl (early_numbers_lem r e))
-      go Check.Fine e =
+      go : (c : Check) → early ≡ c → (r : Refusal) × (file_check f ≡ Err r) × ((listed (number_of r) early_numbers ≡ true) ⊎ ((j : ℕ) × ReservedAt f j × (r ≡ Refusal.Reserved j)))
+      go (Err r) e = (r, parts_order ∙ bad_then _ e, inl (early_numbers_lem r e))
+      go (Ok tt) e =
           let (j, t) = some_first (rows f) i h in
           let at : ReservedAt f j = record { tabled = tabled_parts e; first = t } in
           (Refusal.Reserved j, (reserved_exactly j).1 at, inr (j, at, refl))

@@ -1,7 +1,7 @@
 -- The start index: when opening gives 37, exactly.
 use Rattle.std.proofs.Math.Path.{◌≡◌, refl}
 use Rattle.std.proofs.Common.{sym, ap, ◌∙◌}
-use Rattle.std.specs.Prelude.{◌↔◌, ◌⊎◌, List, [], ◌∷◌, ◌++◌, Bool, not, ◌&&◌, ◌||◌, eqb, ltb, leb}
+use Rattle.std.specs.Prelude.{◌↔◌, ◌⊎◌, List, [], ◌∷◌, ◌++◌, Bool, not, ◌&&◌, ◌||◌, eqb, ltb, leb, Ok, Err}
 use Rattle.std.proofs.Math.Logic.{inl, inr, ⊎_elim}
 use Prim.Native.Nat.{ℕ, zero, suc, ◌+◌, ◌-◌, ◌*◌, ◌/◌, ◌≤◌, ◌<◌}
 use Rattle.std.proofs.Math.Decide.{ℕ_discrete, dec_lt}
@@ -11,7 +11,6 @@ use borrow.Author.Tests.{eqb-true, eqb-false, ltb-true, eq-eqb, ne_eqb, lt-ltb}
 use Rattle.base.specs.Pick.{pick}
 use Rattle.codes.specs.Little.{le_at}
 use Rattle.refusal.specs.declared.Refusal.{Refusal}
-use Rattle.refusal.specs.declared.Check.{Check}
 use Rattle.refusal.proofs.Laws.Check.{by_second, and_parts, not_given}
 use Rattle.frame.specs.Kind as kind
 use Rattle.frame.specs.declared.Row.{Row}
@@ -22,6 +21,7 @@ use Rattle.frame.proofs.Laws.Frame.{ReadKind, fixed_kinds}
 use Rattle.frame.specs.Open.{known_of, bytes_at, start_at, offset_good, rising_from, starts_check, file_check}
 use Rattle.frame.specs.Given.{early_numbers, remaining_numbers}
 use Rattle.frame.proofs.Laws.Given.{starts_rule, other_rules, others_numbers, chain_starts}
+use Rattle.refusal.specs.Check.{Check}
 
 -- "key count plus one u64": where entry i stands, and how many bytes there are, for every count
 pub entry_bytes : (s : List ℕ) (i : ℕ) → start_at s i ≡ le_at s (i * 8) 8
@@ -163,13 +163,13 @@ module _ (s : List ℕ) (n e : ℕ) where
   abbrev rule : ℕ → ℕ → Check
   rule d b = rising_from Refusal.Start d s kind.start_size n e b
 
-  told_from : (d b i : ℕ) → (rule d b ≡ Check.Bad (Refusal.Start i)) ↔ FirstFrom d b i
+  told_from : (d b i : ℕ) → (rule d b ≡ Err (Refusal.Start i)) ↔ FirstFrom d b i
   unfolding rising_from
   told_from zero b i = (λ q. let z : ◌≡◌ {A = ℕ} 0 1 = cc in absurd (omega arith), λ t. let l = t.least in let h = t.within in absurd (omega arith))
   told_from (suc d) b i = (there (good b) refl (told_from d (b + 1) i).0, λ t. back t (told_from d (b + 1) i).1)
     where
-      there : (x : Bool) → good b ≡ x → (rule d (b + 1) ≡ Check.Bad (Refusal.Start i) → FirstFrom d (b + 1) i)
-          → pick x (rule d (b + 1)) (Check.Bad (Refusal.Start b)) ≡ Check.Bad (Refusal.Start i) → FirstFrom (suc d) b i
+      there : (x : Bool) → good b ≡ x → (rule d (b + 1) ≡ Err (Refusal.Start i) → FirstFrom d (b + 1) i)
+          → pick x (rule d (b + 1)) (Err (Refusal.Start b)) ≡ Err (Refusal.Start i) → FirstFrom (suc d) b i
       there true g ih q =
           let t = ih q in
           let least = t.least in
@@ -191,10 +191,10 @@ module _ (s : List ℕ) (n e : ℕ) where
             before = λ j l h. absurd (omega arith);
           }
 
-      back : FirstFrom (suc d) b i → (FirstFrom d (b + 1) i → rule d (b + 1) ≡ Check.Bad (Refusal.Start i)) → pick (good b) (rule d (b + 1)) (Check.Bad (Refusal.Start b)) ≡ Check.Bad (Refusal.Start i)
+      back : FirstFrom (suc d) b i → (FirstFrom d (b + 1) i → rule d (b + 1) ≡ Err (Refusal.Start i)) → pick (good b) (rule d (b + 1)) (Err (Refusal.Start b)) ≡ Err (Refusal.Start i)
       back t ih = go (good b) refl
         where
-          go : (x : Bool) → good b ≡ x → pick x (rule d (b + 1)) (Check.Bad (Refusal.Start b)) ≡ Check.Bad (Refusal.Start i)
+          go : (x : Bool) → good b ≡ x → pick x (rule d (b + 1)) (Err (Refusal.Start b)) ≡ Err (Refusal.Start i)
           go true g =
               let least = t.least in
               let within = t.within in
@@ -205,12 +205,12 @@ module _ (s : List ℕ) (n e : ℕ) where
           go false g =
               let least = t.least in
               elim (ℕ_discrete b i) [
-                | yes z ↦ ap (λ (x : ℕ). Check.Bad (Refusal.Start x)) z
+                | yes z ↦ ap (λ (x : ℕ). Err (Refusal.Start x)) z
                 | no z ↦ absurd (t.before b (omega arith) (omega arith) (bad_entry b g))
               ]
 
   -- rule 37: entry i is told exactly if it is the first bad one
-  pub starts_told : (i : ℕ) → (starts_check s n e ≡ Check.Bad (Refusal.Start i)) ↔ FirstEntry i
+  pub starts_told : (i : ℕ) → (starts_check s n e ≡ Err (Refusal.Start i)) ↔ FirstEntry i
   starts_told i =
       let t = told_from (n + 1) 0 i in (
         λ q. let x = t.0 q in let within = x.within in record { within = omega arith; here = x.here; before = λ j h. x.before j (omega arith) h },
@@ -221,7 +221,7 @@ module _ (s : List ℕ) (n e : ℕ) where
 
 -- "37, place the first bad entry, after 15": every other rule passes, there is a start index, and entry i is its first bad one
 pub record StartAt (f : List ℕ) (i : ℕ) : Type 0 where
-  pub others : other_rules f ≡ Check.Fine
+  pub others : other_rules f ≡ (Ok tt)
   pub there : (record_of f).indexed ≡ true
   pub first : FirstEntry (bytes_at f (record_of f).starts) (record_of f).keycount (record_of f).edgecount i
 
@@ -230,16 +230,16 @@ module _ (f : List ℕ) where
   unfolding known_of
   rule_there m = rw m
 
-  rule_needs : (i : ℕ) → starts_rule f ≡ Check.Bad (Refusal.Start i) → (record_of f).indexed ≡ true
+  rule_needs : (i : ℕ) → starts_rule f ≡ Err (Refusal.Start i) → (record_of f).indexed ≡ true
   unfolding known_of
   rule_needs i = go (record_of f).indexed
     where
-      go : (b : Bool) → pick b (starts_check (pick b (bytes_at f (record_of f).starts) []) (record_of f).keycount (record_of f).edgecount) Check.Fine ≡ Check.Bad (Refusal.Start i) → b ≡ true
+      go : (b : Bool) → pick b (starts_check (pick b (bytes_at f (record_of f).starts) []) (record_of f).keycount (record_of f).edgecount) (Ok tt) ≡ Err (Refusal.Start i) → b ≡ true
       go true q = refl
       go false q = let z : ◌≡◌ {A = ℕ} 0 1 = cc in absurd (omega arith)
 
   -- 37 at i, exactly
-  pub starts_exactly : (i : ℕ) → (file_check f ≡ Check.Bad (Refusal.Start i)) ↔ StartAt f i
+  pub starts_exactly : (i : ℕ) → (file_check f ≡ Err (Refusal.Start i)) ↔ StartAt f i
   starts_exactly i =
       let r : Refusal = Refusal.Start i in
       let a = by_second (other_rules f) (starts_rule f) r (not_given (early_numbers ++ (36 ∷ remaining_numbers)) (others_numbers f) r refl) in

@@ -1,10 +1,13 @@
--- `full_check::check` meets its contract.
+-- `check` meets its contract.
 use mathlib.Core.Path.{sym, ◌∙◌}
+use Rattle.std.proofs.lemmas.Result.{err_from_is_err_and}
 use Rattle.full_check.specs.Checked.{checked_refused, checked_fine}
 use Rattle.full_check.proofs.check.Goals as goal
 
-pub returns-in-Refused : goal.returns-in-Refused
-returns-in-Refused c = let a = c.args in sym (checked_refused a.file.now _ (sym c.checked.ensures ∙ c.in-Refused.is))
+pub returns-in_err-checked : goal.returns-in_err-checked
+returns-in_err-checked c =
+    let p = err_from_is_err_and c.from_residual.result c.from_residual.ensures.1 in
+    rw (p.1, p.2) (sym (checked_refused c.args.file.now _ (sym c.checked.ensures ∙ c.in_err-checked.was)))
 
-pub returns-in-Good : goal.returns-in-Good
-returns-in-Good c = let a = c.args in sym (checked_fine a.file.now _ (sym c.checked.ensures ∙ c.in-Good.is))
+pub returns : goal.returns
+returns c = sym (checked_fine c.args.file.now _ (sym c.checked.ensures ∙ c.in_ok-checked.was))

@@ -1,5 +1,5 @@
 -- The full check by its ways out, as the code meets them.
-use Rattle.std.specs.Prelude.{◌≡◌, ℕ, suc, ◌+◌, ◌-◌, ◌≤◌, ◌<◌, Bool, ◌&&◌, ◌||◌, eqb, leb}
+use Rattle.std.specs.Prelude.{◌≡◌, ℕ, suc, ◌+◌, ◌-◌, ◌≤◌, ◌<◌, Bool, ◌&&◌, ◌||◌, eqb, leb, Result, Ok, Err}
 use Rattle.std.proofs.Math.Path.{refl, sym, ap}
 use Rattle.std.proofs.Common.{ap₂, ◌∙◌, zero-add, eq-eqb, ne_eqb, leb-true}
 use Rattle.std.proofs.Math.Nat.{sub-zero, add-zero}
@@ -18,11 +18,9 @@ use Rattle.frame.specs.Open.Laws.{Frames}
 use Rattle.base.specs.Over.{part, length_part}
 use Rattle.codes.specs.declared.ids.Id.{Id}
 use Rattle.refusal.specs.declared.Refusal.{Refusal}
-use Rattle.refusal.specs.declared.Check.{Check}
-use Rattle.refusal.specs.Check.{◌⊳◌}
+use Rattle.refusal.specs.Check.{◌⊳◌, Check}
 use Rattle.frame.specs.Open.{bytes_at, offset_at, start_at}
 use Rattle.index.specs.Order.{OffsetsRise}
-use Rattle.group.specs.declared.GroupVerdict.{GroupVerdict}
 use Rattle.group.specs.declared.fault.Fault.{Fault}
 use Rattle.group.specs.Fault.{refusal_of}
 use Rattle.group.specs.Group.{Decoded, good, group_of, partners_of, verdict_of}
@@ -40,7 +38,7 @@ unfoldable pub RowsWithin : ℕ → List Row → Type 0
 RowsWithin size [] = Unit {0}
 RowsWithin size (r ∷ rs) = (r.start + r.len ≤ size) × RowsWithin size rs
 
-pub ranges_within : (size limit : ℕ) (rs : List Row) (floor k : ℕ) → limit ≤ size → ranges limit rs floor k ≡ Check.Fine → RowsWithin size rs
+pub ranges_within : (size limit : ℕ) (rs : List Row) (floor k : ℕ) → limit ≤ size → ranges limit rs floor k ≡ (Ok tt) → RowsWithin size rs
 unfolding ranges RowsWithin
 ranges_within size limit [] floor k h e = tt
 ranges_within size limit (r ∷ rs) floor k h e =
@@ -71,12 +69,12 @@ module _ (f b : List ℕ) (count : ℕ) where
     unfolding RowsWithin
     others = (rw rows at h.within).1
 
-    sums_here : sums_from f (rows_from count b 2) 0 ≡ pick (sum_good f r) (sums_from f (rows_from (count - (k + 1)) b (i + 28 + r.namelen)) (k + 1)) (Check.Bad (Refusal.Sum k))
+    sums_here : sums_from f (rows_from count b 2) 0 ≡ pick (sum_good f r) (sums_from f (rows_from (count - (k + 1)) b (i + 28 + r.namelen)) (k + 1)) (Err (Refusal.Sum k))
     unfolding sums_from
     sums_here = sym h.check ∙ ap (λ (t : List Row). sums_from f t k) rows
 
     module _ {s : ℕ} (g : s ≡ xxh3 (bytes_at f (range_of r))) where
-      pub summed_bad : (s ≡ r.sum → ⊥) → Check.Bad (Refusal.Sum k) ≡ sums_from f (rows_from count b 2) 0
+      pub summed_bad : (s ≡ r.sum → ⊥) → Err (Refusal.Sum k) ≡ sums_from f (rows_from count b 2) 0
       summed_bad n = sym (sums_here ∙ rw (ne_eqb (xxh3 (bytes_at f (range_of r))) r.sum (λ q. n (g ∙ q))))
 
       pub summed_on : s ≡ r.sum → Summed (i + 28 + r.namelen) (k + 1)
@@ -87,7 +85,7 @@ module _ (f b : List ℕ) (count : ℕ) where
         check = sym (sums_here ∙ rw (eq-eqb (xxh3 (bytes_at f (range_of r))) r.sum (sym g ∙ n)));
       }
 
-  pub summed_end : (i k : ℕ) → Summed i k → count ≤ k → Check.Fine ≡ sums_from f (rows_from count b 2) 0
+  pub summed_end : (i k : ℕ) → Summed i k → count ≤ k → (Ok tt) ≡ sums_from f (rows_from count b 2) 0
   unfolding sums_from
   summed_end i k h le = ap (λ (t : List Row). sums_from f t k) (sym (rows_none b count i k le)) ∙ h.check
 
@@ -105,7 +103,7 @@ pub record Answered (g : Decoded) (d : ℕ) (dense : Bool) : Type 0 where
   pub degree : length (partners_of g) ≡ d
   pub kind : dense_of g ≡ dense
 
-pub answered : (g : Decoded) (d : ℕ) (dense : Bool) → verdict_of g ≡ GroupVerdict.Good d dense → Answered g d dense
+pub answered : (g : Decoded) (d : ℕ) (dense : Bool) → verdict_of g ≡ Ok (record { degree = d; dense = dense }) → Answered g d dense
 unfolding dense_of
 answered g d dense e =
     let (is, ok, count) = answered_good g d dense e in
@@ -171,11 +169,11 @@ module _ (p o : List ℕ) (w n : ℕ) (there : Bool) (starts : List ℕ) where
           sym h.apart ∙ ap (λ (t : ℕ). stray || (there && stray_from p o w starts t i edges)) left
           ∙ ap (λ (t : Decoded). stray || (there && (not (eqb (start_at starts i) edges) || stray_from p o w starts (n - (i + 1)) (i + 1) (edges + length (partners_of t))))) here
 
-      pub walk_bad : (f : Fault) → verdict_of (group_of (part p a e)) ≡ GroupVerdict.Bad f → groups_seen p o w n there starts ≡ Groups.Refused (refusal_of i f)
+      pub walk_bad : (f : Fault) → verdict_of (group_of (part p a e)) ≡ Err f → groups_seen p o w n there starts ≡ Err (refusal_of i f)
       unfolding groups_seen groups_told
       walk_bad f g = rw (check_here, answered_bad (group_of (part p a e)) f g, check_bad i f)
 
-      module _ (d : ℕ) (b : Bool) (g : verdict_of (group_of (part p a e)) ≡ GroupVerdict.Good d b) where
+      module _ (d : ℕ) (b : Bool) (g : verdict_of (group_of (part p a e)) ≡ Ok (record { degree = d; dense = b })) where
         -- each partner has nine bytes or more
         pub walk_few : edges + d ≤ e
         walk_few =
@@ -220,18 +218,21 @@ module _ (p o : List ℕ) (w n : ℕ) (there : Bool) (starts : List ℕ) where
             over_both false false y v = refl
 
   pub walk_end : (i a edges : ℕ) (dense stray : Bool) → Walk i a edges dense stray → n ≤ i → {v : Bool} → v ≡ (stray || (there && not (eqb (start_at starts n) edges)))
-      → Groups.Good edges dense v ≡ groups_seen p o w n there starts
+      → Ok (record { edges = edges; dense = dense; stray = v }) ≡ groups_seen p o w n there starts
   unfolding groups_seen groups_told groups_from degrees_from dense_from stray_from
   walk_end i a edges dense stray h le l =
       let none : n - i ≡ 0 = omega arith in
-      let c : groups_from p o w n 0 ≡ Check.Fine = sym h.check ∙ ap (λ (t : ℕ). groups_from p o w t i) none in
+      let c : groups_from p o w n 0 ≡ (Ok tt) = sym h.check ∙ ap (λ (t : ℕ). groups_from p o w t i) none in
       let s : degrees_from p o w n 0 ≡ edges = sym h.sum ∙ ap (λ (t : ℕ). edges + degrees_from p o w t i) none ∙ add-zero edges in
       let t : dense_from p o w n 0 ≡ dense = sym h.thick ∙ ap (λ (u : ℕ). dense || dense_from p o w u i) none ∙ or_false dense in
       let last : i ≡ n = let most = h.most in omega arith in
       let u : (there && stray_from p o w starts n 0 0) ≡ (stray || (there && not (eqb (start_at starts n) edges))) =
       sym h.apart ∙ ap (λ (x : ℕ). stray || (there && stray_from p o w starts x i edges)) none ∙ ap (λ (x : ℕ). stray || (there && not (eqb (start_at starts x) edges))) last in
-      rw (c, s, t, u) (ap (Groups.Good edges dense) l)
+      rw (c, s, t, u) (ap (told edges dense) l)
     where
+      told : ℕ → Bool → Bool → Result Groups Refusal
+      told e b v = Ok (record { edges = e; dense = b; stray = v })
+
       or_false : (b : Bool) → (b || false) ≡ b
       or_false true = refl
       or_false false = refl

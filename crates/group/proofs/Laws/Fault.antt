@@ -1,14 +1,14 @@
 -- The laws of a fault's refusal, for callers that do not look at single faults.
-use Rattle.std.specs.Prelude.{◌≡◌, refl, ℕ, ◌-◌, List, [], ◌∷◌, true, false, get_or}
+use Rattle.std.specs.Prelude.{◌≡◌, refl, ℕ, ◌-◌, List, [], ◌∷◌, true, false, get_or, Err}
 use Rattle.std.proofs.Common.{sym, ap, ◌∙◌}
 use Rattle.codes.specs.declared.varint.Unread.{Unread}
 use Rattle.refusal.specs.declared.Refusal.{Refusal}
-use Rattle.refusal.specs.declared.Check.{Check}
 use Rattle.refusal.specs.Refusal.{number_of, place_of, beside_of}
 use Rattle.refusal.proofs.Laws.Check.{listed, none_in, none_listed, Numbers, not_given}
 use Rattle.group.specs.declared.fault.Flaw.{Flaw}
 use Rattle.group.specs.declared.fault.Fault.{Fault}
 use Rattle.group.specs.Fault.{fault_at, flaw_of, refusal_of, number_for}
+use Rattle.refusal.specs.Check.{Check}
 
 -- the flaws, and their numbers in the same order
 flaws : List Flaw
@@ -62,7 +62,7 @@ module _ (i : ℕ) (f : Fault) where
   pub fault_unlisted : (ns : List ℕ) → none_in fault_numbers ns ≡ true → listed (number_of (refusal_of i f)) ns ≡ false
   fault_unlisted ns e = none_listed fault_numbers ns (number_of (refusal_of i f)) e fault_listed
 
-  pub fault_apart : (ns : List ℕ) {c : Check} → Numbers ns c → none_in fault_numbers ns ≡ true → c ≡ Check.Bad (refusal_of i f) → ⊥
+  pub fault_apart : (ns : List ℕ) {c : Check} → Numbers ns c → none_in fault_numbers ns ≡ true → c ≡ Err (refusal_of i f) → ⊥
   fault_apart ns n e = not_given ns n (refusal_of i f) (fault_unlisted ns e)
 
 -- a refusal tells one fault of one group

@@ -1,5 +1,5 @@
 -- What a good group says: of its degree and its partners, of its length, and that its bytes are what is written for them.
-use Rattle.std.specs.Prelude.{◌≡◌, refl, ℕ, zero, suc, ◌+◌, ◌-◌, ◌*◌, ◌≤◌, Bool, true, false, length}
+use Rattle.std.specs.Prelude.{◌≡◌, refl, ℕ, zero, suc, ◌+◌, ◌-◌, ◌*◌, ◌≤◌, Bool, true, false, length, Result, Ok, Err}
 use Rattle.std.proofs.Math.Path.{sym, ap, ap₂}
 use Rattle.std.proofs.Common.{subst, ◌∙◌, add-one, length-drop, drop_of_length-le}
 use native.Mathlib.Omega.{arith}
@@ -8,7 +8,6 @@ use Rattle.std.proofs.Math.ListN.{drop}
 use Rattle.std.proofs.Math.Seq.{drop-cons}
 use Rattle.base.specs.Bytes.{Bytes}
 use Rattle.codes.specs.declared.ids.Id.{Id}
-use Rattle.codes.specs.declared.varint.Varint.TheVariants.{Value}
 use Rattle.codes.specs.Little.{le_at}
 use Rattle.codes.specs.Little.Laws.{le_at_lt}
 use Rattle.codes.specs.Ids.{id_number, halves_at}
@@ -16,8 +15,8 @@ use Rattle.codes.specs.Ids.Laws.{be_at_lt}
 use Rattle.codes.specs.Varint.{varint_at, var_bytes}
 use Rattle.codes.specs.Varint.Laws.{varint_next}
 use Rattle.codes.specs.Stood.{le_stood, id_stood, varint_stood}
+use Rattle.group.specs.declared.fault.Fault.{Fault}
 use Rattle.group.specs.declared.head.Head.{Head}
-use Rattle.group.specs.declared.split.Step.{Step}
 use Rattle.group.specs.Group.{good, bad, split_step, step_at, walk_from, degree_of, head_of, group_of, is_good, partners_of, bytes_of}
 use Rattle.group.specs.Group.Laws.{tag_of, Headed}
 use Rattle.group.proofs.Laws.Group.{SplitRead, split_read, split_varint, dense_read, step_split, step_dense, step_next, head_is, head_headed, group_walk, group_bad, good_turn, good_end, good_is, length_bytes_of}
@@ -25,7 +24,7 @@ use Rattle.group.specs.Written.{Halves, Above, Rising, step_bytes, payload_of, w
 use Rattle.group.proofs.Laws.Written.{payload_none, payload_cons, written_is}
 use Rattle.group.specs.Good.{Stepped, Walked, GoodGroup, Fill}
 
-split_stepped : (g : List ℕ) (i hi : ℕ) (p : Id) (n v m : ℕ) → Bytes g → varint_at g i ≡ Value v m → SplitRead g i hi p n v m → Stepped false g i hi p n
+split_stepped : (g : List ℕ) (i hi : ℕ) (p : Id) (n v m : ℕ) → Bytes g → varint_at g i ≡ Ok (v, m) → SplitRead g i hi p n v m → Stepped false g i hi p n
 split_stepped g i hi p n v m b q r =
     let up : p.hi ≡ hi + v = ap (λ (x : Id). x.hi) r.partner in
     let low : p.lo ≡ le_at g m 8 = ap (λ (x : Id). x.lo) r.partner in
@@ -37,7 +36,7 @@ split_stepped g i hi p n v m b q r =
           (varint_stood g i v m b q ∙ ap (λ (t : List ℕ). var_bytes v ++ t) (le_stood 8 g m b r.room));
     }
 
-stepped : (dense : Bool) (g : List ℕ) (i hi : ℕ) (p : Id) (n : ℕ) → Bytes g → step_at dense g i hi ≡ Step.Partner p n → Stepped dense g i hi p n
+stepped : (dense : Bool) (g : List ℕ) (i hi : ℕ) (p : Id) (n : ℕ) → Bytes g → step_at dense g i hi ≡ Ok (p, n) → Stepped dense g i hi p n
 unfolding halves_at
 stepped true g i hi p n b e =
     let (room, is, place) = dense_read g i p n (sym (step_dense g i hi) ∙ e) in
@@ -47,7 +46,7 @@ stepped true g i hi p n b e =
       bytes = rw (is, place) (id_stood g i b room);
     }
 stepped false g i hi p n b e =
-    let s : split_step g i hi ≡ Step.Partner p n = sym (step_split g i hi) ∙ e in
+    let s : split_step g i hi ≡ Ok (p, n) = sym (step_split g i hi) ∙ e in
     let (v, m, q) = split_varint g i hi p n s in
     split_stepped g i hi p n v m b q (split_read g i hi p n s v m q)
 
@@ -97,16 +96,16 @@ good_group g dense ps e = go (head_of g) refl
           walk = subst (λ (x : Bool). Walked x (length ps) g i 0 0 dense ps) (sym w.kind) (subst (λ (x : ℕ). Walked c x g i 0 0 dense ps) (sym w.count) w);
         }
 
-    go : (h : Head) → head_of g ≡ h → GoodGroup g dense ps
-    go (Head.Split d i) q = walk false d i q
-    go (Head.Dense d i) q = walk true d i q
-    go (Head.Bad f) q =
+    go : (h : Result Head Fault) → head_of g ≡ h → GoodGroup g dense ps
+    go (Ok (Head.Split d i)) q = walk false d i q
+    go (Ok (Head.Dense d i)) q = walk true d i q
+    go (Err f) q =
         let r : bad f ≡ good dense ps = sym (group_bad g f q) ∙ e in
         let z : ◌≡◌ {A = ℕ} 0 1 = cc in absurd (omega arith)
 
 module _ (g : List ℕ) (dense : Bool) (ps : List Id) (e : group_of g ≡ good dense ps) where
   -- the degree that is read is the number of partners, and at least 1
-  pub degree_is : (1 ≤ length ps) × ((n : ℕ) × (degree_of g ≡ Value (length ps) n))
+  pub degree_is : (1 ≤ length ps) × ((n : ℕ) × (degree_of g ≡ Ok (length ps, n)))
   degree_is = let h = (good_group g dense ps e).head in (h.some, (h.tag, h.degree))
 
   pub partners_rise : Rising ps

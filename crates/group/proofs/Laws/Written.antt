@@ -1,16 +1,14 @@
 -- The two writings of a group, and that a group which was written reads back.
-use Rattle.std.specs.Prelude.{◌≡◌, refl, ℕ, zero, suc, ◌+◌, ◌-◌, ◌*◌, ◌^◌, ◌≤◌, ◌<◌, List, [], ◌∷◌, ◌++◌, Bool, true, false, length, get_or}
+use Rattle.std.specs.Prelude.{◌≡◌, refl, ℕ, zero, suc, ◌+◌, ◌-◌, ◌*◌, ◌^◌, ◌≤◌, ◌<◌, List, [], ◌∷◌, ◌++◌, Bool, true, false, length, get_or, Ok}
 use Rattle.std.proofs.Common.{sym, ap, ◌∙◌, zero-add, arith, append-nil, append_assoc, length-append, le-leb}
 use Rattle.std.proofs.Math.Seq.{append_snoc, get_or-append_seam}
 use Rattle.codes.specs.declared.ids.Id.{Id}
-use Rattle.codes.specs.declared.varint.Varint.TheVariants.{Value}
 use Rattle.codes.specs.Little.{le_at, le_bytes}
 use Rattle.codes.specs.Little.Laws.{le_at_back, length_le_bytes}
 use Rattle.codes.specs.Ids.{id_number, id_bytes}
 use Rattle.codes.specs.Ids.Laws.{length_id_bytes, halves_back}
 use Rattle.codes.specs.Varint.{varint_at, var_bytes}
 use Rattle.codes.specs.Varint.Laws.{read_back}
-use Rattle.group.specs.declared.split.Step.{Step}
 use Rattle.group.specs.Group.{good, split_step, step_at, cons, walk_from, group_of, bytes_of}
 use Rattle.group.specs.Group.Laws.{tag_of}
 use Rattle.group.proofs.Laws.Group.{split_good, dense_good, step_split, step_dense, walk_end, walk_more, head_tagged, group_walk}
@@ -48,7 +46,7 @@ written_is false ps = refl
 -- ---- one partner, between q and r
 
 module _ (q r : List ℕ) (hi : ℕ) (p : Id) (a : hi ≤ p.hi) (b : p.hi < 2 ^ 64) (c : p.lo < 2 ^ 64) where
-  split_step_back : split_step (q ++ (step_bytes false hi p ++ r)) (length q) hi ≡ Step.Partner p (length (q ++ step_bytes false hi p))
+  split_step_back : split_step (q ++ (step_bytes false hi p ++ r)) (length q) hi ≡ Ok (p, length (q ++ step_bytes false hi p))
   split_step_back =
       let v : List ℕ = var_bytes (p.hi - hi) in
       let w : List ℕ = le_bytes 8 p.lo in
@@ -56,25 +54,25 @@ module _ (q r : List ℕ) (hi : ℕ) (p : Id) (a : hi ≤ p.hi) (b : p.hi < 2 ^ 
       let n : ℕ = length q + length v in
       let flat : g ≡ q ++ (v ++ (w ++ r)) = ap (λ (t : List ℕ). q ++ t) (append_assoc v w r) in
       let same : g ≡ (q ++ v) ++ (w ++ r) = flat ∙ sym (append_assoc q v (w ++ r)) in
-      let e : varint_at g (length q) ≡ Value (p.hi - hi) n = rw flat (read_back q (w ++ r) (p.hi - hi) (omega arith)) in
+      let e : varint_at g (length q) ≡ Ok (p.hi - hi, n) = rw flat (read_back q (w ++ r) (p.hi - hi) (omega arith)) in
       let up : hi + (p.hi - hi) ≡ p.hi = omega arith in
       let eight : length w ≡ 8 = length_le_bytes 8 p.lo in
       let len : length (q ++ v) ≡ n = length-append q v in
       let lo : le_at g n 8 ≡ p.lo = rw (same, ← len) (le_at_back 8 (q ++ v) r p.lo c) in
       let room : n + 8 ≤ length g = rw (same, length-append, len, length-append) (omega arith) in
       let end : n + 8 ≡ length (q ++ (v ++ w)) = rw (length-append, length-append) (omega arith) in
-      split_good g (length q) hi (p.hi - hi) n e (rw up b) room ∙ (λ j. Step.Partner (record { hi = up j; lo = lo j }) (end j))
+      split_good g (length q) hi (p.hi - hi) n e (rw up b) room ∙ (λ j. Ok (record { hi = up j; lo = lo j }, end j))
 
-  dense_step_back : step_at true (q ++ (id_bytes p ++ r)) (length q) hi ≡ Step.Partner p (length (q ++ id_bytes p))
+  dense_step_back : step_at true (q ++ (id_bytes p ++ r)) (length q) hi ≡ Ok (p, length (q ++ id_bytes p))
   dense_step_back =
       let g : List ℕ = q ++ (id_bytes p ++ r) in
       let sixteen : length (id_bytes p) ≡ 16 = length_id_bytes p in
       let end : length q + 16 ≡ length (q ++ id_bytes p) = rw length-append (omega arith) in
       let room : length q + 16 ≤ length g = rw (length-append, length-append) (omega arith) in
-      step_dense g (length q) hi ∙ dense_good g (length q) room ∙ (λ j. Step.Partner (halves_back q r p b c j) (end j))
+      step_dense g (length q) hi ∙ dense_good g (length q) room ∙ (λ j. Ok (halves_back q r p b c j, end j))
 
 step_back : (dense : Bool) (q r : List ℕ) (hi : ℕ) (p : Id) → hi ≤ p.hi → p.hi < 2 ^ 64 → p.lo < 2 ^ 64
-    → step_at dense (q ++ (step_bytes dense hi p ++ r)) (length q) hi ≡ Step.Partner p (length (q ++ step_bytes dense hi p))
+    → step_at dense (q ++ (step_bytes dense hi p ++ r)) (length q) hi ≡ Ok (p, length (q ++ step_bytes dense hi p))
 step_back true q r hi p a b c = dense_step_back q r hi p a b c
 step_back false q r hi p a b c = step_split (q ++ (step_bytes false hi p ++ r)) (length q) hi ∙ split_step_back q r hi p a b c
 
@@ -113,7 +111,7 @@ module _ (ps : List Id) (some : 1 ≤ length ps) (fits : length ps < 2 ^ 64) (h 
       let q : List ℕ = v ++ (t ∷ []) in
       let n : ℕ = length v in
       let g : List ℕ = v ++ (t ∷ r) in
-      let value : varint_at g 0 ≡ Value d n = read_back [] (t ∷ r) d fits ∙ ap (Value d) (zero-add n) in
+      let value : varint_at g 0 ≡ Ok (d, n) = read_back [] (t ∷ r) d fits ∙ ap (λ (t : ℕ). Ok (d, t)) (zero-add n) in
       let tag : get_or g n 0 ≡ t = get_or-append_seam v t r 0 in
       let within : n < length g = rw length-append (omega arith) in
       let len : n + 1 ≡ length q = sym (length-append v (t ∷ [])) in

@@ -1,7 +1,7 @@
 -- What is wrong with a group, in the documents' words: each fault is told exactly where it is the first in reading order.
 use Rattle.std.proofs.Math.Path.{◌≡◌, refl, sym, ap, subst}
 use Rattle.std.proofs.Common.{◌∙◌, inl, inr, zero-add, le-leb, leb-true, leb-false}
-use Rattle.std.specs.Prelude.{◌↔◌, ◌⊎◌, List, Bool, length, get_or, leb}
+use Rattle.std.specs.Prelude.{◌↔◌, ◌⊎◌, List, Bool, length, get_or, leb, Result, Ok, Err}
 use Rattle.std.proofs.Math.Logic.{⊎_elim}
 use Prim.Native.Nat.{ℕ, zero, suc, ◌+◌, ◌-◌, ◌^◌, ◌≤◌, ◌<◌}
 use native.Mathlib.Omega.{arith}
@@ -9,18 +9,15 @@ use Rattle.std.proofs.Math.Decide.{dec_le, dec_lt, ℕ_discrete}
 use Rattle.std.proofs.Math.Bool.{true, false}
 use Rattle.std.proofs.lemmas.Bool.{lt-leb}
 use Rattle.codes.specs.declared.ids.Id.{Id}
-use Rattle.codes.specs.declared.varint.Varint.{Varint}
-use Rattle.codes.specs.declared.varint.Varint.TheVariants.{Value}
 use Rattle.codes.specs.Ids.{id_number}
-use Rattle.codes.specs.Varint.{varint_at}
+use Rattle.codes.specs.Varint.{varint_at, Varint}
 use Rattle.codes.specs.Varint.Laws.{varint_next}
 use Rattle.codes.specs.NoNumber.{no_number}
 use Rattle.group.specs.declared.fault.Flaw.{Flaw}
 use Rattle.group.specs.declared.fault.Fault.{Fault}
 use Rattle.group.specs.declared.head.Head.{Head}
-use Rattle.group.specs.declared.split.Step.{Step}
 use Rattle.group.specs.Fault.{fault_at}
-use Rattle.group.specs.Group.{Decoded, good, bad, split_tag, dense_tag, split_step, step_at, cons, walk_from, degree_of, head_of, group_of}
+use Rattle.group.specs.Group.{Decoded, good, bad, split_tag, dense_tag, split_step, step_at, cons, walk_from, degree_of, head_of, group_of, Step}
 use Rattle.group.specs.Group.Laws.{Headed}
 use Rattle.group.proofs.Laws.Group.{split_unread, split_over, split_short, split_good, dense_short, dense_good, step_split, step_dense, step_next, head_unread, head_none, head_short, head_split, head_dense, head_tag, head_is, head_tagged, head_headed, group_walk, group_bad, walk_end, walk_over, walk_bad, walk_low, walk_more}
 use Rattle.group.specs.Wrong.{PartnersRise, ReadSoFar, NextPartner, Wrong}
@@ -112,7 +109,7 @@ module _ (g : List ℕ) where
 Here : Bool → ℕ → List ℕ → ℕ → ℕ → ℕ → Fault → Type 0
 Here dense zero g j h low f = (j ≡ length g → ⊥) × (f ≡ fault_at Flaw.Spare j)
 Here dense (suc left) g j h low f =
-    (step_at dense g j h ≡ Step.Bad f) ⊎ ((p : Id) × (n : ℕ) × (step_at dense g j h ≡ Step.Partner p n) × (id_number p < low) × (f ≡ fault_at Flaw.Order j))
+    (step_at dense g j h ≡ Err f) ⊎ ((p : Id) × (n : ℕ) × (step_at dense g j h ≡ Ok (p, n)) × (id_number p < low) × (f ≡ fault_at Flaw.Order j))
 
 record Stuck (dense : Bool) (d : ℕ) (g : List ℕ) (i hi floor : ℕ) (f : Fault) : Type 0 where
   read : ℕ
@@ -145,7 +142,7 @@ stuck dense (suc d) g i hi floor f e = go (step_at dense g i hi) refl (λ p n. s
     at_once : Here dense (suc d) g i hi floor f → Stuck dense (suc d) g i hi floor f
     at_once h = record { read = 0; left = suc d; place = i; upper = hi; low = floor; count = omega arith; rise = (refl, refl, refl); here = h }
 
-    by_order : (p : Id) (n : ℕ) → step_at dense g i hi ≡ Step.Partner p n → (t : Bool) → leb floor (id_number p) ≡ t
+    by_order : (p : Id) (n : ℕ) → step_at dense g i hi ≡ Ok (p, n) → (t : Bool) → leb floor (id_number p) ≡ t
         → (walk_from dense d g n p.hi (suc (id_number p)) ≡ bad f → Stuck dense d g n p.hi (suc (id_number p)) f) → Stuck dense (suc d) g i hi floor f
     by_order p n q true l ih =
         let s = ih (bad_cons p _ f (sym (walk_more dense g i hi floor d p n q l) ∙ e)) in
@@ -166,11 +163,11 @@ stuck dense (suc d) g i hi floor f e = go (step_at dense g i hi) refl (λ p n. s
 
     go : (s : Step) → step_at dense g i hi ≡ s
         → ((p : Id) (n : ℕ) → walk_from dense d g n p.hi (suc (id_number p)) ≡ bad f → Stuck dense d g n p.hi (suc (id_number p)) f) → Stuck dense (suc d) g i hi floor f
-    go (Step.Partner p n) q ih = by_order p n q (leb floor (id_number p)) refl (ih p n)
-    go (Step.Bad x) q ih =
+    go (Ok (p, n)) q ih = by_order p n q (leb floor (id_number p)) refl (ih p n)
+    go (Err x) q ih =
         let told : bad x ≡ bad f = sym (walk_bad dense g i hi floor d x q) ∙ e in
         let same : x ≡ f = cc in
-        at_once (inl (q ∙ ap Step.Bad same))
+        at_once (inl (q ∙ ap Err same))
 
 -- the place after partners lies within the group
 rise_within : (dense : Bool) (g : List ℕ) (k i hi floor j h low : ℕ) → i ≤ length g → PartnersRise dense g k i hi floor j h low → j ≤ length g
@@ -193,36 +190,36 @@ module _ (g : List ℕ) where
   is : {f : Fault} (w : Flaw) (b : ℕ) → f ≡ fault_at w b → Wrong g w b → WrongBy f
   is w b e u = subst WrongBy (sym e) u
 
-  step_wrong : (dense : Bool) (j h low : ℕ) (f : Fault) → NextPartner g dense j h low → step_at dense g j h ≡ Step.Bad f → WrongBy f
+  step_wrong : (dense : Bool) (j h low : ℕ) (f : Fault) → NextPartner g dense j h low → step_at dense g j h ≡ Err f → WrongBy f
   unfolding Wrong
   step_wrong true j h low f n e =
       elim (dec_le (j + 16) (length g)) [
         | yes r ↦ let z : ◌≡◌ {A = ℕ} 0 1 = cc (step_dense g j h, dense_good g j r) in absurd (omega arith)
         | no r ↦
-            let told : Step.Bad f ≡ Step.Bad (fault_at Flaw.Cut j) = sym e ∙ step_dense g j h ∙ dense_short g j (omega arith) in
+            let told : Err f ≡ Err (fault_at Flaw.Cut j) = sym e ∙ step_dense g j h ∙ dense_short g j (omega arith) in
             let same : f ≡ fault_at Flaw.Cut j = cc in
             is Flaw.Cut j same (inr (inr (record { hi = h; low = low; next = n; short = omega arith })))
       ]
   step_wrong false j h low f n e = go (varint_at g j) refl
     where
-      s : split_step g j h ≡ Step.Bad f
+      s : split_step g j h ≡ Err f
       s = sym (step_split g j h) ∙ e
 
       go : (t : Varint) → varint_at g j ≡ t → WrongBy f
-      go (Varint.Bad why) q =
-          let told : Step.Bad f ≡ Step.Bad (fault_at (Flaw.Number why) j) = sym s ∙ split_unread g j h why q in
+      go (Err why) q =
+          let told : Err f ≡ Err (fault_at (Flaw.Number why) j) = sym s ∙ split_unread g j h why q in
           let same : f ≡ fault_at (Flaw.Number why) j = cc in
           is (Flaw.Number why) j same (inr (record { hi = h; low = low; next = n; unread = (no_number g j why).0 q }))
-      go (Value v m) q =
+      go (Ok (v, m)) q =
           elim (dec_lt (h + v) (2 ^ 64)) [
             | no r ↦
-                let told : Step.Bad f ≡ Step.Bad (fault_at Flaw.Upper j) = sym s ∙ split_over g j h v m q (omega arith) in
+                let told : Err f ≡ Err (fault_at Flaw.Upper j) = sym s ∙ split_over g j h v m q (omega arith) in
                 let same : f ≡ fault_at Flaw.Upper j = cc in
                 is Flaw.Upper j same (record { hi = h; low = low; next = n; difference = v; after = m; read = q; passes = omega arith })
             | yes r ↦ elim (dec_le (m + 8) (length g)) [
               | yes l ↦ let z : ◌≡◌ {A = ℕ} 0 1 = cc (split_good g j h v m q r l, s) in absurd (omega arith)
               | no l ↦
-                  let told : Step.Bad f ≡ Step.Bad (fault_at Flaw.Cut j) = sym s ∙ split_short g j h v m q r (omega arith) in
+                  let told : Err f ≡ Err (fault_at Flaw.Cut j) = sym s ∙ split_short g j h v m q r (omega arith) in
                   let same : f ≡ fault_at Flaw.Cut j = cc in
                   is Flaw.Cut j same (inr (inl (record { hi = h; low = low; next = n; difference = v; after = m; read = q; fits = r; short = omega arith })))
             ]
@@ -247,24 +244,24 @@ module _ (g : List ℕ) where
       (λ o. is Flaw.Order j o.4 (record { dense = dense; hi = h; low = low; next = n; partner = o.0; after = o.1; read = o.2; under = o.3 }))
       t
 
-  head_wrong : (f : Fault) → head_of g ≡ Head.Bad f → WrongBy f
+  head_wrong : (f : Fault) → head_of g ≡ Err f → WrongBy f
   unfolding Wrong
   head_wrong f e = go (varint_at g 0) refl
     where
       go : (t : Varint) → varint_at g 0 ≡ t → WrongBy f
-      go (Varint.Bad why) q =
-          let told : Head.Bad f ≡ Head.Bad (fault_at (Flaw.Number why) 0) = sym e ∙ head_unread g why q in
+      go (Err why) q =
+          let told : Err f ≡ Err (fault_at (Flaw.Number why) 0) = sym e ∙ head_unread g why q in
           let same : f ≡ fault_at (Flaw.Number why) 0 = cc in
           is (Flaw.Number why) 0 same (inl (refl, (no_number g 0 why).0 q))
-      go (Value d n) q =
+      go (Ok (d, n)) q =
           elim (ℕ_discrete d 0) [
             | yes z ↦
-                let told : Head.Bad f ≡ Head.Bad (fault_at Flaw.Degree 0) = sym e ∙ head_none g d n q z in
+                let told : Err f ≡ Err (fault_at Flaw.Degree 0) = sym e ∙ head_none g d n q z in
                 let same : f ≡ fault_at Flaw.Degree 0 = cc in
-                is Flaw.Degree 0 same (refl, (n, q ∙ ap (λ (x : ℕ). Value x n) z))
+                is Flaw.Degree 0 same (refl, (n, q ∙ ap (λ (x : ℕ). Ok (x, n)) z))
             | no z ↦ elim (dec_lt n (length g)) [
               | no h ↦
-                  let told : Head.Bad f ≡ Head.Bad (fault_at Flaw.Cut n) = sym e ∙ head_short g d n q z (omega arith) in
+                  let told : Err f ≡ Err (fault_at Flaw.Cut n) = sym e ∙ head_short g d n q z (omega arith) in
                   let same : f ≡ fault_at Flaw.Cut n = cc in
                   is Flaw.Cut n same (inl (record { degree = d; read = q; some = z; none = omega arith }))
               | yes h ↦ elim (ℕ_discrete (get_or g n 0) split_tag) [
@@ -272,7 +269,7 @@ module _ (g : List ℕ) where
                 | no t ↦ elim (ℕ_discrete (get_or g n 0) dense_tag) [
                   | yes u ↦ let w : ◌≡◌ {A = ℕ} 0 1 = cc (head_dense g d n q z h u) in absurd (omega arith)
                   | no u ↦
-                      let told : Head.Bad f ≡ Head.Bad (fault_at Flaw.Tag n) = sym e ∙ head_tag g d n q z h t u in
+                      let told : Err f ≡ Err (fault_at Flaw.Tag n) = sym e ∙ head_tag g d n q z h t u in
                       let same : f ≡ fault_at Flaw.Tag n = cc in
                       is Flaw.Tag n same (record { degree = d; read = q; some = z; within = h; split = t; dense = u })
                 ]
@@ -289,13 +286,13 @@ module _ (g : List ℕ) where
           here_wrong dense s.left s.place s.upper s.low d s.read f
           (record { payload = i; head = head_headed g dense d i q; rise = s.rise }) s.count s.here
 
-      go : (h : Head) → head_of g ≡ h → WrongBy f
-      go (Head.Split d i) q = walk false d i q
-      go (Head.Dense d i) q = walk true d i q
-      go (Head.Bad x) q =
+      go : (h : Result Head Fault) → head_of g ≡ h → WrongBy f
+      go (Ok (Head.Split d i)) q = walk false d i q
+      go (Ok (Head.Dense d i)) q = walk true d i q
+      go (Err x) q =
           let told : bad x ≡ bad f = sym (group_bad g x q) ∙ e in
           let same : x ≡ f = cc in
-          head_wrong f (q ∙ ap Head.Bad same)
+          head_wrong f (q ∙ ap Err same)
 
   -- a flaw is told at a byte exactly if it is there
   pub wrong_exactly : (w : Flaw) (b : ℕ) → (group_of g ≡ bad (fault_at w b)) ↔ Wrong g w b

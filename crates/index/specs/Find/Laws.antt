@@ -4,7 +4,7 @@ use Rattle.std.proofs.Math.Path.{refl}
 use Rattle.std.proofs.Common.{sym, ap, ◌∙◌, arith, pow-suc, lt-ltb, le-ltb}
 use Prim.Native.Nat.{ℕ, zero, suc, ◌+◌, ◌-◌, ◌*◌, ◌^◌, ◌≤◌, ◌<◌}
 use Rattle.std.proofs.Math.Decide.{dec_lt}
-use Rattle.codes.specs.declared.ids.Order.{Order}
+use Rattle.std.specs.declared.cmp.Ordering.{Ordering}
 use Rattle.codes.specs.Ids.{order}
 use Rattle.codes.specs.Ids.Laws.{less, greater, equal}
 use Rattle.frame.specs.Open.{key_at}
@@ -22,23 +22,23 @@ module _ (s : List ℕ) (k low high c : ℕ) where
   from_none (suc d) h = simp (le-ltb low high h)
 
   module _ (d : ℕ) (h : low < high) where
-    from_some : (o : Order) → order (key_at s (middle low high)) k ≡ o
+    from_some : (o : Ordering) → order (key_at s (middle low high)) k ≡ o
         → find_from (suc d) s k low high c ≡ narrowed o (find_from d s k (middle low high + 1) high (c + 1))
         (Found.At (middle low high) (c + 1)) (find_from d s k low (middle low high) (c + 1))
     unfolding find_from
     from_some o e = simp (lt-ltb low high h, e)
 
-    from_less : order (key_at s (middle low high)) k ≡ Order.Less → find_from (suc d) s k low high c ≡ find_from d s k (middle low high + 1) high (c + 1)
+    from_less : order (key_at s (middle low high)) k ≡ Ordering.Less → find_from (suc d) s k low high c ≡ find_from d s k (middle low high + 1) high (c + 1)
     unfolding narrowed
-    from_less e = from_some Order.Less e
+    from_less e = from_some Ordering.Less e
 
-    from_equal : order (key_at s (middle low high)) k ≡ Order.Equal → find_from (suc d) s k low high c ≡ Found.At (middle low high) (c + 1)
+    from_equal : order (key_at s (middle low high)) k ≡ Ordering.Equal → find_from (suc d) s k low high c ≡ Found.At (middle low high) (c + 1)
     unfolding narrowed
-    from_equal e = from_some Order.Equal e
+    from_equal e = from_some Ordering.Equal e
 
-    from_greater : order (key_at s (middle low high)) k ≡ Order.Greater → find_from (suc d) s k low high c ≡ find_from d s k low (middle low high) (c + 1)
+    from_greater : order (key_at s (middle low high)) k ≡ Ordering.Greater → find_from (suc d) s k low high c ≡ find_from d s k low (middle low high) (c + 1)
     unfolding narrowed
-    from_greater e = from_some Order.Greater e
+    from_greater e = from_some Ordering.Greater e
 
 -- ---- as a loop meets them: c keys have been compared, and the turns that are left give the whole answer
 
@@ -57,13 +57,13 @@ module _ (s : List ℕ) (n k low high c : ℕ) (l : Between s n k low high c) wh
     some : find_from (suc (l.0 - 1)) s k low high c ≡ find_in s n k
     some = let m = l.1 in let e : l.0 ≡ suc (l.0 - 1) = omega arith in (rw e at l.2)
 
-    pub search_above : order (key_at s (middle low high)) k ≡ Order.Less → Between s n k (middle low high + 1) high (c + 1)
+    pub search_above : order (key_at s (middle low high)) k ≡ Ordering.Less → Between s n k (middle low high + 1) high (c + 1)
     search_above e = let m = l.1 in (l.0 - 1, omega arith, sym (from_less s k low high c (l.0 - 1) h e) ∙ some)
 
-    pub search_here : order (key_at s (middle low high)) k ≡ Order.Equal → Found.At (middle low high) (c + 1) ≡ find_in s n k
+    pub search_here : order (key_at s (middle low high)) k ≡ Ordering.Equal → Found.At (middle low high) (c + 1) ≡ find_in s n k
     search_here e = sym (from_equal s k low high c (l.0 - 1) h e) ∙ some
 
-    pub search_below : order (key_at s (middle low high)) k ≡ Order.Greater → Between s n k low (middle low high) (c + 1)
+    pub search_below : order (key_at s (middle low high)) k ≡ Ordering.Greater → Between s n k low (middle low high) (c + 1)
     search_below e = let m = l.1 in (l.0 - 1, omega arith, sym (from_greater s k low high c (l.0 - 1) h e) ∙ some)
 
 -- ---- the count

@@ -1,5 +1,5 @@
 -- A file that was laid out: its frame is good, and its entries, counts and sections are what they were laid out from.
-use Rattle.std.specs.Prelude.{◌≡◌, refl, ℕ, ◌+◌, ◌-◌, ◌^◌, ◌≤◌, ◌<◌, get_or, take}
+use Rattle.std.specs.Prelude.{◌≡◌, refl, ℕ, ◌+◌, ◌-◌, ◌^◌, ◌≤◌, ◌<◌, get_or, take, Ok}
 use Rattle.std.proofs.Math.Path.{sym}
 use Rattle.std.proofs.Common.{ap, ◌∙◌, arith, length-append, drop_at, lit<}
 use mathlib.Core.List.{List, [], ◌∷◌, ◌++◌, append_assoc}
@@ -11,7 +11,6 @@ use Rattle.codes.specs.Little.{le_at, le_bytes}
 use Rattle.codes.specs.Little.Laws.{length_le_bytes}
 use Rattle.xxh3_spec.specs.Xxh3.{xxh3}
 use Rattle.refusal.specs.declared.Refusal.{Refusal}
-use Rattle.refusal.specs.declared.Check.{Check}
 use Rattle.refusal.proofs.Laws.Check.{fine_both, good_fine}
 use Rattle.frame.specs.Kind as kind
 use Rattle.frame.specs.Frame.{rows_of, ranges, foot_len, body_of, size_check, tail_check, sum_check}
@@ -76,25 +75,25 @@ module _ (x : Layout) (h64 : length x.head ≡ 64) (small : Small x.sections) (f
       let b : length (lay_out x) - 20 - length front ≡ length body = omega (arith, length_file, length_front) in
       rw (foot_back, a, b, file_is) (ap (take (length body)) (drop_at front (body ++ trailer body) (length front) refl) ∙ take_at body (trailer body) (length body) refl)
 
-  pub size_fine : size_check (length (lay_out x)) ≡ Check.Fine
+  pub size_fine : size_check (length (lay_out x)) ≡ (Ok tt)
   unfolding size_check
   size_fine = simp (le-ltb (length (lay_out x)) 84 (omega (arith, length_file)), le-ltb (2 ^ 30) (length (lay_out x)) fits)
 
-  pub tail_fine : tail_check (length (lay_out x)) (lay_out x) ≡ Check.Fine
+  pub tail_fine : tail_check (length (lay_out x)) (lay_out x) ≡ (Ok tt)
   unfolding tail_check
   tail_fine =
       let l = length_body x.sections x.keycount x.edgecount x.bits small in
       fine_both (good_fine Refusal.TailMagic (eq-eqb (le_at (lay_out x) (length (lay_out x) - 8) 8) kind.magic magic_back))
       (simp (le-ltb (foot_len (lay_out x)) 39 (omega (arith, foot_back)), le-ltb (length (lay_out x) - 64) (foot_len (lay_out x)) (omega (arith, length_file, foot_back))))
 
-  pub sum_fine : sum_check (lay_out x) ≡ Check.Fine
+  pub sum_fine : sum_check (lay_out x) ≡ (Ok tt)
   unfolding sum_check
   sum_fine = good_fine Refusal.FooterSum (eq-eqb (xxh3 (body_of (lay_out x))) (le_at (lay_out x) (length (lay_out x) - 20) 8) (ap xxh3 body_back ∙ sym sum_back))
 
   pub file_rows : rows_of (body_of (lay_out x)) ≡ rows_in 64 2 x.sections
   file_rows = ap rows_of body_back ∙ body_rows x.sections x.keycount x.edgecount x.bits small
 
-  pub ranges_fine : ranges (length (lay_out x) - foot_len (lay_out x)) (rows_of (body_of (lay_out x))) 64 0 ≡ Check.Fine
+  pub ranges_fine : ranges (length (lay_out x) - foot_len (lay_out x)) (rows_of (body_of (lay_out x))) 64 0 ≡ (Ok tt)
   ranges_fine = rw file_rows (ranges_back x.sections 64 2 0 (length (lay_out x) - foot_len (lay_out x)) (omega (arith, length_file, foot_back)))
 
   -- the header's bytes

@@ -1,5 +1,5 @@
 -- The entries of a table that was laid out, read back.
-use Rattle.std.specs.Prelude.{◌≡◌}
+use Rattle.std.specs.Prelude.{◌≡◌, Ok, Err}
 use Rattle.std.proofs.Math.Path.{refl, ap, ap₂}
 use Rattle.std.proofs.Common.{sym, ◌∙◌, length-append, get_or-append-add, le-leb}
 use Prim.Native.Nat.{ℕ, ◌+◌, ◌-◌, ◌*◌, ◌^◌, ◌≤◌, ◌<◌}
@@ -11,7 +11,6 @@ use Rattle.base.specs.Over.{part}
 use Rattle.codes.specs.Little.{le_at, le_bytes}
 use Rattle.codes.specs.Little.Laws.{le_at_back, le_at_same, length_le_bytes}
 use Rattle.refusal.specs.declared.Refusal.{Refusal}
-use Rattle.refusal.specs.declared.Check.{Check}
 use Rattle.refusal.proofs.Laws.Check.{fine_pick, and_both}
 use Rattle.frame.specs.declared.Row.{Row}
 use Rattle.frame.specs.Frame.{row_at, rows_from, end_from, rows_of, end_of, entry_count, key_count, edge_count, bits_of, ranges}
@@ -118,12 +117,12 @@ end_back (s ∷ ss) at p r h =
     ∙ ih ∙ omega (arith, l, length_first s ss at p r, length_entry at s)
 
 -- they lie one after the other
-pub ranges_back : (ss : List Section) (at i k limit : ℕ) → at + length (payload ss) ≤ limit → ranges limit (rows_in at i ss) at k ≡ Check.Fine
+pub ranges_back : (ss : List Section) (at i k limit : ℕ) → at + length (payload ss) ≤ limit → ranges limit (rows_in at i ss) at k ≡ (Ok tt)
 unfolding ranges rows_in payload
 ranges_back [] at i k limit h = refl
 ranges_back (s ∷ ss) at i k limit h =
     let l : length (s.bytes ++ payload ss) ≡ length s.bytes + length (payload ss) = length-append s.bytes (payload ss) in
-    fine_pick (Check.Bad (Refusal.Range k)) (and_both (le-leb at at (omega arith)) (le-leb (at + length s.bytes) limit (omega arith)))
+    fine_pick (Err (Refusal.Range k)) (and_both (le-leb at at (omega arith)) (le-leb (at + length s.bytes) limit (omega arith)))
     (ranges_back ss (at + length s.bytes) (i + 28 + length s.name) (k + 1) limit (omega arith))
 
 fit_from : (ss : List Section) (at : ℕ) → AllNumbers ss → at + length (payload ss) < 2 ^ 64 → SectionsFit at ss

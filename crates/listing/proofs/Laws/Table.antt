@@ -1,6 +1,6 @@
 -- What the caller's table holds after the call: for a file that opens, the entries of the section table in their order,
 -- and past them what it held before.
-use Rattle.std.specs.Prelude.{◌≡◌, length, set, drop, get_or}
+use Rattle.std.specs.Prelude.{◌≡◌, length, set, drop, get_or, Ok}
 use Rattle.std.proofs.Math.Path.{refl, sym, ap}
 use Rattle.std.proofs.Common.{◌∙◌, zero-add, length-append}
 use Prim.Native.Nat.{ℕ, zero, suc, ◌+◌, ◌-◌, ◌≤◌, ◌<◌}
@@ -13,7 +13,6 @@ use Rattle.std.proofs.lemmas.List.{get_or_at}
 use Rattle.base.specs.Over.{sets_append, sets_over}
 use Rattle.frame.specs.declared.Row.{Row}
 use Rattle.frame.specs.declared.Opened.{Opened}
-use Rattle.frame.specs.declared.Opening.{Opening}
 use Rattle.frame.specs.Kind as kind
 use Rattle.frame.specs.Frame.{row_at, next_at, rows_from, end_from, rows_of, end_of, foot_len, body_of}
 use Rattle.frame.proofs.Laws.Frame.{end_room}
@@ -113,7 +112,7 @@ module _ (f : List ℕ) (s : Frames f) where
 
 -- a file that opens, and a table with room for its sections: they stand there "in table order", and "rows past the count
 -- stay"
-pub table_is : (f : List ℕ) (o : Opened) → open_of f ≡ Opening.Good o → (ys : List Row) → rows_needed f ≤ length ys
+pub table_is : (f : List ℕ) (o : Opened) → open_of f ≡ Ok o → (ys : List Row) → rows_needed f ≤ length ys
     → listed f (rows_needed f) ys ≡ map (moved (body_at f)) (rows_of (body_of f)) ++ drop (rows_needed f) ys
 unfolding rows_of
 table_is f o e ys h =
@@ -121,5 +120,5 @@ table_is f o e ys h =
     ∙ ap (λ (t : List Row). t ++ drop (rows_needed f) ys) (rows_to_is f (opens_parts f o e).frames (rows_needed f) (omega arith))
 
 -- it has at most 64 of them
-pub needed_most : (f : List ℕ) (o : Opened) → open_of f ≡ Opening.Good o → rows_needed f ≤ 64
+pub needed_most : (f : List ℕ) (o : Opened) → open_of f ≡ Ok o → rows_needed f ≤ 64
 needed_most f o e = (opens_parts f o e).frames.table.most

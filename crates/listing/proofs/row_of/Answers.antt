@@ -1,13 +1,18 @@
--- `listing::row_of` meets its contract.
-use mathlib.Core.Path.{sym, ◌∙◌}
-use Rattle.listing.specs.List.{row_is}
-use Rattle.listing.proofs.Laws.List.{entry_there, entry_none}
+-- `row_of` meets its contract.
+use mathlib.Core.Path.{◌≡◌, refl, ap, ◌∙◌}
+use Rattle.std.specs.Prelude.{Option, Some, None, unwrap_or}
+use Rattle.frame.specs.declared.Row.{Row}
+use Rattle.listing.specs.List.{no_row, row_of_section, row_is}
 use Rattle.listing.proofs.row_of.Goals as goal
 
-pub returns-in-Entry : goal.returns-in-Entry
-unfolding row_is
-returns-in-Entry c = entry_there _ _ (sym c.section_at.ensures ∙ c.in-Entry.is)
+row_or_none : (s : Option Row) → unwrap_or s no_row ≡ row_of_section s
+unfolding row_of_section
+row_or_none (Some r) = refl
+row_or_none None = refl
 
-pub returns-in-Missing : goal.returns-in-Missing
+pub returns : goal.returns
 unfolding row_is
-returns-in-Missing c = entry_none _ (sym c.section_at.ensures ∙ c.in-Missing.is)
+returns c =
+    c.unwrap_or.ensures ∙ ap (unwrap_or c.section_at.result) c.raw.ensures
+    ∙ ap (λ (s : Option Row). unwrap_or s no_row) c.section_at.ensures
+    ∙ row_or_none _

@@ -1,5 +1,5 @@
 -- Lookups by their ways out, as the code goes through them: f the file, o the record.
-use Rattle.std.specs.Prelude.{◌≡◌, ℕ, ◌+◌, ◌*◌, ◌≤◌, ◌<◌, Bool, not, ◌||◌, length, ltb, leb}
+use Rattle.std.specs.Prelude.{◌≡◌, ℕ, ◌+◌, ◌*◌, ◌≤◌, ◌<◌, Bool, not, ◌||◌, length, ltb, leb, Result, Ok, Err, Option, Some, None}
 use Rattle.std.proofs.Math.Path.{refl, ap, ap₂}
 use Rattle.std.proofs.Common.{sym, ◌∙◌, arith, true≢false}
 use Rattle.std.proofs.Math.Decide.{dec_le}
@@ -10,96 +10,93 @@ use Rattle.base.specs.Pick.{pick}
 use Rattle.base.specs.Over.{over}
 use Rattle.codes.specs.declared.ids.Id.{Id}
 use Rattle.refusal.specs.declared.Refusal.{Refusal}
-use Rattle.refusal.specs.declared.Check.{Check}
-use Rattle.refusal.specs.Check.{◌⊳◌, refuse}
+use Rattle.refusal.specs.Check.{◌⊳◌, refuse, Check}
 use Rattle.refusal.proofs.Laws.Check.{bad_then, fine_then}
 use Rattle.frame.specs.declared.Opened.{Opened}
 use Rattle.frame.specs.Open.{Known, known_of, bytes_at}
 use Rattle.index.specs.declared.keys.Found.{Found}
 use Rattle.index.specs.Find.{find_in}
-use Rattle.degrees.specs.declared.Sum.{Sum}
 use Rattle.degrees.specs.Degrees.{capped}
 use Rattle.group.specs.Group.{bytes_of}
 use Rattle.lookup.specs.declared.Looked.{Looked}
-use Rattle.lookup.specs.declared.groups.GroupSeen.{GroupSeen}
 use Rattle.lookup.specs.Lookup.{Outcome, found, absent, refused, outcome, Rooms, logs_from, marks_from, within, first_of, short, partners_at, before, look_check, look_group, on_found, look_in, looked_of, partners_left, logs_left, marks_left}
 use Rattle.lookup.proofs.Laws.Groups.{seen_fault, seen_degree, seen_refusal}
 use Rattle.lookup.specs.Calls.{alone, Alone, begins, ends, group, Whole}
 
-outcome_bad : {c : Check} {r : Refusal} (x : Outcome) → c ≡ Check.Bad r → outcome c x ≡ refused r
+outcome_bad : {c : Check} {r : Refusal} (x : Outcome) → c ≡ Err r → outcome c x ≡ refused r
 unfolding outcome
 outcome_bad x e = rw e
 
-outcome_fine : {c : Check} (x : Outcome) → c ≡ Check.Fine → outcome c x ≡ x
+outcome_fine : {c : Check} (x : Outcome) → c ≡ (Ok tt) → outcome c x ≡ x
 unfolding outcome
 outcome_fine x e = rw e
 
-refuse_true : (r : Refusal) {t : Bool} → t ≡ true → refuse r t ≡ Check.Bad r
+refuse_true : (r : Refusal) {t : Bool} → t ≡ true → refuse r t ≡ Err r
 refuse_true r e = rw e
 
-refuse_false : (r : Refusal) {t : Bool} → t ≡ false → refuse r t ≡ Check.Fine
+refuse_false : (r : Refusal) {t : Bool} → t ≡ false → refuse r t ≡ (Ok tt)
 refuse_false r e = rw e
 
 -- a sum that is capped is the sum, and within the edge count what it was
-cap_cases : (e d : ℕ) (x : Sum) (s : ℕ) → capped e x ≡ Sum.Total s → (within e d x ≡ leb (s + d) e) × (first_of x ≡ s)
+cap_cases : (e d : ℕ) (x : Option ℕ) (s : ℕ) → capped e x ≡ Some s → (within e d x ≡ leb (s + d) e) × (first_of x ≡ s)
 unfolding capped within first_of
-cap_cases e d (Sum.Total t) s q =
+cap_cases e d (Some t) s q =
     elim (dec_le t e) [
       | yes h ↦
-          let r : Sum.Total t ≡ Sum.Total s = sym (simp (le-leb t e h)) ∙ q in
+          let r : Some t ≡ Some s = sym (simp (le-leb t e h)) ∙ q in
           let same : t ≡ s = cc in
           (ap (λ (m : ℕ). leb (m + d) e) same, same)
       | no h ↦
-          let r : Sum.Bad ≡ Sum.Total s = sym (simp (lt-leb t e (omega arith))) ∙ q in
+          let r : None ≡ Some s = sym (simp (lt-leb t e (omega arith))) ∙ q in
           let z : ◌≡◌ {A = ℕ} 0 1 = cc in absurd (omega arith)
     ]
-cap_cases e d Sum.Bad s q = let z : ◌≡◌ {A = ℕ} 0 1 = cc in absurd (omega arith)
+cap_cases e d None s q = let z : ◌≡◌ {A = ℕ} 0 1 = cc in absurd (omega arith)
 
-within_is : (e d : ℕ) (x : Sum) (s : ℕ) → capped e x ≡ Sum.Total s → within e d x ≡ leb (s + d) e
+within_is : (e d : ℕ) (x : Option ℕ) (s : ℕ) → capped e x ≡ Some s → within e d x ≡ leb (s + d) e
 within_is e d x s q = (cap_cases e d x s q).0
 
-first_is : (e : ℕ) (x : Sum) (s : ℕ) → capped e x ≡ Sum.Total s → first_of x ≡ s
+first_is : (e : ℕ) (x : Option ℕ) (s : ℕ) → capped e x ≡ Some s → first_of x ≡ s
 first_is e x s q = (cap_cases e 0 x s q).1
 
-within_bad : (e d : ℕ) (x : Sum) → capped e x ≡ Sum.Bad → within e d x ≡ false
+within_bad : (e d : ℕ) (x : Option ℕ) → capped e x ≡ None → within e d x ≡ false
 unfolding capped within
-within_bad e d (Sum.Total t) q =
+within_bad e d (Some t) q =
     elim (dec_le t e) [
       | yes h ↦
-          let r : Sum.Total t ≡ Sum.Bad = sym (simp (le-leb t e h)) ∙ q in
+          let r : Some t ≡ None = sym (simp (le-leb t e h)) ∙ q in
           let z : ◌≡◌ {A = ℕ} 0 1 = cc in absurd (omega arith)
       | no h ↦ simp (lt-leb (t + d) e (omega arith))
     ]
-within_bad e d Sum.Bad q = refl
+within_bad e d None q = refl
 
-pub capped_le : (e : ℕ) (x : Sum) (s : ℕ) → capped e x ≡ Sum.Total s → s ≤ e
+pub capped_le : (e : ℕ) (x : Option ℕ) (s : ℕ) → capped e x ≡ Some s → s ≤ e
 unfolding capped
-capped_le e (Sum.Total t) s q =
+capped_le e (Some t) s q =
     elim (dec_le t e) [
       | yes h ↦
-          let r : Sum.Total t ≡ Sum.Total s = sym (simp (le-leb t e h)) ∙ q in
+          let r : Some t ≡ Some s = sym (simp (le-leb t e h)) ∙ q in
           let same : t ≡ s = cc in omega arith
       | no h ↦
-          let r : Sum.Bad ≡ Sum.Total s = sym (simp (lt-leb t e (omega arith))) ∙ q in
+          let r : None ≡ Some s = sym (simp (lt-leb t e (omega arith))) ∙ q in
           let z : ◌≡◌ {A = ℕ} 0 1 = cc in absurd (omega arith)
     ]
-capped_le e Sum.Bad s q = let z : ◌≡◌ {A = ℕ} 0 1 = cc in absurd (omega arith)
+capped_le e None s q = let z : ◌≡◌ {A = ℕ} 0 1 = cc in absurd (omega arith)
 
 -- ---- ways out of partners alone
 
-pub alone_absent : (x : Outcome) (c : ℕ) (o : List ℕ) → x ≡ absent c → Alone x (Looked.Absent c) o o
+pub alone_absent : (x : Outcome) (c : ℕ) (o : List ℕ) → x ≡ absent c → Alone x (Ok (Looked.Absent c)) o o
 unfolding looked_of partners_left
 alone_absent x c o e = record { answer = sym (ap looked_of e); partners = sym (ap (λ (y : Outcome). partners_left y o) e) }
 
-pub alone_refused : (x : Outcome) (r : Refusal) (o : List ℕ) → x ≡ refused r → Alone x (Looked.Refused r) o o
+pub alone_refused : (x : Outcome) (r : Refusal) (o : List ℕ) → x ≡ refused r → Alone x (Err r) o o
 unfolding looked_of partners_left
 alone_refused x r o e = record { answer = sym (ap looked_of e); partners = sym (ap (λ (y : Outcome). partners_left y o) e) }
 
 pub alone_found : (x : Outcome) (i c d : ℕ) (ps : List Id) (o out : List ℕ) → x ≡ found i c ps [] [] → length ps ≡ d → out ≡ over (bytes_of ps) o
-    → Alone x (Looked.Found d i c) o out
+    → Alone x (Ok (Looked.Found d i c)) o out
 unfolding looked_of partners_left
 alone_found x i c d ps o out e l q = record {
-  answer = sym (ap looked_of e ∙ ap (λ (n : ℕ). Looked.Found n i c) l);
+  answer = sym (ap looked_of e ∙ ap (λ (n : ℕ). Ok (Looked.Found n i c)) l);
   partners = q ∙ sym (ap (λ (y : Outcome). partners_left y o) e);
 }
 
@@ -119,11 +116,11 @@ module _ (full : Bool) (rooms : Rooms) (f : List ℕ) (o : Opened) where
 
 module _ (f : List ℕ) (o : Opened) (i : ℕ) where
   module _ (full : Bool) (rooms : Rooms) (c : ℕ) where
-    pub look_fault : (r : Refusal) → (group f o i) ≡ GroupSeen.Refused r → look_group full rooms (known_of f o) i c ≡ refused r
+    pub look_fault : (r : Refusal) → (group f o i) ≡ Err r → look_group full rooms (known_of f o) i c ≡ refused r
     unfolding look_group look_check known_of
     look_fault r e = outcome_bad _ (bad_then _ (seen_refusal (bytes_at f o.partners) (begins f o i) (ends f o i) i r e))
 
-  module _ (d : ℕ) (g : (group f o i) ≡ GroupSeen.Good d) where
+  module _ (d : ℕ) (g : (group f o i) ≡ Ok d) where
     degree : length (partners_at true (alone 0) (known_of f o) i) ≡ d
     unfolding known_of
     degree = seen_degree (bytes_at f o.partners) (begins f o i) (ends f o i) i d g
@@ -151,7 +148,7 @@ module _ (f : List ℕ) (o : Opened) (i : ℕ) where
       partners_found h = group_is ∙ outcome_fine _ (alone_check false (le-ltb n (16 * d) h))
 
     -- with log numbers and dead marks
-    abbrev sum : Sum
+    abbrev sum : Option ℕ
     sum = before (known_of f o) i d
 
     module _ (rooms : Rooms) (c : ℕ) where
@@ -175,10 +172,10 @@ module _ (f : List ℕ) (o : Opened) (i : ℕ) where
           fine_then _ (seen_fault (bytes_at f o.partners) (begins f o i) (ends f o i) i d g)
           ∙ ap₂ (λ (x y : Bool). refuse (Refusal.Degrees i) (not x) ⊳ refuse (Refusal.Room d) y) p q
 
-      pub whole_lost : capped o.edgecount sum ≡ Sum.Bad → look_group true rooms (known_of f o) i c ≡ refused (Refusal.Degrees i)
+      pub whole_lost : capped o.edgecount sum ≡ None → look_group true rooms (known_of f o) i c ≡ refused (Refusal.Degrees i)
       whole_lost e = whole_is ∙ outcome_bad _ (rest false (short true rooms d) (within_bad o.edgecount d sum e) refl)
 
-      module _ (s : ℕ) (e : capped o.edgecount sum ≡ Sum.Total s) where
+      module _ (s : ℕ) (e : capped o.edgecount sum ≡ Some s) where
         pub whole_over : o.edgecount < s + d → look_group true rooms (known_of f o) i c ≡ refused (Refusal.Degrees i)
         whole_over h =
             whole_is ∙ outcome_bad _ (rest false (short true rooms d) (within_is o.edgecount d sum s e ∙ lt-leb (s + d) o.edgecount h) refl)
@@ -195,7 +192,7 @@ module _ (f : List ℕ) (o : Opened) (i : ℕ) where
               ∙ outcome_fine _ (rest true false (within_is o.edgecount d sum s e ∙ le-leb (s + d) o.edgecount h) q)
               ∙ ap (λ (m : ℕ). found i c (partners_at true (alone 0) (known_of f o) i) (logs_from d (bytes_at f o.logs) m) (marks_from d marks m)) (first_is o.edgecount sum s e)
 
-pub whole_absent : (x : Outcome) (c : ℕ) (o l m : List ℕ) → x ≡ absent c → Whole x (Looked.Absent c) o o l l m m
+pub whole_absent : (x : Outcome) (c : ℕ) (o l m : List ℕ) → x ≡ absent c → Whole x (Ok (Looked.Absent c)) o o l l m m
 unfolding looked_of partners_left logs_left marks_left
 whole_absent x c o l m e = record {
   answer = sym (ap looked_of e);
@@ -204,7 +201,7 @@ whole_absent x c o l m e = record {
   dead = sym (ap (λ (y : Outcome). marks_left y m) e);
 }
 
-pub whole_refused : (x : Outcome) (r : Refusal) (o l m : List ℕ) → x ≡ refused r → Whole x (Looked.Refused r) o o l l m m
+pub whole_refused : (x : Outcome) (r : Refusal) (o l m : List ℕ) → x ≡ refused r → Whole x (Err r) o o l l m m
 unfolding looked_of partners_left logs_left marks_left
 whole_refused x r o l m e = record {
   answer = sym (ap looked_of e);
@@ -214,10 +211,10 @@ whole_refused x r o l m e = record {
 }
 
 pub whole_given : (x : Outcome) (i c d : ℕ) (ps : List Id) (ls ms o out l logs m marks : List ℕ) → x ≡ found i c ps ls ms → length ps ≡ d
-    → out ≡ over (bytes_of ps) o → logs ≡ over ls l → marks ≡ over ms m → Whole x (Looked.Found d i c) o out l logs m marks
+    → out ≡ over (bytes_of ps) o → logs ≡ over ls l → marks ≡ over ms m → Whole x (Ok (Looked.Found d i c)) o out l logs m marks
 unfolding looked_of partners_left logs_left marks_left
-whole_given x i c d ps ls ms o out l logs m marks e n p q r = record {
-  answer = sym (ap looked_of e ∙ ap (λ (t : ℕ). Looked.Found t i c) n);
+whole_given x i c d ps ls ms o out l logs m _ e n p q r = record {
+  answer = sym (ap looked_of e ∙ ap (λ (t : ℕ). Ok (Looked.Found t i c)) n);
   partners = p ∙ sym (ap (λ (y : Outcome). partners_left y o) e);
   numbers = q ∙ sym (ap (λ (y : Outcome). logs_left y l) e);
   dead = r ∙ sym (ap (λ (y : Outcome). marks_left y m) e);
@@ -260,8 +257,8 @@ module _ (rooms : Rooms) (d : ℕ) where
       ]
 
 -- an outcome by another name
-pub whole_as : {x y : Outcome} {r : Looked} {o out l logs m marks : List ℕ} → x ≡ y → Whole y r o out l logs m marks → Whole x r o out l logs m marks
+pub whole_as : {x y : Outcome} {r : Result Looked Refusal} {o out l logs m marks : List ℕ} → x ≡ y → Whole y r o out l logs m marks → Whole x r o out l logs m marks
 whole_as e w = rw e w
 
-pub alone_as : {x y : Outcome} {r : Looked} {o out : List ℕ} → x ≡ y → Alone y r o out → Alone x r o out
+pub alone_as : {x y : Outcome} {r : Result Looked Refusal} {o out : List ℕ} → x ≡ y → Alone y r o out → Alone x r o out
 alone_as e w = rw e w

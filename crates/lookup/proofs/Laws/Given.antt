@@ -1,7 +1,7 @@
 -- Which refusals a lookup gives after opening, and when it tells a fault of the group, 14 at it or 19, exactly.
 use Rattle.std.proofs.Math.Path.{◌≡◌, refl, ap}
 use Rattle.std.proofs.Common.{◌∙◌, inl, inr, ⊎_elim, arith, ltb-false, lt-ltb, le-ltb}
-use Rattle.std.specs.Prelude.{◌↔◌, ◌⊎◌, List, [], ◌∷◌, Bool, not, ◌&&◌, ◌||◌, ltb}
+use Rattle.std.specs.Prelude.{◌↔◌, ◌⊎◌, List, [], ◌∷◌, Bool, not, ◌&&◌, ◌||◌, ltb, Ok, Err}
 use Prim.Native.Nat.{ℕ, ◌+◌, ◌/◌, ◌≤◌, ◌<◌}
 use Rattle.std.proofs.Math.Decide.{dec_lt}
 use Rattle.std.proofs.Math.Bool.{true, false}
@@ -9,9 +9,8 @@ use Rattle.std.proofs.Math.ListN.{length}
 use Rattle.std.proofs.lemmas.Bool.{not-true}
 use Rattle.base.specs.Over.{part}
 use Rattle.refusal.specs.declared.Refusal.{Refusal}
-use Rattle.refusal.specs.declared.Check.{Check}
 use Rattle.refusal.specs.Refusal.{number_of}
-use Rattle.refusal.specs.Check.{◌⊳◌, refuse}
+use Rattle.refusal.specs.Check.{◌⊳◌, refuse, Check}
 use Rattle.refusal.proofs.Laws.Check.{fine_parts, fine_both, bad_then, fine_then, by_first, by_second, refuse_bad, refuse_fine, refuse_own, either_parts, and_parts, listed, Numbers, numbers_fine, numbers_bad, numbers_refuse, numbers_then, numbers_more, not_given}
 use Rattle.frame.specs.Open.{Known, offset_at}
 use Rattle.index.specs.declared.keys.Found.{Found}
@@ -31,16 +30,16 @@ unfolding group_check
 group_numbers i (good dense ps) = numbers_fine fault_numbers
 group_numbers i (bad f) = numbers_bad fault_numbers (refusal_of i f) (fault_listed i f)
 
-pub group_fine : (i : ℕ) (w : Decoded) → (group_check i w ≡ Check.Fine) ↔ (is_good w ≡ true)
+pub group_fine : (i : ℕ) (w : Decoded) → (group_check i w ≡ (Ok tt)) ↔ (is_good w ≡ true)
 unfolding group_check is_good
 group_fine i (good dense ps) = (λ e. refl, λ e. refl)
 group_fine i (bad f) = (λ e. let z : ◌≡◌ {A = ℕ} 0 1 = cc in absurd (omega arith), λ e. let z : ◌≡◌ {A = ℕ} 0 1 = cc in absurd (omega arith))
 
-pub group_fault_lem : (i : ℕ) (w : Decoded) (j : ℕ) (f : Fault) → (group_check i w ≡ Check.Bad (refusal_of j f)) ↔ ((w ≡ bad f) × (i ≡ j))
+pub group_fault_lem : (i : ℕ) (w : Decoded) (j : ℕ) (f : Fault) → (group_check i w ≡ Err (refusal_of j f)) ↔ ((w ≡ bad f) × (i ≡ j))
 unfolding group_check
-group_fault_lem i w j f = (go w, λ h. ap (group_check i) h.0 ∙ ap (λ (t : ℕ). Check.Bad (refusal_of t f)) h.1)
+group_fault_lem i w j f = (go w, λ h. ap (group_check i) h.0 ∙ ap (λ (t : ℕ). Err (refusal_of t f)) h.1)
   where
-    go : (w : Decoded) → group_check i w ≡ Check.Bad (refusal_of j f) → (w ≡ bad f) × (i ≡ j)
+    go : (w : Decoded) → group_check i w ≡ Err (refusal_of j f) → (w ≡ bad f) × (i ≡ j)
     go (good dense ps) e = let z : ◌≡◌ {A = ℕ} 0 1 = cc in absurd (omega arith)
     go (bad x) e =
         let same : refusal_of i x ≡ refusal_of j f = cc in
@@ -49,10 +48,10 @@ group_fault_lem i w j f = (go w, λ h. ap (group_check i) h.0 ∙ ap (λ (t : �
 -- ---- a lookup in what is known of a file
 
 -- a check's refusal is the outcome's
-told : (c : Check) (x : Outcome) → ((r : Refusal) → x ≡ refused r → ⊥) → (r : Refusal) → (outcome c x ≡ refused r) ↔ (c ≡ Check.Bad r)
+told : (c : Check) (x : Outcome) → ((r : Refusal) → x ≡ refused r → ⊥) → (r : Refusal) → (outcome c x ≡ refused r) ↔ (c ≡ Err r)
 unfolding outcome
-told Check.Fine x never r = (λ e. absurd (never r e), λ e. let z : ◌≡◌ {A = ℕ} 0 1 = cc in absurd (omega arith))
-told (Check.Bad q) x never r = (λ e. let same : q ≡ r = cc in ap Check.Bad same, λ e. let same : q ≡ r = cc in ap refused same)
+told (Ok _) x never r = (λ e. absurd (never r e), λ e. let z : ◌≡◌ {A = ℕ} 0 1 = cc in absurd (omega arith))
+told (Err q) x never r = (λ e. let same : q ≡ r = cc in ap Err same, λ e. let same : q ≡ r = cc in ap refused same)
 
 module _ (full : Bool) (rooms : Rooms) (k : Known) where
   abbrev begins : ℕ → ℕ
@@ -79,7 +78,7 @@ module _ (full : Bool) (rooms : Rooms) (k : Known) where
       (numbers_then look_numbers _ _ (numbers_refuse look_numbers (Refusal.Offset i) (misses i) refl) (numbers_more fault_numbers look_numbers refl (group_numbers i (group_of (group i)))))
       (numbers_more (19 ∷ 20 ∷ []) look_numbers refl (late_numbers i d))
 
-  group_refused : (i c : ℕ) (r : Refusal) → (look_group full rooms k i c ≡ refused r) ↔ (look_check full rooms k i (length (partners_at full rooms k i)) ≡ Check.Bad r)
+  group_refused : (i c : ℕ) (r : Refusal) → (look_group full rooms k i c ≡ refused r) ↔ (look_check full rooms k i (length (partners_at full rooms k i)) ≡ Err r)
   unfolding look_group
   group_refused i c r = told (look_check full rooms k i (length (partners_at full rooms k i))) _ (λ q e. let z : ◌≡◌ {A = ℕ} 0 1 = cc in omega arith) r
 
@@ -95,7 +94,7 @@ module _ (full : Bool) (rooms : Rooms) (k : Known) where
 
     -- a refusal of the group that is found: what is to be shown of its check
     module _ (r : Refusal) where
-      look_by : (A : ℕ → Type 0) → ((j : ℕ) → look_check full rooms k j (length (partners_at full rooms k j)) ≡ Check.Bad r → A j)
+      look_by : (A : ℕ → Type 0) → ((j : ℕ) → look_check full rooms k j (length (partners_at full rooms k j)) ≡ Err r → A j)
           → (look_in full rooms k key ≡ refused r) → (j : ℕ) × (c : ℕ) × (find_in k.keys k.keycount key ≡ Found.At j c) × A j
       unfolding look_in on_found
       look_by A told e = go (find_in k.keys k.keycount key) refl e
@@ -105,7 +104,7 @@ module _ (full : Bool) (rooms : Rooms) (k : Known) where
           go (Found.At j c) q e = (j, c, q, told j ((group_refused j c r).0 e))
           go (Found.Absent c) q e = let z : ◌≡◌ {A = ℕ} 0 1 = cc in absurd (omega arith)
 
-      look_back : (j c : ℕ) → find_in k.keys k.keycount key ≡ Found.At j c → look_check full rooms k j (length (partners_at full rooms k j)) ≡ Check.Bad r → look_in full rooms k key ≡ refused r
+      look_back : (j c : ℕ) → find_in k.keys k.keycount key ≡ Found.At j c → look_check full rooms k j (length (partners_at full rooms k j)) ≡ Err r → look_in full rooms k key ≡ refused r
       unfolding look_in on_found
       look_back j c q e = ap (on_found full rooms k) q ∙ (group_refused j c r).1 e
 
@@ -140,10 +139,10 @@ module _ (full : Bool) (rooms : Rooms) (k : Known) where
       told_by = refusal_of i f
 
       -- 14, 19 and 20 tell no fault
-      misplaced_not : (j : ℕ) → refuse (Refusal.Offset j) (misses j) ≡ Check.Bad told_by → ⊥
+      misplaced_not : (j : ℕ) → refuse (Refusal.Offset j) (misses j) ≡ Err told_by → ⊥
       misplaced_not j = fault_apart i f (14 ∷ []) (numbers_refuse (14 ∷ []) (Refusal.Offset j) (misses j) refl) refl
 
-      late_not : (j d : ℕ) → refuse (Refusal.Degrees j) (unplaced j d) ⊳ refuse (Refusal.Room d) (short full rooms d) ≡ Check.Bad told_by → ⊥
+      late_not : (j d : ℕ) → refuse (Refusal.Degrees j) (unplaced j d) ⊳ refuse (Refusal.Room d) (short full rooms d) ≡ Err told_by → ⊥
       late_not j d = fault_apart i f (19 ∷ 20 ∷ []) (late_numbers j d) refl
 
       -- a fault of group i, exactly
@@ -151,7 +150,7 @@ module _ (full : Bool) (rooms : Rooms) (k : Known) where
       unfolding look_check group_fault
       look_fault = (λ e. found (look_by told_by (λ j. (misses j ≡ false) × (group_of (group j) ≡ bad f) × (j ≡ i)) told e), back)
         where
-          told : (j : ℕ) → look_check full rooms k j (length (partners_at full rooms k j)) ≡ Check.Bad told_by → (misses j ≡ false) × (group_of (group j) ≡ bad f) × (j ≡ i)
+          told : (j : ℕ) → look_check full rooms k j (length (partners_at full rooms k j)) ≡ Err told_by → (misses j ≡ false) × (group_of (group j) ≡ bad f) × (j ≡ i)
           told j e =
               let d : ℕ = length (partners_at full rooms k j) in
               let a = (by_first (refuse (Refusal.Offset j) (misses j) ⊳ group_check j (group_of (group j))) _ told_by (late_not j d)).0 e in
@@ -167,7 +166,7 @@ module _ (full : Bool) (rooms : Rooms) (k : Known) where
 
           back : FaultIn k key i f → look_in full rooms k key ≡ refused told_by
           back t =
-              let bad : group_check i (group_of (group i)) ≡ Check.Bad told_by = (group_fault_lem i (group_of (group i)) i f).1 (t.group, refl) in
+              let bad : group_check i (group_of (group i)) ≡ Err told_by = (group_fault_lem i (group_of (group i)) i f).1 (t.group, refl) in
               let fine = (refuse_fine (Refusal.Offset i) (misses i)).1 (not_missed i t.rises t.inside) in
               look_back told_by i t.compared t.found (bad_then _ (fine_then _ fine ∙ bad))
 
@@ -176,11 +175,11 @@ module _ (full : Bool) (rooms : Rooms) (k : Known) where
     unfolding look_check group_fault
     look_misplaced i = (λ e. found (look_by (Refusal.Offset i) (λ j. (misses j ≡ true) × (j ≡ i)) told e), back)
       where
-        of_rule : (j : ℕ) (t : Bool) → refuse (Refusal.Offset j) t ≡ Check.Bad (Refusal.Offset i) → (t ≡ true) × (j ≡ i)
+        of_rule : (j : ℕ) (t : Bool) → refuse (Refusal.Offset j) t ≡ Err (Refusal.Offset i) → (t ≡ true) × (j ≡ i)
         of_rule j true e = (refl, cc)
         of_rule j false e = let z : ◌≡◌ {A = ℕ} 0 1 = cc in absurd (omega arith)
 
-        told : (j : ℕ) → look_check full rooms k j (length (partners_at full rooms k j)) ≡ Check.Bad (Refusal.Offset i) → (misses j ≡ true) × (j ≡ i)
+        told : (j : ℕ) → look_check full rooms k j (length (partners_at full rooms k j)) ≡ Err (Refusal.Offset i) → (misses j ≡ true) × (j ≡ i)
         told j e =
             let r : Refusal = Refusal.Offset i in
             let a = (by_first (refuse (Refusal.Offset j) (misses j) ⊳ group_check j (group_of (group j))) _ r (not_given (19 ∷ 20 ∷ []) (late_numbers j (length (partners_at full rooms k j))) r refl)).0 e in
@@ -201,14 +200,14 @@ module _ (full : Bool) (rooms : Rooms) (k : Known) where
         Here : ℕ → Type 0
         Here j = (misses j ≡ false) × (is_good (group_of (group j)) ≡ true) × (unplaced j (length (partners_at full rooms k j)) ≡ true) × (j ≡ i)
 
-        of_rule : (j : ℕ) (t : Bool) → refuse (Refusal.Degrees j) t ≡ Check.Bad (Refusal.Degrees i) → (t ≡ true) × (j ≡ i)
+        of_rule : (j : ℕ) (t : Bool) → refuse (Refusal.Degrees j) t ≡ Err (Refusal.Degrees i) → (t ≡ true) × (j ≡ i)
         of_rule j true e = (refl, cc)
         of_rule j false e = let z : ◌≡◌ {A = ℕ} 0 1 = cc in absurd (omega arith)
 
-        not_group : (j : ℕ) (w : Decoded) → group_check j w ≡ Check.Bad (Refusal.Degrees i) → ⊥
+        not_group : (j : ℕ) (w : Decoded) → group_check j w ≡ Err (Refusal.Degrees i) → ⊥
         not_group j w = not_given fault_numbers (group_numbers j w) (Refusal.Degrees i) refl
 
-        told : (j : ℕ) → look_check full rooms k j (length (partners_at full rooms k j)) ≡ Check.Bad (Refusal.Degrees i) → Here j
+        told : (j : ℕ) → look_check full rooms k j (length (partners_at full rooms k j)) ≡ Err (Refusal.Degrees i) → Here j
         told j e =
             let r : Refusal = Refusal.Degrees i in
             let d : ℕ = length (partners_at full rooms k j) in

@@ -1,5 +1,5 @@
 -- The laws of lookups.
-use Rattle.std.specs.Prelude.{◌≡◌, refl, List, [], length, get_or, set}
+use Rattle.std.specs.Prelude.{◌≡◌, refl, List, [], length, get_or, set, Ok}
 use Rattle.std.proofs.Common.{sym, ◌∙◌, add-one}
 use Rattle.std.proofs.Math.Path.{ap}
 use Prim.Native.Nat.{ℕ, zero, suc, ◌+◌, ◌-◌, ◌*◌, ◌/◌, ◌%◌, ◌^◌, ◌≤◌, ◌<◌}
@@ -59,7 +59,7 @@ mark_none s e h =
 -- ---- the outputs
 
 -- where nothing is found, each output is left as it was
-pub unfound_leaves : (x : Outcome) → ((d i c : ℕ) → looked_of x ≡ Looked.Found d i c → ⊥) → (o l m : List ℕ)
+pub unfound_leaves : (x : Outcome) → ((d i c : ℕ) → looked_of x ≡ Ok (Looked.Found d i c) → ⊥) → (o l m : List ℕ)
     → (partners_left x o ≡ o) × (logs_left x l ≡ l) × (marks_left x m ≡ m)
 unfolding looked_of partners_left logs_left marks_left
 unfound_leaves (found i c ps logs marks) h o l m = absurd (h (length ps) i c refl)

@@ -1,7 +1,7 @@
 -- A lookup by the start index: when it gives 19, exactly, where the group's log numbers begin, and that it reads no other group.
 use Rattle.std.proofs.Math.Path.{◌≡◌, refl, sym, ap}
 use Rattle.std.proofs.Common.{◌∙◌, inl, inr, ⊎_elim, arith, eq-eqb, ne_eqb, le-leb}
-use Rattle.std.specs.Prelude.{◌↔◌, ◌⊎◌, Bool, false, not, ◌&&◌, ◌||◌}
+use Rattle.std.specs.Prelude.{◌↔◌, ◌⊎◌, Bool, false, not, ◌&&◌, ◌||◌, Option, Ok, Some, Err}
 use Prim.Native.Nat.{ℕ, ◌+◌, ◌/◌, ◌<◌}
 use Rattle.std.proofs.Math.Decide.{ℕ_discrete, dec_lt}
 use mathlib.Core.List.{List, []}
@@ -13,14 +13,12 @@ use Rattle.base.specs.Pick.{pick}
 use Rattle.base.specs.Over.{part}
 use Rattle.codes.specs.declared.ids.Id.{Id}
 use Rattle.refusal.specs.declared.Refusal.{Refusal}
-use Rattle.refusal.specs.declared.Check.{Check}
-use Rattle.refusal.specs.Check.{◌⊳◌, refuse}
+use Rattle.refusal.specs.Check.{◌⊳◌, refuse, Check}
 use Rattle.refusal.proofs.Laws.Check.{fine_parts, good_parts}
 use Rattle.frame.specs.declared.Opened.{Opened}
 use Rattle.frame.specs.Open.{Known, known_of, bytes_at, offset_at, start_at}
 use Rattle.index.specs.declared.keys.Found.{Found}
 use Rattle.index.specs.Find.{find_in}
-use Rattle.degrees.specs.declared.Sum.{Sum}
 use Rattle.degrees.specs.Degrees.{misplaced, edges_before, start_of}
 use Rattle.group.specs.Group.{group_of, partners_of}
 use Rattle.lookup.specs.Lookup.{Outcome, found, outcome, Rooms, group_check, group_fault, before, within, first_of, logs_from, marks_from, short, offset, partners_at, look_check, look_group, on_found, look_in}
@@ -44,7 +42,7 @@ module _ (k : Known) (there : k.indexed ≡ true) (i d : ℕ) where
   unfolding start_of within
   unlike_bad h = ap (within k.edgecount d) by_index ∙ rw (ne_eqb (begin + d) next h)
 
-  like : begin + d ≡ next → before k i d ≡ Sum.Total begin
+  like : begin + d ≡ next → before k i d ≡ Some begin
   unfolding start_of
   like h = by_index ∙ rw (eq-eqb (begin + d) next h)
 
@@ -94,7 +92,7 @@ unfolding before
 summed_there k m i d = rw m
 
 -- a lookup of the group g, of which `misses` says whether its offsets fall or leave the partners, and whose edges begin at `sum`
-abbrev seen : Bool → Rooms → ℕ → ℕ → Bool → List ℕ → Sum → ℕ → List ℕ → List ℕ → Outcome
+abbrev seen : Bool → Rooms → ℕ → ℕ → Bool → List ℕ → (Option ℕ) → ℕ → List ℕ → List ℕ → Outcome
 seen full rooms i c misses g sum edges logs dead =
     let ps : List Id = partners_of (group_of g) in
     let d : ℕ = length ps in
@@ -133,10 +131,10 @@ module _ (full : Bool) (rooms : Rooms) where
 -- ---- what is found begins where the start index says
 
 -- an outcome that is found is the one that was meant, and nothing was refused
-found_is : (c : Check) (x : Outcome) {i n : ℕ} {ps : List Id} {ls ms : List ℕ} → outcome c x ≡ found i n ps ls ms → (c ≡ Check.Fine) × (x ≡ found i n ps ls ms)
+found_is : (c : Check) (x : Outcome) {i n : ℕ} {ps : List Id} {ls ms : List ℕ} → outcome c x ≡ found i n ps ls ms → (c ≡ (Ok tt)) × (x ≡ found i n ps ls ms)
 unfolding outcome
-found_is Check.Fine x e = (refl, e)
-found_is (Check.Bad r) x e = let z : ◌≡◌ {A = ℕ} 0 1 = cc in absurd (omega arith)
+found_is (Ok _) x e = (refl, e)
+found_is (Err r) x e = let z : ◌≡◌ {A = ℕ} 0 1 = cc in absurd (omega arith)
 
 module _ (rooms : Rooms) (k : Known) (there : k.indexed ≡ true) where
   group_taken : (i c : ℕ) {j n : ℕ} {ps : List Id} {ls ms : List ℕ} → look_group true rooms k i c ≡ found j n ps ls ms

@@ -3,7 +3,6 @@ use Rattle.std.specs.Prelude.{◌≡◌, refl, ℕ, true, List, [], ◌∷◌, �
 use Rattle.std.proofs.Common.{ap, ap₂, ◌∙◌}
 use Rattle.codes.specs.Little.{le_at}
 use Rattle.codes.specs.Ids.{be_at, halves_at}
-use Rattle.refusal.specs.declared.Check.{Check}
 use Rattle.frame.specs.declared.ends.Header.{Header}
 use Rattle.frame.specs.Frame.{record_from, record_of, body_of}
 use Rattle.frame.proofs.Laws.Cases.{one_edge, headers}
@@ -13,6 +12,7 @@ use Rattle.readout.specs.Cases.{cases_pass, damaged, read}
 use Rattle.refusal.specs.declared.Refusal.{Refusal}
 use Rattle.text.specs.Text.{decimal_in, hex, refused_text}
 use Rattle.printing.specs.Printed.{edge_line, first_line, dead_in, edge_lines, printed, printed_by, printed_of}
+use Rattle.refusal.specs.Check.{Check}
 
 -- "edge-sst forward minor 0 keys 1 edges 1 dead 0"
 abbrev one : List ℕ

@@ -1,5 +1,5 @@
 -- Laws of the printed form: how long a line may be, its lines one by one, and that all of them make it.
-use Rattle.std.specs.Prelude.{◌≡◌, Bool, get_or, ltb, eqb}
+use Rattle.std.specs.Prelude.{◌≡◌, Bool, get_or, ltb, eqb, Err}
 use Rattle.std.proofs.Math.Path.{refl, sym, ap, ap₂}
 use Rattle.std.proofs.Common.{◌∙◌, zero-add, add-zero, add-one, length-append, lt-ltb, le-ltb}
 use Prim.Native.Nat.{ℕ, zero, suc, ◌+◌, ◌-◌, ◌≤◌, ◌<◌}
@@ -11,7 +11,6 @@ use Rattle.base.specs.Pick.{pick}
 use Rattle.batch.specs.declared.Edge.{Edge}
 use Rattle.batch.specs.Batch.{heading_size, edge_at, edges_at, edges_of, record_count, place}
 use Rattle.refusal.specs.declared.Refusal.{Refusal}
-use Rattle.refusal.specs.declared.Check.{Check}
 use Rattle.frame.specs.Frame.{header_in, record_of}
 use Rattle.reader.proofs.Laws.Look.{opened_holds}
 use Rattle.full_check.specs.Full.{full_check}
@@ -21,6 +20,7 @@ use Rattle.base.specs.Over.{length_part}
 use Rattle.text.specs.Text.{refused_text}
 use Rattle.text.specs.Text.Laws.{length_decimal, length_hex}
 use Rattle.printing.specs.Printed.{life_end, newline, edge_line, edge_lines, forward_word, inverse_word, first_line, dead_in, ok_line, printed, line_at, lines_from, line_room, line_count, printed_by, printed_of, PartOf, Passed, BatchRoom, longest, batch_room}
+use Rattle.refusal.specs.Check.{Check}
 
 -- ---- there is room for any line
 
@@ -152,7 +152,7 @@ module _ (minor keys : ℕ) (s : List ℕ) where
 
 -- ---- a file
 
-pub refused_printed : (f : List ℕ) (r : Refusal) → full_check f ≡ Check.Bad r → printed_of f ≡ refused_text r ++ newline
+pub refused_printed : (f : List ℕ) (r : Refusal) → full_check f ≡ Err r → printed_of f ≡ refused_text r ++ newline
 unfolding printed_by
 refused_printed f r e = ap (λ (c : Check). printed_by c f) e
 

@@ -7,9 +7,9 @@ use Rattle.printing.proofs.print_file.Goals as goal
 
 pub print_refusal-requires : goal.print_refusal-requires
 print_refusal-requires c =
-    (full_unopened c.args.file.now c.in-Refused.refusal (sym c.«open».ensures ∙ c.in-Refused.is), omega arith)
+    (full_unopened c.args.file.now c.in-Err.unopened (sym c.«open».ensures ∙ c.in-Err.is), omega arith)
 
 pub print_opened-requires : goal.print_opened-requires
 print_opened-requires c =
-    let same = opens_record c.args.file.now c.in-Good.opened (sym c.«open».ensures ∙ c.in-Good.is) in
+    let same = opens_record c.args.file.now c.in-Ok.opened (sym c.«open».ensures ∙ c.in-Ok.is) in
     (ap (λ (x : Opened). x.keycount) (sym same), c.requires.0, omega arith)

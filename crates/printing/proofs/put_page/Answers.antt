@@ -1,12 +1,12 @@
 -- `printing::put_page` meets its contract. Invariant: the lines before `next` are put, and none takes more than its room.
-use mathlib.Core.Path.{◌≡◌, refl, sym, ap, ◌∙◌}
+use mathlib.Core.Path.{◌≡◌, refl, sym, ap, subst, ◌∙◌}
 use Prim.Native.Nat.{ℕ, suc, ◌+◌, ◌-◌, ◌≤◌, ◌<◌}
 use native.Mathlib.Omega.{arith}
 use mathlib.Core.List.{List, ◌++◌}
 use lib.ListN.{length}
 use Rattle.base.specs.Put.{Put}
 use Rattle.text.specs.Text.Laws.{is, both, put_length, put_none}
-use Rattle.printing.specs.Printed.{line_at, lines_from, line_room, line_count}
+use Rattle.printing.specs.Printed.{line_at, lines_from, line_room, line_count, PagePut}
 use Rattle.printing.proofs.Laws.Printed.{line_room_lem, lines_none, lines_more}
 use Rattle.printing.proofs.put_page.Goals as goal
 use Rattle.printing.proofs.put_page.Invariants.{Head}
@@ -46,6 +46,10 @@ module _ (minor keys : ℕ) (s o : List ℕ) (from : ℕ) where
         lines = is text (both h.lines p);
       }
 
+  -- the page up to line n
+  done : {out : List ℕ} {next at n : ℕ} → Head minor keys s o from out next at → next ≡ n → from < n → PagePut minor keys s o out from n at
+  done {out} {at = at} h e = subst (λ (n : ℕ). from < n → PagePut minor keys s o out from n at) e (λ m. record { more = m; upto = h.upto; within = rw h.same h.within; lines = h.lines })
+
 pub overflow_add-lines : goal.overflow_add-lines
 overflow_add-lines c = let e = c.edge_count-lines.ensures in omega arith
 
@@ -72,9 +76,6 @@ returns-then-out-at-lt-LINE c =
 pub put_line-at-requires : goal.put_line-at-requires
 put_line-at-requires c = let h = c.loop-next.invariant in let s = h.same in (c.requires.0, omega arith)
 
-pub overflow_add-next : goal.overflow_add-next
-overflow_add-next c = let e = c.edge_count-lines.ensures in let u = c.loop-next.invariant.upto in omega arith
-
 pub loop-next-preserved : goal.loop-next-preserved
 loop-next-preserved c =
     let a = c.args in
@@ -88,6 +89,8 @@ shape_of-out c = c.loop-next.invariant.same
 
 pub returns : goal.returns
 returns c =
+    let a = c.args in
     let h = c.loop-next.invariant in
+    let u = h.upto in
     let e = c.edge_count-lines.ensures in
-    record { more = omega arith; upto = h.upto; within = rw h.same h.within; lines = h.lines }
+    done a.minor a.keys a.batch.now a.out.now a.from h (omega arith) (omega arith)

@@ -17,6 +17,3 @@ pub record Head (minor keys : ℕ) (s o : List ℕ) (from : ℕ) (out : List ℕ
 
 abbrev pub invariant-loop-next : goal.invariant-loop-next
 invariant-loop-next l = Head l.minor l.keys l.batch l.initial.out l.from l.out l.next l.at
-
-abbrev pub decreases-loop-next : goal.decreases-loop-next
-decreases-loop-next l = l.lines - l.next

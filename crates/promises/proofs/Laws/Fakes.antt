@@ -1,11 +1,10 @@
 -- The four fakes, each with the promise that stops it: no reader or writer that does so keeps its promise. Ours keep each of them.
-use Rattle.std.specs.Prelude.{◌≡◌, refl, ℕ, zero, suc, ◌+◌, ◌-◌, ◌^◌, ◌≤◌, List, [], ◌∷◌, Bool, true, false, length, get_or}
+use Rattle.std.specs.Prelude.{◌≡◌, refl, ℕ, zero, suc, ◌+◌, ◌-◌, ◌^◌, ◌≤◌, List, [], ◌∷◌, Bool, true, false, length, get_or, Ok, Err}
 use Rattle.std.proofs.Common.{sym, ap, ◌∙◌, arith}
 use Rattle.base.specs.Over.{over}
 use Rattle.codes.specs.Little.{le_at}
 use Rattle.codes.specs.Ids.{be_at, halves_at}
 use Rattle.refusal.specs.declared.Refusal.{Refusal}
-use Rattle.refusal.specs.declared.Check.{Check}
 use Rattle.frame.specs.Frame.{record_of}
 use Rattle.frame.proofs.Laws.Cases.{heading_only}
 use Rattle.lookup.specs.Lookup.{Outcome, found, absent, refused, Rooms, look_of, look_with}
@@ -16,7 +15,6 @@ use Rattle.agreement.specs.SameEdges.{of_key, Says, shown_by, Enough}
 use Rattle.agreement.specs.OutBytes.{byted}
 use Rattle.agreement.proofs.Laws.OutBytes.{bytes_are}
 use Rattle.full_check.specs.Full.{full_check}
-use Rattle.write_file.specs.declared.Written.{Written}
 use Rattle.write_file.specs.Written.{written_of, file_in, write_leaves}
 use Rattle.demand2.specs.Demand2.{file_for, Lawful}
 use Rattle.demand2.proofs.Laws.Demand2.{demand_2}
@@ -25,6 +23,7 @@ use Rattle.promises.proofs.Laws.Calls.{takes, writes}
 use Rattle.promises.specs.Marked.{empty, live, one}
 use Rattle.promises.proofs.Laws.Marked.{marked}
 use Rattle.promises.specs.Fakes.{Passes, Reader, Looks, Writer, Writes}
+use Rattle.refusal.specs.Check.{Check}
 
 -- ---- three lawful batches: those of the marked cases, without edges and with one, and `mixed`, of two keys
 
@@ -78,10 +77,10 @@ enough es fs e h = let n : length es ≡ length fs = ap length e in record { byt
 pub our_check : Passes full_check
 our_check s lawful = (demand_2 s lawful).passes_check
 
-pub refuse_every_file : (check : List ℕ → Check) → Passes check → ((f : List ℕ) → (r : Refusal) × (check f ≡ Check.Bad r)) → ⊥
+pub refuse_every_file : (check : List ℕ → Check) → Passes check → ((f : List ℕ) → (r : Refusal) × (check f ≡ Err r)) → ⊥
 refuse_every_file check promise fake =
     let (r, e) = fake (file_for empty) in
-    let q : Check.Fine ≡ Check.Bad r = sym (promise empty empty_lawful) ∙ e in
+    let q : (Ok tt) ≡ Err r = sym (promise empty empty_lawful) ∙ e in
     let z : ◌≡◌ {A = ℕ} 0 1 = cc in omega arith
 
 -- of a file, and by the record that opening gave
@@ -131,7 +130,7 @@ zeros zero = []
 zeros (suc n) = 0 ∷ zeros n
 
 -- wherever it says done, the output is as it was
-pub nothing_written : (w : Writer) → Writes w → ((s o : List ℕ) (n : ℕ) → w.says s o ≡ Written.Done n → w.leaves s o ≡ o) → ⊥
+pub nothing_written : (w : Writer) → Writes w → ((s o : List ℕ) (n : ℕ) → w.says s o ≡ Ok n → w.leaves s o ≡ o) → ⊥
 unfolding zeros heading_only
 nothing_written w promise fake =
     let size : length (file_for empty) ≡ 218 = ap length marked.c11.0 in

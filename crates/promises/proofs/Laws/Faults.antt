@@ -1,14 +1,12 @@
 -- "Say what is wrong with a group": each number of a group's faults is given by every call on the file exactly where that fault is the
 -- first in the order of checks, at the byte inside the group, with the group beside it.
-use Rattle.std.specs.Prelude.{◌≡◌, refl, ◌↔◌, ℕ, ◌+◌, List, [], ◌∷◌, Bool, true}
+use Rattle.std.specs.Prelude.{◌≡◌, refl, ◌↔◌, ℕ, ◌+◌, List, [], ◌∷◌, Bool, true, Ok, Err}
 use Rattle.std.proofs.Common.{sym, ◌∙◌, arith}
 use Rattle.std.proofs.Math.Logic.Iff.{trans as iff_trans}
 use Rattle.refusal.specs.declared.Refusal.{Refusal}
-use Rattle.refusal.specs.declared.Check.{Check}
 use Rattle.refusal.specs.Refusal.{number_of, is_gone}
 use Rattle.refusal.proofs.Laws.Refusal.{not_gone}
 use Rattle.frame.specs.declared.Opened.{Opened}
-use Rattle.frame.specs.declared.Opening.{Opening}
 use Rattle.frame.specs.Frame.{record_of}
 use Rattle.frame.specs.Open.{Known, key_at, known_of, bytes_at, record_good, file_check, open_of}
 use Rattle.frame.proofs.Laws.Open.{opens_fine, opens_refused}
@@ -22,22 +20,19 @@ use Rattle.group.proofs.Laws.Fault.{fault_number, fault_place, fault_beside, fau
 use Rattle.group.proofs.Laws.Wrong.{wrong_exactly}
 use Rattle.lookup.specs.Lookup.{Rooms, refused, look_of, look_with}
 use Rattle.lookup.specs.Given.{FaultIn}
-use Rattle.reader.specs.declared.header.HeaderRead.{HeaderRead}
 use Rattle.reader.specs.Header.{header_of}
 use Rattle.reader.proofs.Laws.Header.{header_opening}
 use Rattle.reader.proofs.Laws.Opened.{opened_keys, opened_offsets}
 use Rattle.reader.proofs.Laws.Given.{look_of_fault, look_with_fault, look_of_unplaced, look_with_unplaced, look_with_misplaced}
 use Rattle.full_check.specs.Full.{full_check, checked_of}
 use Rattle.full_check.specs.Given.{FaultFirst, full_fault}
-use Rattle.readout.specs.declared.ReadOut.{ReadOut}
 use Rattle.readout.specs.ReadOut.{read_out_of}
 use Rattle.readout.specs.ReadOut.Laws.{read_full}
 use Rattle.summary.specs.Summary.{summarised_of}
 use Rattle.summary.proofs.Laws.Promise.{summary_refuses}
-use Rattle.listing.specs.declared.Listed.{Listed}
 use Rattle.listing.specs.List.{listed_of}
 use Rattle.listing.proofs.Laws.List.{list_opening}
-use Rattle.promises.specs.Given.{Gives, not_summed}
+use Rattle.promises.specs.Given.{Gives}
 use Rattle.promises.proofs.Laws.Given.{gives_is, checked_is}
 use Rattle.promises.specs.Faults.{WrongAsked, WrongIn, WrongChecked, Faulty, Kept}
 
@@ -55,7 +50,7 @@ module _ (f : List ℕ) (i : ℕ) (w : Flaw) (b : ℕ) where
   )
 
   -- a group of a file that opens lies within the partners
-  asked : (key : ℕ) → ((file_check f ≡ Check.Fine) × FaultIn (known_of f (record_of f)) key i fault) ↔ WrongAsked f key i w b
+  asked : (key : ℕ) → ((file_check f ≡ (Ok tt)) × FaultIn (known_of f (record_of f)) key i fault) ↔ WrongAsked f key i w b
   unfolding known_of
   asked key = (
     λ h. record { opens = (opens_fine f).1 h.0; compared = h.1.compared; found = h.1.found; wrong = (wrong_exactly _ w b).0 h.1.group },
@@ -88,7 +83,7 @@ module _ (f : List ℕ) (i : ℕ) (w : Flaw) (b : ℕ) where
         },
   )
 
-  unopened : file_check f ≡ Check.Bad told → ⊥
+  unopened : file_check f ≡ Err told → ⊥
   unopened = fault_apart i fault opening_numbers (opening_numbers_lem f) refl
 
   -- the number and both places tell the fault
@@ -120,17 +115,17 @@ module _ (f : List ℕ) (i : ℕ) (w : Flaw) (b : ℕ) where
       let full = iff_trans (full_fault f i fault) first in record {
         lookup = λ full rooms key. iff_trans (gives_fault refused (look_of full rooms key f)) (iff_trans (look_of_fault full rooms key f i fault) (asked key));
         lookup_with = λ full rooms key o. iff_trans (gives_fault refused (look_with full rooms key f o)) (iff_trans (look_with_fault full rooms key f o i fault) (by_record o key));
-        check = iff_trans (gives_fault Check.Bad (full_check f)) full;
-        checked = iff_trans (gives_fault Opening.Refused (checked_of f)) (iff_trans (checked_is f told) full);
-        read_out = λ room. iff_trans (gives_fault ReadOut.Refused (read_out_of f room)) (iff_trans (read_full f room told not_room) full);
-        summary = iff_trans (gives_fault not_summed (summarised_of f)) (iff_trans (summary_refuses f told) full);
-        opening = λ g. unopened ((opens_refused f told).0 ((gives_fault Opening.Refused (open_of f)).0 g));
-        header = λ g. unopened ((header_opening f told).0 ((gives_fault HeaderRead.Refused (header_of f)).0 g));
-        sections = λ room g. unopened ((list_opening f room told not_room).0 ((gives_fault Listed.Refused (listed_of f room)).0 g));
+        check = iff_trans (gives_fault Err (full_check f)) full;
+        checked = iff_trans (gives_fault Err (checked_of f)) (iff_trans (checked_is f told) full);
+        read_out = λ room. iff_trans (gives_fault Err (read_out_of f room)) (iff_trans (read_full f room told not_room) full);
+        summary = iff_trans (gives_fault Err (summarised_of f)) (iff_trans (summary_refuses f told) full);
+        opening = λ g. unopened ((opens_refused f told).0 ((gives_fault Err (open_of f)).0 g));
+        header = λ g. unopened ((header_opening f told).0 ((gives_fault Err (header_of f)).0 g));
+        sections = λ room g. unopened ((list_opening f room told not_room).0 ((gives_fault Err (listed_of f room)).0 g));
       }
 
 -- both users are told the same: a fault of group i that the full check tells is told by a lookup of that group's key, in any room
-pub same_fault : (f : List ℕ) (i : ℕ) (w : Flaw) (b : ℕ) → Gives Check.Bad (full_check f) (number_for w) b i
+pub same_fault : (f : List ℕ) (i : ℕ) (w : Flaw) (b : ℕ) → Gives Err (full_check f) (number_for w) b i
     → (full : Bool) (rooms : Rooms) → Gives refused (look_of full rooms (key_at (bytes_at f (record_of f).keys) i) f) (number_for w) b i
 same_fault f i w b g full rooms =
     let t = (faulty f i w b).check.0 g in

@@ -1,10 +1,9 @@
 -- The start index: when opening refuses it, what a lookup takes from it, and that it does not show in a file that passes the full
 -- check.
-use Rattle.std.specs.Prelude.{◌≡◌, refl, ◌↔◌, ℕ, List, Bool, true, false, length}
+use Rattle.std.specs.Prelude.{◌≡◌, refl, ◌↔◌, ℕ, List, Bool, true, false, length, Ok}
 use Rattle.std.proofs.Common.{sym, ◌∙◌, arith}
 use Rattle.std.proofs.Math.Logic.Iff.{trans as iff_trans}
 use Rattle.refusal.specs.declared.Refusal.{Refusal}
-use Rattle.refusal.specs.declared.Check.{Check}
 use Rattle.frame.specs.declared.Opened.{Opened}
 use Rattle.refusal.proofs.Laws.Check.{fine_parts, fine_both}
 use Rattle.frame.specs.Frame.{rows_of, body_of, flags_of, record_of}
@@ -55,7 +54,7 @@ record_here full rooms key f o = iff_trans (gives_is refused (look_with full roo
     back false g un = with_bad full rooms key f o g
 
 passes_here : (f : List ℕ)
-    → (full_check f ≡ Check.Fine) ↔ ((file_check f ≡ Check.Fine) × (sums_from f (rows_of (body_of f)) 0 ≡ Check.Fine) × (edges_check (flags_of f) (known_of f (record_of f)) ≡ Check.Fine))
+    → (full_check f ≡ (Ok tt)) ↔ ((file_check f ≡ (Ok tt)) × (sums_from f (rows_of (body_of f)) 0 ≡ (Ok tt)) × (edges_check (flags_of f) (known_of f (record_of f)) ≡ (Ok tt)))
 unfolding full_check
 passes_here f = (
   λ e. let a = fine_parts (file_check f) _ e in let b = fine_parts (sums_from f (rows_of (body_of f)) 0) _ a.1 in (a.0, b.0, b.1),

@@ -1,11 +1,9 @@
 -- The count of keys that a lookup says it compared: at most 25, and 0 for no keys.
-use Rattle.std.specs.Prelude.{◌≡◌, ℕ, ◌≤◌, List, Bool}
+use Rattle.std.specs.Prelude.{◌≡◌, ℕ, ◌≤◌, List, Bool, Ok, Err}
 use Rattle.std.proofs.Math.Path.{refl}
 use native.Mathlib.Omega.{arith}
 use Rattle.std.proofs.Math.Bool.{true, false}
-use Rattle.refusal.specs.declared.Check.{Check}
 use Rattle.frame.specs.declared.Opened.{Opened}
-use Rattle.frame.specs.declared.Opening.{Opening}
 use Rattle.frame.specs.Kind as kind
 use Rattle.frame.specs.Open.{Known, known_of, record_good, open_of}
 use Rattle.index.specs.declared.keys.Found.{Found}
@@ -15,11 +13,13 @@ use Rattle.lookup.specs.Lookup.{Outcome, outcome, Rooms, look_group, on_found, l
 use Rattle.lookup.proofs.Laws.Record.{holds}
 use Rattle.reader.proofs.Laws.Look.{with_bad, with_good, of_refused, of_good, opened_holds}
 use Rattle.reader.specs.Compared.{compared_in}
+use Rattle.refusal.specs.Check.{Check}
+use Rattle.frame.specs.Opening.{Opening}
 
 outcome_compared : (c : Check) (x : Outcome) → compared_in (outcome c x) ≤ compared_in x
 unfolding outcome compared_in
-outcome_compared Check.Fine x = omega arith
-outcome_compared (Check.Bad r) x = omega arith
+outcome_compared (Ok _) x = omega arith
+outcome_compared (Err r) x = omega arith
 
 module _ (full : Bool) (rooms : Rooms) where
   on_found_lem : (k : Known) (x : Found) → compared_in (on_found full rooms k x) ≤ compared_of x
@@ -47,5 +47,5 @@ module _ (full : Bool) (rooms : Rooms) where
     of_compared = by_opening (open_of f) refl
       where
         by_opening : (x : Opening) → open_of f ≡ x → compared_in (look_of full rooms key f) ≤ 25
-        by_opening (Opening.Good o) e = rw (of_good full rooms key f o e) (in_compared (known_of f o) key (opened_holds f o e).few)
-        by_opening (Opening.Refused r) e = rw (of_refused full rooms key f r e) (omega arith)
+        by_opening (Ok o) e = rw (of_good full rooms key f o e) (in_compared (known_of f o) key (opened_holds f o e).few)
+        by_opening (Err r) e = rw (of_refused full rooms key f r e) (omega arith)

@@ -1,20 +1,18 @@
 -- What rules 1 to 12 and 36 give rules 13 to 15 and 37: sections that lie within the file, and lengths that fit the counts.
-use Rattle.std.specs.Prelude.{◌≡◌, ℕ, ◌-◌, ◌/◌, List, Bool, true, false, not, ◌&&◌, length}
+use Rattle.std.specs.Prelude.{◌≡◌, ℕ, ◌-◌, ◌/◌, List, Bool, true, false, not, ◌&&◌, length, Ok, Err}
 use Rattle.std.proofs.Math.Path.{refl, ap}
 use Rattle.std.proofs.Common.{sym, ◌∙◌, arith}
 use Rattle.refusal.specs.declared.Refusal.{Refusal}
-use Rattle.refusal.specs.declared.Check.{Check}
 use Rattle.frame.specs.declared.Framed.{Framed}
-use Rattle.refusal.specs.Check.{◌⊳◌, refuse}
+use Rattle.refusal.specs.Check.{◌⊳◌, refuse, Check}
 use Rattle.refusal.proofs.Laws.Check.{then_assoc}
-use Rattle.frame.specs.declared.Framing.{Framing}
-use Rattle.frame.specs.declared.Opening.{Opening}
 use Rattle.frame.specs.Frame.{frame_check}
 use Rattle.frame.specs.Kind as kind
 use Rattle.frame.specs.Open.{record_from, record_of, framed_from, framed_of, framing, bytes_at, known_of, keys_from, offsets_check, fences_good, indexed_check, content_check, file_check, opening, open_of}
 use Rattle.frame.specs.Open.Laws.{Frames}
 use Rattle.frame.proofs.Laws.Open.{frames_parts, frames_sized, frames_width, frames_within, width_bytes, good_framing, refused_framing}
 use Rattle.reader.specs.Fit.{Fit}
+use Rattle.frame.specs.Opening.{Framing}
 
 -- a file that passes rules 1 to 12 and 36
 pub fit_of : (f : List ℕ) → Frames f → Fit (length f) (framed_of f)
@@ -50,12 +48,12 @@ module _ (f : List ℕ) where
   unfolding framed_of framed_from record_of
   contents_are = refl
 
-  pub open_unframed : (r : Refusal) → frame ≡ Framing.Refused r → open_of f ≡ Opening.Refused r
+  pub open_unframed : (r : Refusal) → frame ≡ Err r → open_of f ≡ Err r
   unfolding open_of file_check opening
   open_unframed r e = rw (refused_framing (frame_check (length f) f f) (framed_of f) r e)
 
-  module _ (x : Framed) (e : frame ≡ Framing.Good x) where
-    fine : frame_check (length f) f f ≡ Check.Fine
+  module _ (x : Framed) (e : frame ≡ Ok x) where
+    fine : frame_check (length f) f f ≡ (Ok tt)
     fine = (good_framing (frame_check (length f) f f) (framed_of f) x e).0
 
     same : framed_of f ≡ x
@@ -68,17 +66,17 @@ module _ (f : List ℕ) where
     unfolding file_check
     check c d = rw fine (contents_are ∙ ap contents same ∙ d)
 
-    pub open_refused : (r : Refusal) → contents x ≡ Check.Bad r → open_of f ≡ Opening.Refused r
+    pub open_refused : (r : Refusal) → contents x ≡ Err r → open_of f ≡ Err r
     unfolding open_of opening
-    open_refused r d = rw (check (Check.Bad r) d)
+    open_refused r d = rw (check (Err r) d)
 
     record_is : record_of f ≡ (framed_of f).opened
     unfolding framed_of framed_from record_of
     record_is = refl
 
-    pub open_good : contents x ≡ Check.Fine → open_of f ≡ Opening.Good x.opened
+    pub open_good : contents x ≡ (Ok tt) → open_of f ≡ Ok x.opened
     unfolding open_of opening
-    open_good d = rw (check Check.Fine d) (ap Opening.Good (record_is ∙ ap (λ (y : Framed). y.opened) same))
+    open_good d = rw (check (Ok tt) d) (ap Ok (record_is ∙ ap (λ (y : Framed). y.opened) same))
 
 -- ---- rules 13 to 15 over lent bytes, then 37
 
@@ -109,9 +107,9 @@ module _ (a b : Check) (r : Refusal) where
   pub without_fences : {fenced : Bool} (good : Bool) → fenced ≡ false → (a ⊳ b) ≡ (a ⊳ b ⊳ refuse r (fenced && not good))
   without_fences good e = rw e (ap (λ (c : Check). a ⊳ c) (sym (then_fine b)))
     where
-      then_fine : (c : Check) → (c ⊳ Check.Fine) ≡ c
-      then_fine Check.Fine = refl
-      then_fine (Check.Bad q) = refl
+      then_fine : (c : Check) → (c ⊳ (Ok tt)) ≡ c
+      then_fine (Ok tt) = refl
+      then_fine (Err q) = refl
 
   pub with_fences : {fenced : Bool} (good : Bool) → fenced ≡ true → ((a ⊳ b) ⊳ refuse r (not good)) ≡ (a ⊳ b ⊳ refuse r (fenced && not good))
   with_fences good e = rw e (then_assoc a b (refuse r (not good)))

@@ -1,15 +1,14 @@
 -- What holds of every file that opens.
-use Rattle.std.specs.Prelude.{◌≡◌, ℕ, ◌+◌, ◌/◌, ◌≤◌, List, true, length}
+use Rattle.std.specs.Prelude.{◌≡◌, ℕ, ◌+◌, ◌/◌, ◌≤◌, List, true, length, Ok}
 use Rattle.std.proofs.Common.{arith}
 use Rattle.frame.specs.declared.Opened.{Opened}
-use Rattle.frame.specs.declared.Opening.{Opening}
 use Rattle.frame.specs.Kind as kind
 use Rattle.frame.specs.Frame.{section_of, rows_of, body_of}
 use Rattle.frame.specs.Open.{record_from, record_of, bytes_at, record_good, open_of}
 use Rattle.frame.proofs.Laws.Open.{Opens, opens_parts, opens_record, size_parts, frames_sized, frames_width, frames_within, recorded_made}
 use Rattle.index.specs.Order.{KeysRise, keys_rise, OffsetsRise, offsets_rise}
 
-module _ (f : List ℕ) (o : Opened) (op : open_of f ≡ Opening.Good o) where
+module _ (f : List ℕ) (o : Opened) (op : open_of f ≡ Ok o) where
   opens : Opens f
   opens = opens_parts f o op
 

@@ -1,5 +1,5 @@
 -- Edges written one after the other: of a group, of all groups.
-use Rattle.std.specs.Prelude.{◌≡◌, Bool, true}
+use Rattle.std.specs.Prelude.{◌≡◌, Bool, true, Ok, Err}
 use Rattle.std.proofs.Math.Path.{refl, ap, ap₂}
 use Rattle.std.proofs.Common.{sym, ◌∙◌, add-zero, zero-add}
 use Prim.Native.Nat.{ℕ, zero, suc, ◌+◌, ◌-◌, ◌*◌, ◌≤◌, ◌<◌}
@@ -16,13 +16,11 @@ use Rattle.codes.specs.Ids.{id_number, halves_at}
 use Rattle.frame.specs.Open.{offset_at}
 use Rattle.index.specs.Order.{OffsetsRise}
 use Rattle.group.specs.declared.fault.Fault.{Fault}
-use Rattle.group.specs.declared.split.Step.{Step}
 use Rattle.group.specs.Group.{Decoded, good, step_at, walk_from, group_of, is_good, partners_of}
-use Rattle.group.proofs.Laws.Group.{walk_end, walk_over, walk_bad, good_turn, good_is, good_good, partners_good, not_bad}
+use Rattle.group.proofs.Laws.Group.{same_step, walk_end, walk_over, walk_bad, good_turn, good_is, good_good, partners_good, not_bad}
 use Rattle.batch.specs.declared.Edge.{Edge}
 use Rattle.batch.specs.Batch.{place, edge_bytes, records_of}
 use Rattle.batch.specs.Batch.Laws.{length_edge, length_records, records_append}
-use Rattle.refusal.specs.declared.Check.{Check}
 use Rattle.refusal.proofs.Laws.Check.{fine_parts}
 use Rattle.lookup.specs.Lookup.{group_check}
 use Rattle.lookup.proofs.Laws.Groups.{check_good}
@@ -39,20 +37,18 @@ length_edges logs dead key e (p ∷ ps) = ap suc (length_edges logs dead key (e 
 -- ---- a good walk of partners, step by step
 
 module _ (dense : Bool) (g : List ℕ) (i hi floor d : ℕ) (ok : is_good (walk_from dense (suc d) g i hi floor) ≡ true) where
-  pub walk_turn : (p : Id) (n : ℕ) → step_at dense g i hi ≡ Step.Partner p n
+  pub walk_turn : (p : Id) (n : ℕ) → step_at dense g i hi ≡ Ok (p, n)
       → (is_good (walk_from dense d g n p.hi (suc (id_number p))) ≡ true)
       × (partners_of (walk_from dense (suc d) g i hi floor) ≡ p ∷ partners_of (walk_from dense d g n p.hi (suc (id_number p))))
   walk_turn p n q =
       let (b, is) = good_is (walk_from dense (suc d) g i hi floor) ok in
       let t = good_turn dense g i hi floor b (partners_of (walk_from dense (suc d) g i hi floor)) d is in
-      let same : Step.Partner t.partner t.next ≡ Step.Partner p n = sym t.step ∙ q in
-      let who : t.partner ≡ p = cc in
-      let next : t.next ≡ n = cc in
+      let (who, next) = same_step t.partner p t.next n (sym t.step ∙ q) in
       let rest : walk_from dense d g n p.hi (suc (id_number p)) ≡ good b t.others =
       sym (ap₂ (λ (x : Id) (y : ℕ). walk_from dense d g y x.hi (suc (id_number x))) who next) ∙ t.rest in
       (ap is_good rest ∙ good_good b t.others, t.all ∙ ap₂ (λ (x : Id) (y : List Id). x ∷ y) who (sym (ap partners_of rest ∙ partners_good b t.others)))
 
-  pub walk_not_bad : (f : Fault) → step_at dense g i hi ≡ Step.Bad f → ⊥
+  pub walk_not_bad : (f : Fault) → step_at dense g i hi ≡ Err f → ⊥
   walk_not_bad f q = not_bad ok (walk_bad dense g i hi floor d f q)
 
 pub walk_none : (dense : Bool) (g : List ℕ) (i hi floor : ℕ) → partners_of (walk_from dense 0 g i hi floor) ≡ []
@@ -94,10 +90,10 @@ module _ (dense : Bool) (g : List ℕ) (at d : ℕ) (key : Id) (logs dead : List
       ok : is_good (walk_from dense (suc (d - (k + 1))) g i hi h.floor) ≡ true
       ok = rw more at h.good
 
-      pub giving_not_bad : (f : Fault) → step_at dense g i hi ≡ Step.Bad f → ⊥
+      pub giving_not_bad : (f : Fault) → step_at dense g i hi ≡ Err f → ⊥
       giving_not_bad f q = walk_not_bad dense g i hi h.floor (d - (k + 1)) ok f q
 
-      module _ (p : Id) (n : ℕ) (q : step_at dense g i hi ≡ Step.Partner p n) where
+      module _ (p : Id) (n : ℕ) (q : step_at dense g i hi ≡ Ok (p, n)) where
         this : Edge
         this = edge_of logs dead key p (first + k)
 
@@ -149,7 +145,7 @@ pub record Readable (keys p o : List ℕ) (w : ℕ) (logs : List ℕ) (n : ℕ) 
   pub keybytes : n * 16 ≤ length keys
   pub offsetbytes : (n + 1) * w ≤ length o
   pub rises : OffsetsRise o w n (length p)
-  pub good : groups_from p o w n 0 ≡ Check.Fine
+  pub good : groups_from p o w n 0 ≡ (Ok tt)
   pub edges : degrees_from p o w n 0 ≤ 67108864
   pub logbytes : 8 * degrees_from p o w n 0 ≤ length logs
 
@@ -171,11 +167,11 @@ module _ (keys p o : List ℕ) (w : ℕ) (logs dead : List ℕ) where
     pub record Reading (out : List ℕ) (i a first : ℕ) : Type 0 where
       pub most : i ≤ n
       pub place_is : a ≡ offset_at o w i
-      pub good : groups_from p o w (n - i) i ≡ Check.Fine
+      pub good : groups_from p o w (n - i) i ≡ (Ok tt)
       pub sum : first + degrees_from p o w (n - i) i ≡ degrees_from p o w n 0
       pub left : Left out (place first) (records_of (read_from keys p o w logs dead (n - i) i first)) out₀ 50 all_records
 
-    pub reading_start : groups_from p o w n 0 ≡ Check.Fine → offset_at o w 0 ≡ 0 → Reading out₀ 0 0 0
+    pub reading_start : groups_from p o w n 0 ≡ (Ok tt) → offset_at o w 0 ≡ 0 → Reading out₀ 0 0 0
     reading_start g z = record {
       most = omega arith;
       place_is = sym z;
@@ -189,7 +185,7 @@ module _ (keys p o : List ℕ) (w : ℕ) (logs dead : List ℕ) where
         now_left : n - i ≡ suc (n - (i + 1))
         now_left = omega arith
 
-        good_parts : (group_check i (group_in p o w i) ≡ Check.Fine) × (groups_from p o w (n - (i + 1)) (i + 1) ≡ Check.Fine)
+        good_parts : (group_check i (group_in p o w i) ≡ (Ok tt)) × (groups_from p o w (n - (i + 1)) (i + 1) ≡ (Ok tt))
         unfolding groups_from
         good_parts = fine_parts (group_check i (group_in p o w i)) _ (rw now_left at h.good)
 

@@ -1,5 +1,5 @@
 -- The read-out by its ways out.
-use Rattle.std.specs.Prelude.{◌≡◌, refl, ◌↔◌, ℕ, suc, ◌+◌, ◌*◌, ◌/◌, ◌≤◌, ◌<◌, List, [], ◌++◌, Bool, true, not, ◌&&◌, length, get_or, set, drop, eqb, ltb}
+use Rattle.std.specs.Prelude.{◌≡◌, refl, ◌↔◌, ℕ, suc, ◌+◌, ◌*◌, ◌/◌, ◌≤◌, ◌<◌, List, [], ◌++◌, Bool, true, not, ◌&&◌, length, get_or, set, drop, eqb, ltb, Result, Ok, Err}
 use Rattle.std.proofs.Math.Path.{sym, ap}
 use Rattle.std.proofs.Common.{ap₂, ◌∙◌, arith, length-append, drop_of_length-le, add-one, drop-cons, eqb-true, lt-ltb, le-ltb, ltb-false}
 use Rattle.std.proofs.Math.Bool.{false}
@@ -8,12 +8,10 @@ use Rattle.std.proofs.lemmas.List.Edits.{sets}
 use Rattle.base.specs.Pick.{pick}
 use Rattle.base.specs.Over.{over, length_part, sets_append, sets_over}
 use Rattle.refusal.specs.declared.Refusal.{Refusal}
-use Rattle.refusal.specs.declared.Check.{Check}
 use Rattle.refusal.specs.Refusal.{number_of}
-use Rattle.refusal.specs.Check.{◌⊳◌, refuse}
+use Rattle.refusal.specs.Check.{◌⊳◌, refuse, Check}
 use Rattle.refusal.proofs.Laws.Check.{fine_parts, good_parts, and_parts, bad_then, fine_then, by_first, refuse_own, refuse_fine}
 use Rattle.frame.specs.declared.Opened.{Opened}
-use Rattle.frame.specs.declared.Opening.{Opening}
 use Rattle.frame.specs.Frame.{rows_of, flag, body_of, record_of}
 use Rattle.frame.specs.Open.{known_of, bytes_at, start_at, open_of}
 use Rattle.frame.proofs.Laws.Open.{opens_parts, size_parts, opens_record}
@@ -25,7 +23,6 @@ use Rattle.batch.specs.Batch.Laws.{length_records}
 use Rattle.full_check.specs.Full.{sums_from, groups_from, degrees_from, marks_of, data_good, stray_in, edges_check, full_check, checked_of}
 use Rattle.full_check.specs.Starts.{stray_none}
 use Rattle.full_check.specs.Checked.{checked_opened, checked_fine, fine_checked, full_opened}
-use Rattle.readout.specs.declared.ReadOut.{ReadOut}
 use Rattle.readout.specs.Edges.{read_from, edges_in}
 use Rattle.readout.specs.Edges.Laws.{length_read, Readable}
 use Rattle.readout.specs.ReadOut.{heading_in, batch_in, needed_for, read_check, read_answer, read_leaves, read_out_of, read_out_leaves}
@@ -48,15 +45,15 @@ data_parts flags edges s sum dense stray h =
 
 -- ---- a file that the full check passes
 
-module _ (f : List ℕ) (o : Opened) (e : checked_of f ≡ Opening.Good o) where
-  opens : open_of f ≡ Opening.Good o
+module _ (f : List ℕ) (o : Opened) (e : checked_of f ≡ Ok o) where
+  opens : open_of f ≡ Ok o
   opens = checked_opened f o e
 
   abbrev GroupsFine : Type 0
-  GroupsFine = groups_from (bytes_at f o.partners) (bytes_at f o.offsets) (o.bits / 8) o.keycount 0 ≡ Check.Fine
+  GroupsFine = groups_from (bytes_at f o.partners) (bytes_at f o.offsets) (o.bits / 8) o.keycount 0 ≡ (Ok tt)
 
   -- the groups, then rule 23
-  checked_groups : (groups_from (bytes_at f o.partners) (bytes_at f o.offsets) (o.bits / 8) o.keycount 0 ≡ Check.Fine)
+  checked_groups : (groups_from (bytes_at f o.partners) (bytes_at f o.offsets) (o.bits / 8) o.keycount 0 ≡ (Ok tt))
       × (degrees_from (bytes_at f o.partners) (bytes_at f o.offsets) (o.bits / 8) o.keycount 0 ≡ o.edgecount)
       × ((marks_of (pick o.marked (bytes_at f o.dead) []) o.edgecount).unused ≡ false)
       × (stray_in (known_of f o) ≡ false)
@@ -68,7 +65,7 @@ module _ (f : List ℕ) (o : Opened) (e : checked_of f ≡ Opening.Good o) where
       (q.0, told.0, told.1, told.2)
 
   -- all groups are good, and their degrees make the edge count
-  pub checked_edges : (groups_from (bytes_at f o.partners) (bytes_at f o.offsets) (o.bits / 8) o.keycount 0 ≡ Check.Fine)
+  pub checked_edges : (groups_from (bytes_at f o.partners) (bytes_at f o.offsets) (o.bits / 8) o.keycount 0 ≡ (Ok tt))
       × (degrees_from (bytes_at f o.partners) (bytes_at f o.offsets) (o.bits / 8) o.keycount 0 ≡ o.edgecount)
   checked_edges = (checked_groups.0, checked_groups.1)
 
@@ -149,19 +146,19 @@ batch_written f es o h r =
 -- ---- the call
 
 -- what a call of the read-out answers and leaves
-abbrev pub Reads : List ℕ → List ℕ → ReadOut → List ℕ → Type 0
+abbrev pub Reads : List ℕ → List ℕ → Result ℕ Refusal → List ℕ → Type 0
 Reads f o r out = (r ≡ read_out_of f (length o)) × (out ≡ read_out_leaves f o)
 
-reads_refused : (f o : List ℕ) (r : Refusal) → read_check f (length o) ≡ Check.Bad r → Reads f o (ReadOut.Refused r) o
+reads_refused : (f o : List ℕ) (r : Refusal) → read_check f (length o) ≡ Err r → Reads f o (Err r) o
 unfolding read_out_of read_out_leaves read_answer read_leaves
 reads_refused f o r e = (sym (ap (λ (c : Check). read_answer c (needed_for f)) e), sym (ap (λ (c : Check). read_leaves c (batch_in f) o) e))
 
 module _ (f o : List ℕ) where
-  pub reads_bad : (r : Refusal) → full_check f ≡ Check.Bad r → Reads f o (ReadOut.Refused r) o
+  pub reads_bad : (r : Refusal) → full_check f ≡ Err r → Reads f o (Err r) o
   unfolding read_check
   reads_bad r e = reads_refused f o r (bad_then _ e)
 
-  module _ (p : Opened) (e : checked_of f ≡ Opening.Good p) where
+  module _ (p : Opened) (e : checked_of f ≡ Ok p) where
     same : record_of f ≡ p
     same = opens_record f p (checked_opened f p e)
 
@@ -174,35 +171,35 @@ module _ (f o : List ℕ) where
         fine_then _ (checked_fine f p e)
         ∙ ap (λ (n : ℕ). refuse (Refusal.Room n) (ltb (length o) n)) needs ∙ ap (refuse (Refusal.Room (50 + 41 * p.edgecount))) q
 
-    pub reads_short : length o < 50 + 41 * p.edgecount → Reads f o (ReadOut.Refused (Refusal.Room (50 + 41 * p.edgecount))) o
+    pub reads_short : length o < 50 + 41 * p.edgecount → Reads f o (Err (Refusal.Room (50 + 41 * p.edgecount))) o
     reads_short h = reads_refused f o _ (rest true (lt-ltb _ _ h))
 
     pub reads_all : 50 + 41 * p.edgecount ≤ length o → {out : List ℕ} → out ≡ over (batch_bytes (heading_in f) (edges_in (known_of f p))) o
-        → Reads f o (ReadOut.Done (50 + 41 * p.edgecount)) out
+        → Reads f o (Ok (50 + 41 * p.edgecount)) out
     unfolding read_out_of read_out_leaves read_answer read_leaves batch_in
     reads_all h q =
         let c = rest false (le-ltb _ _ h) in
         (sym (ap₂ read_answer c needs), q ∙ sym (ap₂ (λ (x : Check) (y : Opened). read_leaves x (batch_bytes (heading_in f) (edges_in (known_of f y))) o) c same))
 
 -- a refusal leaves the output as it was
-pub read_out_refused_leaves : (f o : List ℕ) (q : Refusal) → read_out_of f (length o) ≡ ReadOut.Refused q → read_out_leaves f o ≡ o
+pub read_out_refused_leaves : (f o : List ℕ) (q : Refusal) → read_out_of f (length o) ≡ Err q → read_out_leaves f o ≡ o
 unfolding read_out_of read_out_leaves read_answer read_leaves
 read_out_refused_leaves f o q = go (read_check f (length o))
   where
-    go : (c : Check) → read_answer c (needed_for f) ≡ ReadOut.Refused q → read_leaves c (batch_in f) o ≡ o
-    go Check.Fine e = let z : ◌≡◌ {A = ℕ} 0 1 = cc in absurd (omega arith)
-    go (Check.Bad r) e = refl
+    go : (c : Check) → read_answer c (needed_for f) ≡ Err q → read_leaves c (batch_in f) o ≡ o
+    go (Ok tt) e = let z : ◌≡◌ {A = ℕ} 0 1 = cc in absurd (omega arith)
+    go (Err r) e = refl
 
 -- a read-out that is done: the file passes, and its batch stands at the front of the output
 pub record DoneBy (f o : List ℕ) (n : ℕ) : Type 0 where
-  pub fine : full_check f ≡ Check.Fine
+  pub fine : full_check f ≡ (Ok tt)
   pub size : n ≡ needed_for f
   pub room : n ≤ length o
   pub batch : length (batch_in f) ≡ n
   pub output : read_out_leaves f o ≡ over (batch_in f) o
 
 -- the batch of a file that passes has the bytes that are needed
-pub length_batch : (f : List ℕ) → full_check f ≡ Check.Fine → length (batch_in f) ≡ needed_for f
+pub length_batch : (f : List ℕ) → full_check f ≡ (Ok tt) → length (batch_in f) ≡ needed_for f
 unfolding batch_in batch_bytes
 length_batch f e =
     let good = fine_checked f e in
@@ -210,12 +207,12 @@ length_batch f e =
     let records = checked_records f (record_of f) good in
     length-append (heading_bytes (heading_in f)) (records_of (edges_in (known_of f (record_of f)))) ∙ omega arith
 
-pub done_by : (f o : List ℕ) (n : ℕ) → read_out_of f (length o) ≡ ReadOut.Done n → DoneBy f o n
+pub done_by : (f o : List ℕ) (n : ℕ) → read_out_of f (length o) ≡ Ok n → DoneBy f o n
 unfolding read_out_of read_out_leaves read_check read_answer read_leaves
 done_by f o n = go (read_check f (length o)) refl
   where
-    go : (c : Check) → read_check f (length o) ≡ c → read_answer c (needed_for f) ≡ ReadOut.Done n → DoneBy f o n
-    go Check.Fine p e =
+    go : (c : Check) → read_check f (length o) ≡ c → read_answer c (needed_for f) ≡ Ok n → DoneBy f o n
+    go (Ok tt) p e =
         let same : n ≡ needed_for f = cc in
         let parts = fine_parts (full_check f) _ p in
         let fits = ltb-false (length o) (needed_for f) ((refuse_fine (Refusal.Room (needed_for f)) _).0 parts.1) in
@@ -226,35 +223,35 @@ done_by f o n = go (read_check f (length o)) refl
           batch = length_batch f parts.0 ∙ sym same;
           output = ap (λ (c : Check). read_leaves c (batch_in f) o) p;
         }
-    go (Check.Bad r) p e = let z : ◌≡◌ {A = ℕ} 0 1 = cc in absurd (omega arith)
+    go (Err r) p e = let z : ◌≡◌ {A = ℕ} 0 1 = cc in absurd (omega arith)
 
 -- with room for what a good file needs, its refusal is the full check's
-pub refused_check : (f : List ℕ) (room : ℕ) (r : Refusal) → (full_check f ≡ Check.Fine → needed_for f ≤ room) → read_out_of f room ≡ ReadOut.Refused r → full_check f ≡ Check.Bad r
+pub refused_check : (f : List ℕ) (room : ℕ) (r : Refusal) → (full_check f ≡ (Ok tt) → needed_for f ≤ room) → read_out_of f room ≡ Err r → full_check f ≡ Err r
 unfolding read_out_of read_check read_answer
 refused_check f room r enough = go (full_check f) refl
   where
-    go : (c : Check) → full_check f ≡ c → read_answer (full_check f ⊳ refuse (Refusal.Room (needed_for f)) (ltb room (needed_for f))) (needed_for f) ≡ ReadOut.Refused r → full_check f ≡ Check.Bad r
-    go Check.Fine p e =
-        let fine : full_check f ⊳ refuse (Refusal.Room (needed_for f)) (ltb room (needed_for f)) ≡ Check.Fine
+    go : (c : Check) → full_check f ≡ c → read_answer (full_check f ⊳ refuse (Refusal.Room (needed_for f)) (ltb room (needed_for f))) (needed_for f) ≡ Err r → full_check f ≡ Err r
+    go (Ok tt) p e =
+        let fine : full_check f ⊳ refuse (Refusal.Room (needed_for f)) (ltb room (needed_for f)) ≡ (Ok tt)
         = fine_then _ p ∙ ap (refuse (Refusal.Room (needed_for f))) (le-ltb room (needed_for f) (enough p)) in
-        let done : ReadOut.Refused r ≡ ReadOut.Done (needed_for f) = sym e ∙ ap (λ (c : Check). read_answer c (needed_for f)) fine in
+        let done : Err r ≡ Ok (needed_for f) = sym e ∙ ap (λ (c : Check). read_answer c (needed_for f)) fine in
         let z : ◌≡◌ {A = ℕ} 0 1 = cc in absurd (omega arith)
-    go (Check.Bad q) p e =
-        let told : ReadOut.Refused q ≡ ReadOut.Refused r = sym (ap (λ (c : Check). read_answer c (needed_for f)) (bad_then _ p)) ∙ e in
+    go (Err q) p e =
+        let told : Err q ≡ Err r = sym (ap (λ (c : Check). read_answer c (needed_for f)) (bad_then _ p)) ∙ e in
         let same : q ≡ r = cc in
-        p ∙ ap Check.Bad same
+        p ∙ ap Err same
 
 -- a refusal other than 20 is the read-out's exactly if it is the full check's
-pub read_full : (f : List ℕ) (room : ℕ) (r : Refusal) → (number_of r ≡ 20 → ⊥) → (read_out_of f room ≡ ReadOut.Refused r) ↔ (full_check f ≡ Check.Bad r)
+pub read_full : (f : List ℕ) (room : ℕ) (r : Refusal) → (number_of r ≡ 20 → ⊥) → (read_out_of f room ≡ Err r) ↔ (full_check f ≡ Err r)
 unfolding read_out_of read_check read_answer
 read_full f room r n =
     let rule : Check = refuse (Refusal.Room (needed_for f)) (ltb room (needed_for f)) in
     let a = by_first (full_check f) rule r (refuse_own (Refusal.Room (needed_for f)) r (ltb room (needed_for f)) (λ e. n (sym e))) in
     (λ e. a.0 (go (full_check f ⊳ rule) e), λ e. ap (λ (c : Check). read_answer c (needed_for f)) (a.1 e))
   where
-    go : (c : Check) → read_answer c (needed_for f) ≡ ReadOut.Refused r → c ≡ Check.Bad r
-    go Check.Fine e = let z : ◌≡◌ {A = ℕ} 0 1 = cc in absurd (omega arith)
-    go (Check.Bad q) e = let same : q ≡ r = cc in ap Check.Bad same
+    go : (c : Check) → read_answer c (needed_for f) ≡ Err r → c ≡ Err r
+    go (Ok tt) e = let z : ◌≡◌ {A = ℕ} 0 1 = cc in absurd (omega arith)
+    go (Err q) e = let same : q ≡ r = cc in ap Err same
 
 -- ---- the sections by other names, as they are lent
 

@@ -1,10 +1,9 @@
 -- Summaries computed by the definitions: degrees at both sides of powers of two, the ends of log numbers, dead edges, none.
-use Rattle.std.specs.Prelude.{◌≡◌, ℕ, zero, suc, ◌+◌, ◌-◌, ◌^◌, Bool, true, false, List, [], ◌∷◌, ◌++◌, replicate, slice_set, refl}
+use Rattle.std.specs.Prelude.{◌≡◌, ℕ, zero, suc, ◌+◌, ◌-◌, ◌^◌, Bool, true, false, List, [], ◌∷◌, ◌++◌, replicate, slice_set, refl, Ok, Some, Err}
 use Rattle.codes.specs.Little.{le_at}
 use Rattle.codes.specs.Ids.{be_at, id_at, halves_at}
 use Rattle.codes.specs.Varint.{last_byte, var_from, varint_at}
 use Rattle.refusal.specs.declared.Refusal.{Refusal}
-use Rattle.refusal.specs.declared.Check.{Check}
 use Rattle.frame.specs.Frame.{row_at, rows_from, rows_of, has, section_of, body_of, record_from, record_of}
 use Rattle.frame.specs.Open.{known_of}
 use Rattle.frame.proofs.Laws.Cases.{heading_only, one_edge}
@@ -47,7 +46,7 @@ pub of_six : summary_of six ≡ record {
   edgecount = 6;
   tombstones = 4;
   largestdegree = 3;
-  extremes = Extremes.Some (record { hi = 4; lo = 8 }) (record { hi = 2 ^ 64 - 1; lo = 6 }) 0 (2 ^ 64 - 1);
+  extremes = Some (record { smallestkey = (record { hi = 4; lo = 8 }); largestkey = (record { hi = 2 ^ 64 - 1; lo = 6 }); smallestlog = 0; largestlog = (2 ^ 64 - 1) });
   buckets = 1 ∷ 2 ∷ replicate 62 0;
 }
 unfolding summary_of smallest largest smallest_key largest_key extremes_of degrees_of bucket buckets_from dead_in logs_in join groups_of
@@ -59,21 +58,18 @@ unfolding summary_of largest extremes_of degrees_of bucket buckets_from dead_in 
 of_none = refl
 
 -- the file without edges, and the one of one edge: key 1, 2 and log number 7
-pub of_files : (summarised_of heading_only ≡ record { told = Check.Fine; summary = nothing })
-    × (summarised_of one_edge ≡ record {
-      told = Check.Fine;
-      summary = record {
-        keycount = 1;
-        edgecount = 1;
-        tombstones = 0;
-        largestdegree = 1;
-        extremes = Extremes.Some (record { hi = 1; lo = 2 }) (record { hi = 1; lo = 2 }) 7 7;
-        buckets = 1 ∷ replicate 63 0;
-      };
-    })
+pub of_files : (summarised_of heading_only ≡ Ok nothing)
+    × (summarised_of one_edge ≡ Ok (record {
+      keycount = 1;
+      edgecount = 1;
+      tombstones = 0;
+      largestdegree = 1;
+      extremes = Some (record { smallestkey = record { hi = 1; lo = 2 }; largestkey = record { hi = 1; lo = 2 }; smallestlog = 7; largestlog = 7 });
+      buckets = 1 ∷ replicate 63 0;
+    }))
 unfolding heading_only one_edge le_at be_at id_at halves_at last_byte var_from varint_at row_at rows_from rows_of has section_of body_of record_from record_of known_of onVarint split_step dense_step step_at on_step cons walk_from degree_of head_of on_head group_of partners_of edges_from read_from edges_in summary_of smallest largest smallest_key largest_key extremes_of degrees_of bucket buckets_from dead_in logs_in join groups_of
 of_files = (summary_passes heading_only cases_pass.0, summary_passes one_edge cases_pass.1)
 
 -- a byte of the log numbers is changed: 22 at entry 3, and nothing is summed up
-pub of_damaged : summarised_of (slice_set one_edge 97 8) ≡ record { told = Check.Bad (Refusal.Sum 3); summary = nothing }
+pub of_damaged : summarised_of (slice_set one_edge 97 8) ≡ Err (Refusal.Sum 3)
 of_damaged = (summary_refuses (slice_set one_edge 97 8) (Refusal.Sum 3)).1 damaged.0

@@ -1,5 +1,5 @@
 -- The summary of a file that the full check passes, from what its passes give.
-use Rattle.std.specs.Prelude.{◌≡◌, ℕ, ◌+◌, ◌-◌, ◌*◌, ◌/◌, ◌<◌, ◌≤◌, Bool, true, false, List, [], ◌∷◌, length, slice_index}
+use Rattle.std.specs.Prelude.{◌≡◌, ℕ, ◌+◌, ◌-◌, ◌*◌, ◌/◌, ◌<◌, ◌≤◌, Bool, true, false, List, [], ◌∷◌, length, slice_index, Result, Ok, Option, Some, None, Err}
 use Rattle.std.proofs.Math.Path.{refl, sym, ap}
 use Rattle.std.proofs.Common.{ap₂, ◌∙◌}
 use native.Mathlib.Omega.{arith}
@@ -9,9 +9,7 @@ use Rattle.codes.specs.declared.ids.Id.{Id}
 use Rattle.codes.specs.Little.{le_at}
 use Rattle.codes.specs.Ids.{halves_at}
 use Rattle.refusal.specs.declared.Refusal.{Refusal}
-use Rattle.refusal.specs.declared.Check.{Check}
 use Rattle.frame.specs.declared.Opened.{Opened}
-use Rattle.frame.specs.declared.Opening.{Opening}
 use Rattle.frame.specs.Frame.{record_of}
 use Rattle.frame.specs.Open.{known_of, bytes_at, key_at, open_of}
 use Rattle.degrees.specs.Degrees.{group_at}
@@ -33,7 +31,7 @@ use Rattle.summary.specs.declared.figures.Extremes.{Extremes}
 use Rattle.summary.specs.declared.figures.Summary.{Summary}
 use Rattle.summary.specs.declared.logs.Span.{Span}
 use Rattle.summary.specs.declared.tally.Tally.{Tally}
-use Rattle.summary.specs.Summary.{extremes_of, degrees_of, dead_in, nothing, summary_of, summarised, summarised_of}
+use Rattle.summary.specs.Summary.{extremes_of, degrees_of, dead_in, summary_of, summarised, summarised_of}
 use Rattle.summary.proofs.Laws.Summary.{length_degrees}
 use Rattle.summary.specs.Bits.{count_dead}
 use Rattle.summary.proofs.Laws.Marked.{unused_none, unmarked}
@@ -41,12 +39,13 @@ use Rattle.summary.specs.Tally.{degree_told, degrees_at, AllTold, tally_of}
 use Rattle.summary.proofs.Laws.Tally.{length_degrees_at, degrees_at_at}
 use Rattle.summary.specs.Logs.{span_of}
 use Rattle.summary.proofs.Laws.Read.{all_told, key_degree_lem, read_dead, read_degrees, read_extremes}
+use Rattle.refusal.specs.Check.{Check}
 
-module _ (f : List ℕ) (o : Opened) (e : checked_of f ≡ Opening.Good o) where
+module _ (f : List ℕ) (o : Opened) (e : checked_of f ≡ Ok o) where
   abbrev es : List Edge
   es = edges_in (known_of f o)
 
-  opens : open_of f ≡ Opening.Good o
+  opens : open_of f ≡ Ok o
   opens = checked_opened f o e
 
   pub checked_holds : Holds f o
@@ -79,7 +78,7 @@ module _ (f : List ℕ) (o : Opened) (e : checked_of f ≡ Opening.Good o) where
   checked_offsets : OffsetsRise os w n (length ps)
   checked_offsets = opened_offsets f o opens
 
-  good : groups_from ps os w n 0 ≡ Check.Fine
+  good : groups_from ps os w n 0 ≡ (Ok tt)
   good = (checked_edges f o e).0
 
   total : degrees_from ps os w n 0 ≡ o.edgecount
@@ -152,11 +151,11 @@ module _ (f : List ℕ) (o : Opened) (e : checked_of f ≡ Opening.Good o) where
 
   -- ---- the smallest and largest
 
-  pub extremes_none : o.edgecount ≡ 0 → Extremes.None ≡ extremes_of es
+  pub extremes_none : o.edgecount ≡ 0 → None ≡ extremes_of es
   unfolding extremes_of
   extremes_none q = sym (go es (length_edges_in f o e ∙ q))
     where
-      go : (xs : List Edge) → length xs ≡ 0 → extremes_of xs ≡ Extremes.None
+      go : (xs : List Edge) → length xs ≡ 0 → extremes_of xs ≡ None
       go [] h = refl
       go (x ∷ xs) h = absurd (omega arith)
 
@@ -176,20 +175,20 @@ module _ (f : List ℕ) (o : Opened) (e : checked_of f ≡ Opening.Good o) where
     logs_long = let long = checked_holds.logbytes in rw q (omega arith)
 
     pub extremes_some : {a b : Id} {s : Span} → a ≡ halves_at x (0 * 16) → b ≡ halves_at x ((o.keycount - 1) * 16) → s ≡ span_of (le_at y 0 8) (logs_from (o.edgecount - 1) y 1)
-        → Extremes.Some a b s.smallest s.largest ≡ extremes_of (edges_in (known_of f o))
+        → Some (record { smallestkey = a; largestkey = b; smallestlog = s.smallest; largestlog = s.largest }) ≡ extremes_of (edges_in (known_of f o))
     unfolding edges_in known_of span_of
     extremes_some u v r =
         let span : List ℕ → ℕ → Span = λ l m. span_of (le_at l 0 8) (logs_from (m - 1) l 1) in
-        let is : extremes_of (read_from keys ps os w logs dead n 0 0) ≡ Extremes.Some (halves_at keys (0 * 16)) (halves_at keys ((n - 1) * 16)) (span logs o.edgecount).smallest (span logs o.edgecount).largest =
+        let is : extremes_of (read_from keys ps os w logs dead n 0 0) ≡ Some (record { smallestkey = (halves_at keys (0 * 16)); largestkey = (halves_at keys ((n - 1) * 16)); smallestlog = (span logs o.edgecount).smallest; largestlog = (span logs o.edgecount).largest }) =
         read_extremes keys ps os w logs dead n rise good (some_keys some)
-        ∙ ap (λ (t : ℕ). Extremes.Some (halves_at keys (0 * 16)) (halves_at keys ((n - 1) * 16)) (span logs t).smallest (span logs t).largest) total in
-        (λ i. Extremes.Some (u i) (v i) (r i).smallest (r i).largest)
-        ∙ (λ i. Extremes.Some (halves_at (p i) (0 * 16)) (halves_at (p i) ((n - 1) * 16)) (span (q i) o.edgecount).smallest (span (q i) o.edgecount).largest)
+        ∙ ap (λ (t : ℕ). Some (record { smallestkey = (halves_at keys (0 * 16)); largestkey = (halves_at keys ((n - 1) * 16)); smallestlog = (span logs t).smallest; largestlog = (span logs t).largest })) total in
+        (λ i. Some (record { smallestkey = (u i); largestkey = (v i); smallestlog = (r i).smallest; largestlog = (r i).largest }))
+        ∙ (λ i. Some (record { smallestkey = (halves_at (p i) (0 * 16)); largestkey = (halves_at (p i) ((n - 1) * 16)); smallestlog = (span (q i) o.edgecount).smallest; largestlog = (span (q i) o.edgecount).largest }))
         ∙ sym is
 
   -- ---- all of it
 
-  pub summary_is : {t : Tally} {d : ℕ} {x : Extremes} → t ≡ tally_of (degrees_of (groups_of es)) → d ≡ dead_in es → x ≡ extremes_of es
+  pub summary_is : {t : Tally} {d : ℕ} {x : Option Extremes} → t ≡ tally_of (degrees_of (groups_of es)) → d ≡ dead_in es → x ≡ extremes_of es
       → record { keycount = o.keycount; edgecount = o.edgecount; tombstones = d; largestdegree = t.largest; extremes = x; buckets = t.buckets } ≡ summary_of es
   unfolding summary_of tally_of
   summary_is p q r = λ i. record {
@@ -201,15 +200,14 @@ module _ (f : List ℕ) (o : Opened) (e : checked_of f ≡ Opening.Good o) where
     buckets = (p i).buckets;
   }
 
-  pub summarised_fine : {s : Summary} → s ≡ summary_of es → record { told = Check.Fine; summary = s } ≡ summarised_of f
+  pub summarised_fine : {s : Summary} → s ≡ summary_of es → ◌≡◌ {A = Result Summary Refusal} (Ok s) (summarised_of f)
   unfolding summarised_of summarised
   summarised_fine q =
       let same : record_of f ≡ o = opens_record f o opens in
-      (λ i. record { told = Check.Fine; summary = q i })
-      ∙ ap (λ (t : Opened). summarised Check.Fine (summary_of (edges_in (known_of f t)))) (sym same)
+      (λ i. Ok (q i))
+      ∙ ap (λ (t : Opened). summarised (Ok tt) (summary_of (edges_in (known_of f t)))) (sym same)
       ∙ ap (λ (c : Check). summarised c (summary_of (edges_of_file f))) (sym (checked_fine f o e))
 
-pub summarised_bad : (f : List ℕ) (r : Refusal) → checked_of f ≡ Opening.Refused r → {s : Summary} → s ≡ nothing → record { told = Check.Bad r; summary = s } ≡ summarised_of f
+pub summarised_bad : (f : List ℕ) (r : Refusal) → checked_of f ≡ Err r → ◌≡◌ {A = Result Summary Refusal} (Err r) (summarised_of f)
 unfolding summarised_of summarised
-summarised_bad f r e q =
-    (λ i. record { told = Check.Bad r; summary = q i }) ∙ ap (λ (c : Check). summarised c (summary_of (edges_of_file f))) (sym (checked_refused f r e))
+summarised_bad f r e = ap (λ (c : Check). summarised c (summary_of (edges_of_file f))) (sym (checked_refused f r e))

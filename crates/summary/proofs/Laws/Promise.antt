@@ -1,6 +1,6 @@
 -- What the query planner may rely on.
-use Rattle.std.specs.Prelude.{◌≡◌, ℕ, ◌+◌, ◌^◌, ◌<◌, ◌≤◌, Bool, true, false, ◌↔◌, List, [], ◌∷◌, length, nat_lt, slice_index}
-use Rattle.std.proofs.Math.Path.{refl, ap}
+use Rattle.std.specs.Prelude.{◌≡◌, ℕ, ◌+◌, ◌^◌, ◌<◌, ◌≤◌, Bool, true, false, ◌↔◌, List, [], ◌∷◌, length, nat_lt, slice_index, Ok, Err}
+use Rattle.std.proofs.Math.Path.{refl, ap, subst}
 use Rattle.std.proofs.Common.{sym, ◌∙◌, inl, inr, zero-add, arith}
 use Rattle.std.proofs.lemmas.Bool.{false≢true}
 use Rattle.base.specs.Bytes.{Bytes}
@@ -8,7 +8,6 @@ use Rattle.base.specs.Pick.{pick}
 use Rattle.codes.specs.declared.ids.Id.{Id}
 use Rattle.codes.specs.Ids.{id_number}
 use Rattle.refusal.specs.declared.Refusal.{Refusal}
-use Rattle.refusal.specs.declared.Check.{Check}
 use Rattle.frame.specs.Frame.{record_of}
 use Rattle.frame.specs.Open.{bytes_at, key_at}
 use Rattle.batch.specs.declared.Edge.{Edge}
@@ -21,12 +20,13 @@ use Rattle.readout.specs.ReadOut.Laws.{length_edges_in, checked_few}
 use Rattle.agreement.specs.SameEdges.{of_key, mark_bytes_in, edges_of_file}
 use Rattle.agreement.specs.OutBytes.{EdgesFit}
 use Rattle.agreement.proofs.Laws.OutBytes.{fits, out_edges}
-use Rattle.summary.specs.declared.Summarised.{Summarised}
-use Rattle.summary.specs.Summary.{smallest, largest, smallest_key, largest_key, extremes_of, degrees_of, in_bucket, bucket, buckets_of, dead_in, nothing, summary_of, summarised, summarised_of}
+use Rattle.summary.specs.declared.figures.Summary.{Summary}
+use Rattle.summary.specs.Summary.{smallest, largest, smallest_key, largest_key, extremes_of, degrees_of, in_bucket, bucket, buckets_of, dead_in, summary_of, summarised, summarised_of}
 use Rattle.summary.proofs.Laws.Checked.{keys_are, degrees_by_key}
 use Rattle.summary.specs.Summary.Laws.{total}
 use Rattle.summary.proofs.Laws.Summary.{smallest_is, largest_is, in_bucket_lem, bucket_bounds, bucket_at, length_buckets, buckets_total, bucket_none, length_degrees, degrees_total, degrees_some}
-use Rattle.summary.specs.Promise.{key_numbers, Ends, ExtremesFit, Counts, Summed, EndsThere}
+use Rattle.summary.specs.Promise.{key_numbers, Ends, ExtremesFit, Counts, Summed, EndsThere, told}
+use Rattle.refusal.specs.Check.{Check}
 
 smallest_number : (k : Id) (es : List Edge) → id_number (smallest_key k es) ≡ smallest (id_number k) (key_numbers es)
 unfolding smallest_key key_numbers smallest
@@ -124,66 +124,68 @@ ends_there (e ∷ es) = record { some = λ h q. let z : ◌≡◌ {A = ℕ} 0 1 
 
 module _ (f : List ℕ) where
   -- where the full check passes, the summary of its edges
-  pub summary_passes : full_check f ≡ Check.Fine → summarised_of f ≡ record { told = Check.Fine; summary = summary_of (edges_of_file f) }
+  pub summary_passes : full_check f ≡ (Ok tt) → summarised_of f ≡ Ok (summary_of (edges_of_file f))
   unfolding summarised_of summarised
   summary_passes pass = ap (λ (c : Check). summarised c (summary_of (edges_of_file f))) pass
 
   -- otherwise the full check's refusal, and nothing is summed up
-  pub summary_refuses : (r : Refusal) → (summarised_of f ≡ record { told = Check.Bad r; summary = nothing }) ↔ (full_check f ≡ Check.Bad r)
+  pub summary_refuses : (r : Refusal) → (summarised_of f ≡ Err r) ↔ (full_check f ≡ Err r)
   unfolding summarised_of summarised
-  summary_refuses r = (λ e. go (full_check f) (ap (λ (s : Summarised). s.told) e), λ e. ap (λ (c : Check). summarised c (summary_of (edges_of_file f))) e)
+  summary_refuses r = (go (full_check f), λ e. ap (λ (c : Check). summarised c (summary_of (edges_of_file f))) e)
     where
-      go : (c : Check) → (summarised c (summary_of (edges_of_file f))).told ≡ Check.Bad r → c ≡ Check.Bad r
-      go Check.Fine h = h
-      go (Check.Bad q) h = h
+      go : (c : Check) → summarised c (summary_of (edges_of_file f)) ≡ Err r → c ≡ Err r
+      go (Ok _) h = let z : ◌≡◌ {A = ℕ} 0 1 = cc in absurd (omega arith)
+      go (Err q) h = cc
 
   -- what is told is the full check's answer
-  pub summary_told_lem : (summarised_of f).told ≡ full_check f
+  pub summary_told_lem : told (summarised_of f) ≡ full_check f
   unfolding summarised_of summarised
   summary_told_lem = go (full_check f)
     where
-      go : (c : Check) → (summarised c (summary_of (edges_of_file f))).told ≡ c
-      go Check.Fine = refl
-      go (Check.Bad r) = refl
+      go : (c : Check) → told (summarised c (summary_of (edges_of_file f))) ≡ c
+      go (Ok _) = refl
+      go (Err r) = refl
+
+  -- a summary is given only where the full check passes, and is that of the file's edges
+  pub summary_given : {s : Summary} → summarised_of f ≡ Ok s → (full_check f ≡ (Ok tt)) × (summary_of (edges_of_file f) ≡ s)
+  unfolding summarised_of summarised
+  summary_given {s = s} e = go (full_check f) e
+    where
+      go : (c : Check) → summarised c (summary_of (edges_of_file f)) ≡ Ok s → (c ≡ (Ok tt)) × (summary_of (edges_of_file f) ≡ s)
+      go (Ok _) h = (refl, cc)
+      go (Err r) h = let z : ◌≡◌ {A = ℕ} 0 1 = cc in absurd (omega arith)
 
   -- a file that passes has at most 2^26 edges, so that all of `Summed` holds of it
-  pub summary_sums : full_check f ≡ Check.Fine → Summed (edges_of_file f) (summarised_of f).summary
-  summary_sums pass =
-      let checked = fine_checked f pass in
+  pub summary_sums : (s : Summary) → summarised_of f ≡ Ok s → Summed (edges_of_file f) s
+  summary_sums s given =
+      let g = summary_given given in
+      let checked = fine_checked f g.0 in
       let few = checked_few f (record_of f) checked in
-      rw (summary_passes pass) (sums (edges_of_file f) (omega (arith, length_edges_in f (record_of f) checked)))
+      subst (Summed (edges_of_file f)) g.1 (sums (edges_of_file f) (omega (arith, length_edges_in f (record_of f) checked)))
 
   -- a degree is the number of its key's edges, which a lookup of the key gives: key i, of as many keys as the file has
-  pub summary_degrees : full_check f ≡ Check.Fine → (i : ℕ) → i < (record_of f).keycount
+  pub summary_degrees : full_check f ≡ (Ok tt) → (i : ℕ) → i < (record_of f).keycount
       → slice_index (degrees_of (groups_of (edges_of_file f))) i ≡ length (of_key (key_at (bytes_at f (record_of f).keys) i) (edges_of_file f))
   summary_degrees pass = degrees_by_key f (record_of f) (fine_checked f pass)
 
-  pub summary_keys : full_check f ≡ Check.Fine → (record_of f).keycount ≡ length (groups_of (edges_of_file f))
+  pub summary_keys : full_check f ≡ (Ok tt) → (record_of f).keycount ≡ length (groups_of (edges_of_file f))
   summary_keys pass = keys_are f (record_of f) (fine_checked f pass)
 
   -- it is the summary of the batch that the read-out leaves
-  pub summary_of_batch : Bytes f → full_check f ≡ Check.Fine → summarised_of f ≡ record { told = Check.Fine; summary = summary_of (edges_of (batch_in f)) }
-  summary_of_batch bytes pass = summary_passes pass ∙ ap (λ (es : List Edge). record { told = Check.Fine; summary = summary_of es }) (sym (out_edges f bytes pass))
+  pub summary_of_batch : Bytes f → full_check f ≡ (Ok tt) → summarised_of f ≡ Ok (summary_of (edges_of (batch_in f)))
+  summary_of_batch bytes pass = summary_passes pass ∙ ap (λ (es : List Edge). Ok (summary_of es)) (sym (out_edges f bytes pass))
 
-  -- there is a smallest and largest exactly where there are edges; also beside a refusal, where nothing is counted
-  pub summary_there : EndsThere (summarised_of f).summary
-  unfolding summarised_of summarised summary_of
-  summary_there = go (full_check f)
-    where
-      go : (c : Check) → EndsThere (summarised c (summary_of (edges_of_file f))).summary
-      go Check.Fine = ends_there (edges_of_file f)
-      go (Check.Bad r) = record { some = λ h. absurd (omega arith); none = λ e. refl }
+  -- there is a smallest and largest exactly where there are edges
+  pub summary_there : (s : Summary) → summarised_of f ≡ Ok s → EndsThere s
+  summary_there s given = subst EndsThere (summary_given given).1 (ends_there (edges_of_file f))
 
   -- its keys are of 64-bit halves
-  pub summary_fits : Bytes f → ExtremesFit (summarised_of f).summary.extremes
-  unfolding summarised_of summarised summary_of ExtremesFit
-  summary_fits bytes = go (full_check f) refl
-    where
-      go : (c : Check) → full_check f ≡ c → ExtremesFit (summarised c (summary_of (edges_of_file f))).summary.extremes
-      go Check.Fine e = extremes_fit (edges_of_file f) (fits f bytes e)
-      go (Check.Bad r) e = tt
+  pub summary_fits : Bytes f → (s : Summary) → summarised_of f ≡ Ok s → ExtremesFit s.extremes
+  unfolding summary_of
+  summary_fits bytes s given =
+      let g = summary_given given in subst (λ (t : Summary). ExtremesFit t.extremes) g.1 (extremes_fit (edges_of_file f) (fits f bytes g.0))
 
 -- "files with equal read-outs have equal summaries"
-pub same_summary : (f g : List ℕ) → Bytes f → Bytes g → full_check f ≡ Check.Fine → full_check g ≡ Check.Fine → batch_in f ≡ batch_in g → summarised_of f ≡ summarised_of g
+pub same_summary : (f g : List ℕ) → Bytes f → Bytes g → full_check f ≡ (Ok tt) → full_check g ≡ (Ok tt) → batch_in f ≡ batch_in g → summarised_of f ≡ summarised_of g
 same_summary f g bf bg pf pg same =
-    summary_of_batch f bf pf ∙ ap (λ (s : List ℕ). record { told = Check.Fine; summary = summary_of (edges_of s) }) same ∙ sym (summary_of_batch g bg pg)
+    summary_of_batch f bf pf ∙ ap (λ (s : List ℕ). Ok (summary_of (edges_of s))) same ∙ sym (summary_of_batch g bg pg)

@@ -1,15 +1,13 @@
 -- The summary of a file's edges, by its sections: what each pass gives is what the edges say.
-use Rattle.std.specs.Prelude.{◌≡◌, ℕ, zero, suc, ◌+◌, ◌-◌, ◌*◌, ◌<◌, ◌≤◌, Bool, List, [], ◌∷◌, ◌++◌, length}
+use Rattle.std.specs.Prelude.{◌≡◌, ℕ, zero, suc, ◌+◌, ◌-◌, ◌*◌, ◌<◌, ◌≤◌, Bool, List, [], ◌∷◌, ◌++◌, length, Ok, Option, Some}
 use Rattle.std.proofs.Math.Path.{refl, ap, ap₂}
 use Rattle.std.proofs.Common.{sym, ◌∙◌, zero-add, add-zero, lt-ltb, le-ltb}
 use native.Mathlib.Omega.{arith}
 use Rattle.base.specs.Pick.{pick}
 use Rattle.codes.specs.declared.ids.Id.{Id}
-use Rattle.codes.specs.declared.varint.Varint.{Varint}
 use Rattle.codes.specs.Little.{le_at}
 use Rattle.codes.specs.Ids.{id_number, halves_at}
 use Rattle.codes.specs.Ids.Laws.{number_halves}
-use Rattle.refusal.specs.declared.Check.{Check}
 use Rattle.frame.specs.Open.{key_at}
 use Rattle.index.specs.Order.{KeysRise, key_once}
 use Rattle.degrees.specs.Degrees.{group_at}
@@ -110,9 +108,9 @@ module _ (keys p o : List ℕ) (w : ℕ) (logs dead : List ℕ) where
   read_dead zero i e = refl
   read_dead (suc d) i e = run_dead logs dead (key i) (partners i) e (degrees_from p o w d (i + 1)) (read d (i + 1) (e + length (partners i))) (read_dead d (i + 1) (e + length (partners i)))
 
-  module _ (n : ℕ) (rise : KeysRise keys n) (ok : groups_from p o w n 0 ≡ Check.Fine) where
+  module _ (n : ℕ) (rise : KeysRise keys n) (ok : groups_from p o w n 0 ≡ (Ok tt)) where
     -- a key's group begins with its degree, which is not 0
-    begins : (i : ℕ) → i < n → (1 ≤ length (partners i)) × ((next : ℕ) × (degree_of (group_at p o w i) ≡ Varint.Value (length (partners i)) next))
+    begins : (i : ℕ) → i < n → (1 ≤ length (partners i)) × ((next : ℕ) × (degree_of (group_at p o w i) ≡ Ok (length (partners i), next)))
     begins i h =
         let (dense, is) = good_is (group_in p o w i) (each_good keys p o w logs dead n 0 ok i (omega arith) (omega arith)) in
         group.degree_is (group_at p o w i) dense (partners i) is
@@ -186,8 +184,13 @@ module _ (keys p o : List ℕ) (w : ℕ) (logs dead : List ℕ) where
         let y = number_halves keys (suc j * 16) in
         omega arith
 
-    abbrev log_extremes : ℕ → Extremes
-    log_extremes m = Extremes.Some (key 0) (key (n - 1)) (smallest (le_at logs 0 8) (logs_from (m - 1) logs 1)) (largest (le_at logs 0 8) (logs_from (m - 1) logs 1))
+    abbrev log_extremes : ℕ → Option Extremes
+    log_extremes m = Some (record {
+      smallestkey = key 0;
+      largestkey = key (n - 1);
+      smallestlog = smallest (le_at logs 0 8) (logs_from (m - 1) logs 1);
+      largestlog = largest (le_at logs 0 8) (logs_from (m - 1) logs 1);
+    })
 
     -- of edges that begin with key 0 and go on with keys that rise
     run_extremes : (ps : List Id) (d m : ℕ) → 1 ≤ length ps → 1 + d ≡ n → m ≡ length ps + degrees_from p o w d 1
@@ -207,10 +210,9 @@ module _ (keys p o : List ℕ) (w : ℕ) (logs dead : List ℕ) where
         let numbers : logs_in (edges_from logs dead (key 0) (0 + 1) ps ++ others) ≡ logs_from (m - 1) logs 1 =
         run_logs logs dead (key 0) ps (0 + 1) (degrees_from p o w d 1) others (read_logs d 1 (suc (length ps)) ∙ ap (logs_from (degrees_from p o w d 1) logs) (sym one))
         ∙ ap (λ (t : ℕ). logs_from t logs 1) count in
-        λ j. Extremes.Some (small j) (large j) (smallest (le_at logs 0 8) (numbers j)) (largest (le_at logs 0 8) (numbers j))
+        λ j. Some (record { smallestkey = small j; largestkey = large j; smallestlog = smallest (le_at logs 0 8) (numbers j); largestlog = largest (le_at logs 0 8) (numbers j) })
 
-    pub read_extremes : 1 ≤ n → extremes_of (read_from keys p o w logs dead n 0 0) ≡ Extremes.Some (halves_at keys (0 * 16)) (halves_at keys ((n - 1) * 16))
-        (smallest (le_at logs 0 8) (logs_from (degrees_from p o w n 0 - 1) logs 1)) (largest (le_at logs 0 8) (logs_from (degrees_from p o w n 0 - 1) logs 1))
+    pub read_extremes : 1 ≤ n → extremes_of (read_from keys p o w logs dead n 0 0) ≡ log_extremes (degrees_from p o w n 0)
     unfolding read_from degrees_from
     read_extremes h =
         let more : n ≡ suc (n - 1) = omega arith in

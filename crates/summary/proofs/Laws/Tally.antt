@@ -1,7 +1,9 @@
 -- The pass over the groups: degrees one by one, each into its bucket. p the partners, o the offsets of w bytes each.
-use Rattle.std.specs.Prelude.{◌≡◌, ℕ, zero, suc, ◌+◌, ◌-◌, ◌<◌, ◌≤◌, Bool, true, false, List, [], ◌∷◌, length, replicate, ◌≢◌, nat_lt, slice_index, slice_index_or, slice_set, refl}
+use Rattle.std.specs.Prelude.{◌≡◌, ℕ, zero, suc, ◌+◌, ◌-◌, ◌<◌, ◌≤◌, Bool, true, false, List, [], ◌∷◌, length, replicate, ◌≢◌, nat_lt, slice_index, slice_index_or, slice_set, refl, Ok, Err}
+use Prim.Native.Nat.{max}
+use Rattle.std.proofs.Math.Decide.{dec_lt}
 use Rattle.std.proofs.Math.Path.{sym, ap}
-use Rattle.std.proofs.Common.{ap₂, ◌∙◌, zero-add, add-zero, get_or-set_same, get_or-set_other}
+use Rattle.std.proofs.Common.{ap₂, ◌∙◌, zero-add, add-zero, lt-ltb, le-ltb, get_or-set_same, get_or-set_other}
 use Rattle.std.proofs.Math.Nat.{sub-zero}
 use native.Mathlib.Omega.{arith}
 use Rattle.std.proofs.Math.Decide.{ℕ_discrete}
@@ -11,8 +13,7 @@ use Rattle.std.proofs.Math.Seq.{ext_get_or}
 use Rattle.base.specs.Pick.{pick}
 use Rattle.base.specs.Over.{part}
 use Rattle.codes.specs.declared.varint.Unread.{Unread}
-use Rattle.codes.specs.declared.varint.Varint.{Varint}
-use Rattle.codes.specs.Varint.{varint_at}
+use Rattle.codes.specs.Varint.{varint_at, Varint}
 use Rattle.frame.specs.Open.{offset_at}
 use Rattle.index.specs.Order.{OffsetsRise}
 use Rattle.degrees.specs.Degrees.{group_at}
@@ -21,16 +22,20 @@ use Rattle.summary.specs.Summary.{largest, in_bucket, bucket, buckets_of}
 use Rattle.summary.proofs.Laws.Summary.{bucket_once, bucket_at, length_buckets}
 use Rattle.summary.specs.Tally.{degree_told, tally_of, degrees_at}
 
-pub told_is : (x : Varint) (d next : ℕ) → x ≡ Varint.Value d next → d ≡ degree_told x
+-- the larger of two numbers
+pub max_is : (x y : ℕ) → max x y ≡ pick (nat_lt x y) y x
+max_is x y = elim (dec_lt x y) [ yes h ↦ rw (lt-ltb x y h) (omega arith) | no h ↦ rw (le-ltb x y (omega arith)) (omega arith) ]
+
+pub told_is : (x : Varint) (d next : ℕ) → x ≡ Ok (d, next) → d ≡ degree_told x
 unfolding degree_told
 told_is x d next e = sym (ap degree_told e)
 
 -- a group's, as it is read
-pub degree_is : (g : List ℕ) (d next : ℕ) → varint_at g 0 ≡ Varint.Value d next → d ≡ degree_told (degree_of g)
+pub degree_is : (g : List ℕ) (d next : ℕ) → varint_at g 0 ≡ Ok (d, next) → d ≡ degree_told (degree_of g)
 unfolding degree_of
 degree_is g d next e = told_is (varint_at g 0) d next e
 
-pub degree_bad : (g : List ℕ) (why : Unread) → varint_at g 0 ≡ Varint.Bad why → 0 ≡ degree_told (degree_of g)
+pub degree_bad : (g : List ℕ) (why : Unread) → varint_at g 0 ≡ Err why → 0 ≡ degree_told (degree_of g)
 unfolding degree_of degree_told
 degree_bad g why e = sym (ap degree_told e)
 

@@ -1,10 +1,6 @@
 -- `test_print::corpus` meets its contract.
-use mathlib.Core.Path.{◌≡◌}
-use lib.ListN.{length}
+use Rattle.std.proofs.Common.{◌≡◌, length}
 use Rattle.test_print.proofs.corpus.Given as goal
 
-abbrev pub invariant-loop-left : goal.invariant-loop-left
-invariant-loop-left l = (length l.name ≡ length l.initial.name) × (length l.space ≡ length l.initial.space) × (length l.room ≡ length l.initial.room) × (length l.out ≡ length l.initial.out)
-
-abbrev pub decreases-loop-left : goal.decreases-loop-left
-decreases-loop-left l = l.left
+abbrev pub invariant-loop : goal.invariant-loop
+invariant-loop l = (length l.space ≡ length l.initial.space) × (length l.room ≡ length l.initial.room) × (length l.out ≡ length l.initial.out)

@@ -1,5 +1,5 @@
 use mathlib.Core.Path.{◌≡◌}
-use Prim.Native.Nat.{ℕ, ◌+◌, ◌-◌, ◌%◌, ◌≤◌}
+use Prim.Native.Nat.{ℕ, ◌+◌, ◌*◌, ◌≤◌}
 use mathlib.Core.List.{List}
 use lib.ListN.{length, drop}
 use Rattle.base.specs.Put.{Left}
@@ -7,11 +7,7 @@ use Rattle.write_frame.proofs.put_words.Given as goal
 
 pub record Head (s o : List ℕ) (at : ℕ) (out : List ℕ) (k : ℕ) : Type 0 where
   pub upto : k ≤ length s
-  pub words : k % 8 ≡ 0
   pub left : Left out (at + k) (drop k s) o at s
 
-abbrev pub invariant-loop-k : goal.invariant-loop-k
-invariant-loop-k l = Head l.s l.initial.out l.at l.out l.k
-
-abbrev pub decreases-loop-k : goal.decreases-loop-k
-decreases-loop-k l = length l.s - l.k
+abbrev pub invariant-loop-w : goal.invariant-loop-w
+invariant-loop-w l = Head l.s l.initial.out l.at l.out (8 * l.w)

@@ -2,12 +2,9 @@ use mathlib.Core.Path.{◌≡◌}
 use Prim.Native.Nat.{◌-◌}
 use lib.ListN.{get_or}
 use Rattle.batch_groups.specs.Groups.{none}
-use Rattle.write_source.specs.Source.{source_edges}
+use Rattle.batch.specs.Batch.{edges_of}
 use Rattle.write_group.specs.Span.{Same}
 use Rattle.write_group.proofs.group_end.Given as goal
 
 abbrev pub invariant-loop-j : goal.invariant-loop-j
-invariant-loop-j l = (l.key ≡ (get_or (source_edges l.kind l.a l.b) l.i none).key) × Same (source_edges l.kind l.a l.b) l.i l.j
-
-abbrev pub decreases-loop-j : goal.decreases-loop-j
-decreases-loop-j l = l.n - l.j
+invariant-loop-j l = (l.key ≡ (get_or (edges_of l.batch) l.i none).key) × Same (edges_of l.batch) l.i l.j

@@ -5,7 +5,7 @@ use mathlib.Core.List.{List, [], ◌∷◌, ◌++◌, append-nil}
 use mathlib.Core.Bool.{Bool}
 use lib.ListN.{length, length-append}
 use lib.Seq.{append_snoc}
-use Rattle.batch.specs.Batch.{partners_in}
+use Rattle.batch.specs.Batch.{partners_in, edges_of}
 use Rattle.base.specs.Over.{part}
 use Rattle.base.specs.Put as P
 use Rattle.base.specs.Put.{Put, Left}
@@ -16,7 +16,6 @@ use Rattle.group.specs.Group.Laws.{tag_of}
 use Rattle.group.specs.Written.{payload_of, written_as}
 use Rattle.group.proofs.Laws.Written.{written_is}
 use Rattle.write_image.specs.Image.Laws.{length_partners_in}
-use Rattle.write_source.specs.Source.{source_edges}
 use Rattle.write_group.proofs.put_block.Goals as goal
 
 module _ (es : List Edge) (i j : ℕ) (dense : Bool) (m : j ≤ length es) where
@@ -51,19 +50,19 @@ module _ (es : List Edge) (i j : ℕ) (dense : Bool) (m : j ≤ length es) where
       done q = P.end refl (P.put (P.is (sym (append-nil (payload_of b 0 ps))) (P.put todo p)) q)
 
 pub put_head-mid-requires : goal.put_head-mid-requires
-put_head-mid-requires c = let a = c.args in room_head (source_edges a.kind a.a.now a.b.now) a.i a.j a.dense c.requires.1 c.if-dense.true a.out.now a.at c.requires.3
+put_head-mid-requires c = let a = c.args in room_head (edges_of a.batch.now) a.i a.j a.dense c.requires.1 c.if-dense.true a.out.now a.at c.requires.3
 
 pub put_dense-requires : goal.put_dense-requires
-put_dense-requires c = let a = c.args in (c.requires.0, c.requires.1, room_rest (source_edges a.kind a.a.now a.b.now) a.i a.j a.dense c.requires.1 c.if-dense.true a.out.now a.at c.requires.3 c.put_head-mid.ensures)
+put_dense-requires c = let a = c.args in (c.requires.0, c.requires.1, room_rest (edges_of a.batch.now) a.i a.j a.dense c.requires.1 c.if-dense.true a.out.now a.at c.requires.3 c.put_head-mid.ensures)
 
 pub returns-then-dense : goal.returns-then-dense
-returns-then-dense c = let a = c.args in done (source_edges a.kind a.a.now a.b.now) a.i a.j a.dense c.requires.1 c.if-dense.true a.out.now a.at c.requires.3 c.put_head-mid.ensures c.put_dense.ensures
+returns-then-dense c = let a = c.args in done (edges_of a.batch.now) a.i a.j a.dense c.requires.1 c.if-dense.true a.out.now a.at c.requires.3 c.put_head-mid.ensures c.put_dense.ensures
 
 pub put_head-mid-requires-2 : goal.put_head-mid-requires-2
-put_head-mid-requires-2 c = let a = c.args in room_head (source_edges a.kind a.a.now a.b.now) a.i a.j a.dense c.requires.1 c.if-dense.false a.out.now a.at c.requires.3
+put_head-mid-requires-2 c = let a = c.args in room_head (edges_of a.batch.now) a.i a.j a.dense c.requires.1 c.if-dense.false a.out.now a.at c.requires.3
 
 pub put_split-requires : goal.put_split-requires
-put_split-requires c = let a = c.args in (c.requires.0, c.requires.1, c.requires.2, room_rest (source_edges a.kind a.a.now a.b.now) a.i a.j a.dense c.requires.1 c.if-dense.false a.out.now a.at c.requires.3 c.put_head-mid-2.ensures)
+put_split-requires c = let a = c.args in (c.requires.0, c.requires.1, c.requires.2, room_rest (edges_of a.batch.now) a.i a.j a.dense c.requires.1 c.if-dense.false a.out.now a.at c.requires.3 c.put_head-mid-2.ensures)
 
 pub returns : goal.returns
-returns c = let a = c.args in done (source_edges a.kind a.a.now a.b.now) a.i a.j a.dense c.requires.1 c.if-dense.false a.out.now a.at c.requires.3 c.put_head-mid-2.ensures c.put_split.ensures
+returns c = let a = c.args in done (edges_of a.batch.now) a.i a.j a.dense c.requires.1 c.if-dense.false a.out.now a.at c.requires.3 c.put_head-mid-2.ensures c.put_split.ensures

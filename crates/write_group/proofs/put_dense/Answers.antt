@@ -4,7 +4,7 @@ use native.Mathlib.Omega.{arith}
 use mathlib.Core.List.{List, ◌++◌}
 use lib.ListN.{length, get_or}
 use lib.Seq.{sets}
-use Rattle.batch.specs.Batch.{partners_in}
+use Rattle.batch.specs.Batch.{partners_in, edges_of}
 use Rattle.base.specs.Over.{part}
 use Rattle.base.specs.Put as P
 use Rattle.base.specs.Put.{Put, Left}
@@ -14,7 +14,6 @@ use Rattle.batch.specs.declared.Edge.{Edge}
 use Rattle.group.specs.Group.{bytes_of}
 use Rattle.batch_groups.specs.Groups.{none}
 use Rattle.write_image.specs.Image.Laws.{partner_first, partners_out, dense_none, dense_on}
-use Rattle.write_source.specs.Source.{source_edges}
 use Rattle.write_group.proofs.put_dense.Goals as goal
 use Rattle.write_group.proofs.put_dense.Invariants.{Head}
 
@@ -52,21 +51,21 @@ pub put_id-requires : goal.put_id-requires
 put_id-requires c =
     let a = c.args in
     let l = c.loop-k in
-    let es = source_edges a.kind a.a.now a.b.now in
+    let es = edges_of a.batch.now in
     room es a.i a.j a.out.now a.at l.out l.k l.to l.invariant c.requires.1 (omega arith) _ c.edge_of-e.ensures c.requires.2
 
 pub overflow_add-to : goal.overflow_add-to
 overflow_add-to c =
     let a = c.args in
     let l = c.loop-k in
-    let es = source_edges a.kind a.a.now a.b.now in
+    let es = edges_of a.batch.now in
     let r = room es a.i a.j a.out.now a.at l.out l.k l.to l.invariant c.requires.1 (omega arith) _ c.edge_of-e.ensures c.requires.2 in omega arith
 
 pub loop-k-preserved : goal.loop-k-preserved
 loop-k-preserved c =
     let a = c.args in
     let l = c.loop-k in
-    let es = source_edges a.kind a.a.now a.b.now in
+    let es = edges_of a.batch.now in
     again es a.i a.j a.out.now a.at l.out l.k l.to l.invariant c.requires.1 (omega arith) _ c.edge_of-e.ensures c.put_id.ensures
 
 pub shape_of-out : goal.shape_of-out
@@ -76,5 +75,5 @@ pub returns : goal.returns
 returns c =
     let a = c.args in
     let l = c.loop-k in
-    let es = source_edges a.kind a.a.now a.b.now in
+    let es = edges_of a.batch.now in
     let u = l.invariant.upto in done es a.i a.j a.out.now a.at l.out l.k l.to l.invariant c.requires.1 (omega arith)

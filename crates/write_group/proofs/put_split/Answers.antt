@@ -3,7 +3,7 @@ use Prim.Native.Nat.{ℕ, ◌+◌, ◌-◌, ◌≤◌, ◌<◌}
 use native.Mathlib.Omega.{arith}
 use mathlib.Core.List.{List, ◌++◌, append_assoc}
 use lib.ListN.{length, get_or, length-append}
-use Rattle.batch.specs.Batch.{partners_in}
+use Rattle.batch.specs.Batch.{partners_in, edges_of}
 use Rattle.base.specs.Over.{part}
 use Rattle.base.specs.Put as P
 use Rattle.base.specs.Put.{Put, Left}
@@ -14,7 +14,6 @@ use Rattle.batch.specs.declared.Edge.{Edge}
 use Rattle.group.specs.Written.{split_from}
 use Rattle.batch_groups.specs.Groups.{none}
 use Rattle.write_image.specs.Image.Laws.{Rise, partner_first, rise_first, partners_out, split_none, split_on}
-use Rattle.write_source.specs.Source.{source_edges}
 use Rattle.write_group.proofs.put_split.Goals as goal
 use Rattle.write_group.proofs.put_split.Invariants.{Head}
 
@@ -56,21 +55,21 @@ pub overflow_sub-upper : goal.overflow_sub-upper
 overflow_sub-upper c =
     let a = c.args in
     let l = c.loop-k in
-    let es = source_edges a.kind a.a.now a.b.now in
+    let es = edges_of a.batch.now in
     (up es a.i a.j a.out.now a.at l.out l.k l.to l.hi l.invariant c.requires.1 (omega arith) _ c.edge_of-e.ensures).0
 
 pub put_partner-to-requires : goal.put_partner-to-requires
 put_partner-to-requires c =
     let a = c.args in
     let l = c.loop-k in
-    let es = source_edges a.kind a.a.now a.b.now in
+    let es = edges_of a.batch.now in
     room es a.i a.j a.out.now a.at l.out l.k l.to l.hi l.invariant c.requires.1 (omega arith) _ c.edge_of-e.ensures c.requires.3
 
 pub loop-k-preserved : goal.loop-k-preserved
 loop-k-preserved c =
     let a = c.args in
     let l = c.loop-k in
-    let es = source_edges a.kind a.a.now a.b.now in
+    let es = edges_of a.batch.now in
     again es a.i a.j a.out.now a.at l.out l.k l.to l.hi l.invariant c.requires.1 (omega arith) _ c.edge_of-e.ensures c.put_partner-to.ensures
 
 pub shape_of-out : goal.shape_of-out
@@ -80,5 +79,5 @@ pub returns : goal.returns
 returns c =
     let a = c.args in
     let l = c.loop-k in
-    let es = source_edges a.kind a.a.now a.b.now in
+    let es = edges_of a.batch.now in
     let u = l.invariant.upto in done es a.i a.j a.out.now a.at l.out l.k l.to l.hi l.invariant c.requires.1 (omega arith)

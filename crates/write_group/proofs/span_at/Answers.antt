@@ -1,14 +1,14 @@
-use mathlib.Core.Path.{sym, ap, ◌∙◌}
-use native.Mathlib.Omega.{arith}
+use Rattle.std.proofs.Common.{◌≡◌, ℕ, sym, ap, subst, ◌∙◌, arith}
 use Rattle.batch.specs.declared.Edge.{Edge}
-use Rattle.write_source.specs.Source.{source_edges}
-use Rattle.write_group.specs.Span.{going_first, going_most, going_up, going_on, going_other, going_end}
+use Rattle.batch.specs.Batch.{edges_of}
+use Rattle.write_group.specs.declared.Span.{Span}
+use Rattle.write_group.specs.Span.{Spans, going_first, going_most, going_up, going_on, going_other, going_end}
 use Rattle.write_group.proofs.span_at.Goals as goal
 
 pub loop-j-init : goal.loop-j-init
 loop-j-init c =
     let a = c.args in
-    let es = source_edges a.kind a.a.now a.b.now in
+    let es = edges_of a.batch.now in
     let first = c.edge_of-first.ensures in (
       omega arith,
       ap (λ (t : Edge). t.key) first,
@@ -19,7 +19,7 @@ pub returns-then-not-same_id : goal.returns-then-not-same_id
 returns-then-not-same_id c =
     let a = c.args in
     let l = c.loop-j in
-    let es = source_edges a.kind a.a.now a.b.now in
+    let es = edges_of a.batch.now in
     going_other es a.i l.j l.hi l.cost l.invariant.2 (omega arith) _ c.edge_of-other.ensures l.invariant.0 _ l.invariant.1
     (sym c.same_id.ensures ∙ c.if-not-same_id.true)
 
@@ -27,7 +27,7 @@ pub overflow_sub-upper : goal.overflow_sub-upper
 overflow_sub-upper c =
     let a = c.args in
     let l = c.loop-j in
-    let es = source_edges a.kind a.a.now a.b.now in
+    let es = edges_of a.batch.now in
     going_up es a.i l.j l.hi l.cost l.invariant.2 (omega arith) _ c.edge_of-other.ensures l.invariant.0 _ l.invariant.1
     (sym c.same_id.ensures ∙ c.if-not-same_id.false)
     c.requires.3
@@ -36,7 +36,7 @@ pub overflow_add-cost : goal.overflow_add-cost
 overflow_add-cost c =
     let a = c.args in
     let l = c.loop-j in
-    let es = source_edges a.kind a.a.now a.b.now in
+    let es = edges_of a.batch.now in
     let most = going_most es a.i l.j l.hi l.cost l.invariant.2 in
     let here = c.partner_cost-cost-in-loop-j.ensures.1 in omega arith
 
@@ -44,7 +44,7 @@ pub loop-j-preserved : goal.loop-j-preserved
 loop-j-preserved c =
     let a = c.args in
     let l = c.loop-j in
-    let es = source_edges a.kind a.a.now a.b.now in (
+    let es = edges_of a.batch.now in (
       omega arith,
       l.invariant.1,
       going_on es a.i l.j l.hi l.cost l.invariant.2 (omega arith) _ c.edge_of-other.ensures l.invariant.0 _ l.invariant.1
@@ -55,5 +55,7 @@ pub returns : goal.returns
 returns c =
     let a = c.args in
     let l = c.loop-j in
-    let es = source_edges a.kind a.a.now a.b.now in
-    let w = l.invariant.2.within in going_end es a.i l.j l.hi l.cost l.invariant.2 l.invariant.0 (omega arith)
+    let es = edges_of a.batch.now in
+    let w = l.invariant.2.within in
+    let z : l.j ≡ a.n = omega arith in
+    subst (λ (j : ℕ). Spans es a.i (record { end = j; cost = l.cost })) z (going_end es a.i l.j l.hi l.cost l.invariant.2 l.invariant.0 (omega arith))

@@ -1,8 +1,7 @@
 -- The definitions computed at the edges of their rules. The inputs are n bytes of 7; the sums are those of the reference program
 -- `xxhsum -H3`, as in `xxh3_spec/specs/Vectors`.
-use Rattle.std.specs.Prelude.{◌≡◌, refl, ℕ, ◌+◌, ◌-◌, ◌^◌, List, [], ◌∷◌, replicate}
+use Rattle.std.specs.Prelude.{◌≡◌, refl, ℕ, ◌+◌, ◌-◌, ◌^◌, List, [], ◌∷◌, replicate, Err, Ok}
 use Rattle.codes.specs.Little.{le_at}
-use Rattle.refusal.specs.declared.Check.{Check}
 use Rattle.refusal.specs.declared.Refusal.{Refusal}
 use Rattle.xxh3_spec.specs.Xxh3.{mul, fold, xorshift, rotl, swap, rrmxmx, secret, of1to3, of4to8, of9to16, small, pair, mix_step, inward, of17to128, onward, of129to240, lane, accumulate, stir, scramble, turn, run_on, start_lanes, twice, merge, finish, large, xxh3}
 use Rattle.xxh3_running.specs.Running.{state_of, new_state, emptied, byte_more, bytes_more, feed_of, last_bytes, long_sum, sum_of}
@@ -33,10 +32,10 @@ sums = (refl, refl, refl, refl, refl, refl, refl, refl, refl)
 
 -- 2^30 bytes may be reached and not passed; there the empty chunk is taken, and behind it not even that
 pub bound :
-    ((feed_of (state_of (2 ^ 30 - 1) [] []) (7 ∷ [])).told ≡ Check.Fine)
-    × ((feed_of (state_of (2 ^ 30 - 1) [] []) (7 ∷ 7 ∷ [])).told ≡ Check.Bad Refusal.Chunk)
-    × ((feed_of (state_of (2 ^ 30) [] []) []).told ≡ Check.Fine)
-    × ((feed_of (state_of (2 ^ 30) [] []) (7 ∷ [])).told ≡ Check.Bad Refusal.Chunk)
-    × ((feed_of (state_of (2 ^ 30 + 1) [] []) []).told ≡ Check.Bad Refusal.Chunk)
+    ((feed_of (state_of (2 ^ 30 - 1) [] []) (7 ∷ [])).told ≡ (Ok tt))
+    × ((feed_of (state_of (2 ^ 30 - 1) [] []) (7 ∷ 7 ∷ [])).told ≡ Err Refusal.Chunk)
+    × ((feed_of (state_of (2 ^ 30) [] []) []).told ≡ (Ok tt))
+    × ((feed_of (state_of (2 ^ 30) [] []) (7 ∷ [])).told ≡ Err Refusal.Chunk)
+    × ((feed_of (state_of (2 ^ 30 + 1) [] []) []).told ≡ Err Refusal.Chunk)
 unfolding feed_of
 bound = (refl, refl, refl, refl, refl)

@@ -1,10 +1,9 @@
 -- What users may rely on: chunks, however they are cut, have the sum of their bytes in a row; asking for it midway changes nothing; 27 is
 -- given exactly past 2^30 bytes, and then the state stays.
-use Rattle.std.specs.Prelude.{◌≡◌, refl, ◌↔◌, ℕ, ◌+◌, ◌≤◌, ◌<◌, List, [], ◌∷◌, ◌++◌, map, length}
+use Rattle.std.specs.Prelude.{◌≡◌, refl, ◌↔◌, ℕ, ◌+◌, ◌≤◌, ◌<◌, List, [], ◌∷◌, ◌++◌, map, length, Ok, Err}
 use Rattle.std.proofs.Common.{sym, ap, ap₂, ◌∙◌, subst, add-zero, zero-add, arith, length-append, le-leb}
 use Rattle.std.proofs.Math.Decide.{dec_lt}
 use Rattle.std.proofs.lemmas.Bool.{lt-leb}
-use Rattle.refusal.specs.declared.Check.{Check}
 use Rattle.refusal.specs.declared.Refusal.{Refusal}
 use Rattle.xxh3_spec.specs.Xxh3.{xxh3}
 use Rattle.xxh3_running.specs.declared.State.{State}
@@ -14,11 +13,12 @@ use Rattle.xxh3_running.proofs.Laws.Running.{bytes_none, bytes_append, bytes_tot
 use Rattle.xxh3_running.specs.Running.Sums.{Holds}
 use Rattle.xxh3_running.proofs.Laws.RunningSums.{new_holds, bytes_hold, sum_is}
 use Rattle.xxh3_running.specs.Chunks.{in_row, feed_all, told_all, Step, Feed, Ask, answers, taking, sums_before}
+use Rattle.refusal.specs.Check.{Check}
 
 -- ---- one chunk
 
 -- 27 exactly if the total would pass 2^30
-pub refused_exactly : (st : State) (c : List ℕ) → ((feed_of st c).told ≡ Check.Bad Refusal.Chunk) ↔ (most_fed < st.total + length c)
+pub refused_exactly : (st : State) (c : List ℕ) → ((feed_of st c).told ≡ Err Refusal.Chunk) ↔ (most_fed < st.total + length c)
 refused_exactly st c = (
   λ e. elim (dec_lt most_fed (st.total + length c)) [
     | yes h ↦ h
@@ -31,7 +31,7 @@ refused_exactly st c = (
 )
 
 -- no other refusal is given, and each leaves the state
-pub refused_leaves : (st : State) (c : List ℕ) (r : Refusal) → (feed_of st c).told ≡ Check.Bad r → (r ≡ Refusal.Chunk) × ((feed_of st c).state ≡ st)
+pub refused_leaves : (st : State) (c : List ℕ) (r : Refusal) → (feed_of st c).told ≡ Err r → (r ≡ Refusal.Chunk) × ((feed_of st c).state ≡ st)
 refused_leaves st c r e = elim (dec_lt most_fed (st.total + length c)) [
   | yes h ↦
       let fed = feed_refused st c h in
@@ -44,12 +44,12 @@ refused_leaves st c r e = elim (dec_lt most_fed (st.total + length c)) [
 ]
 
 -- after more than 2^30 bytes, which only a state that nobody fed can say, every chunk is refused, the empty one too
-pub past_most : (st : State) (c : List ℕ) → most_fed < st.total → feed_of st c ≡ record { told = Check.Bad Refusal.Chunk; state = st }
+pub past_most : (st : State) (c : List ℕ) → most_fed < st.total → feed_of st c ≡ record { told = Err Refusal.Chunk; state = st }
 past_most st c h = feed_refused st c (omega arith)
 
 -- up to 2^30 bytes, that total too, the empty chunk is taken and changes nothing
-pub empty_taken : (st : State) → st.total ≤ most_fed → feed_of st [] ≡ record { told = Check.Fine; state = st }
-empty_taken st h = feed_taken st [] (rw add-zero h) ∙ ap (λ (x : State). record { told = Check.Fine; state = x }) (bytes_none st)
+pub empty_taken : (st : State) → st.total ≤ most_fed → feed_of st [] ≡ record { told = (Ok tt); state = st }
+empty_taken st h = feed_taken st [] (rw add-zero h) ∙ ap (λ (x : State). record { told = (Ok tt); state = x }) (bytes_none st)
 
 -- after a refusal the sum goes on as if that chunk had not come
 pub goes_on : (st : State) (c d : List ℕ) → most_fed < st.total + length c → feed_of (feed_of st c).state d ≡ feed_of st d
@@ -57,7 +57,7 @@ goes_on st c d h = ap (λ (f : Fed). feed_of f.state d) (feed_refused st c h)
 
 -- up to 2^30 bytes each is taken, and the state is that of their bytes one by one
 pub all_taken : (cs : List (List ℕ)) (st : State) → st.total + length (in_row cs) ≤ most_fed
-    → (feed_all st cs ≡ bytes_more st (in_row cs)) × (told_all st cs ≡ map (λ (c : List ℕ). Check.Fine) cs)
+    → (feed_all st cs ≡ bytes_more st (in_row cs)) × (told_all st cs ≡ map (λ (c : List ℕ). (Ok tt)) cs)
 unfolding in_row feed_all told_all
 all_taken [] st h = (sym (bytes_none st), refl)
 all_taken (c ∷ cs) st h =
@@ -66,7 +66,7 @@ all_taken (c ∷ cs) st h =
     let t : (bytes_more st c).total ≡ st.total + length c = bytes_total c st in
     let rest = all_taken cs (bytes_more st c) (rw t (omega arith)) in (
       ap (λ (f : Fed). feed_all f.state cs) fed ∙ rest.0 ∙ sym (bytes_append st c (in_row cs)),
-      ap (λ (f : Fed). f.told ∷ told_all f.state cs) fed ∙ ap (λ (l : List Check). Check.Fine ∷ l) rest.1,
+      ap (λ (f : Fed). f.told ∷ told_all f.state cs) fed ∙ ap (λ (l : List Check). (Ok tt) ∷ l) rest.1,
     )
 
 -- for every list of chunks, of any cuts, empty ones and none, of at most 2^30 bytes: the sum at the end is that of their bytes in a row

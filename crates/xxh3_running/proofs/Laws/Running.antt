@@ -1,12 +1,11 @@
 -- The laws by which a chunk is fed in larger pieces than bytes: up to the buffer's end, over it, and buffer by buffer.
-use Rattle.std.specs.Prelude.{◌≡◌, refl, ℕ, zero, suc, ◌+◌, ◌-◌, ◌*◌, ◌/◌, ◌%◌, ◌≤◌, ◌<◌, Bool, true, false, ◌&&◌, List, [], ◌∷◌, ◌++◌, ltb, length, take, drop, set, get_or}
+use Rattle.std.specs.Prelude.{◌≡◌, refl, ℕ, zero, suc, ◌+◌, ◌-◌, ◌*◌, ◌/◌, ◌%◌, ◌≤◌, ◌<◌, Bool, true, false, ◌&&◌, List, [], ◌∷◌, ◌++◌, ltb, length, take, drop, set, get_or, Ok, Err}
 use Rattle.std.proofs.Common.{sym, ap, ap₂, ◌∙◌, add-zero, zero-add, arith, append-nil, length-append, length-drop, take-append-drop, drop_of_length-le, length-take-le, get_or-take, get_or-drop, get_or-append-add, drop-drop, lt-ltb, le-leb, eq-eqb, ne_eqb}
 use Rattle.std.proofs.Math.Decide.{dec_lt}
 use Rattle.std.proofs.Math.ListN.{get_or-append}
 use Rattle.std.proofs.lemmas.List.Edits.{sets}
 use Rattle.std.proofs.Math.Seq.{length-sets}
 use Rattle.std.proofs.lemmas.Bool.{lt-leb}
-use Rattle.refusal.specs.declared.Check.{Check}
 use Rattle.refusal.specs.declared.Refusal.{Refusal}
 use Rattle.base.specs.Over.{sets_over}
 use Rattle.xxh3_spec.specs.Xxh3.{run_on, secret}
@@ -218,10 +217,10 @@ module _ (t r : ℕ) (l b xs : List ℕ) (u : UntilFull t r) (z : length b ≡ 2
 
 -- ---- a chunk is taken whole, or refused
 
-pub feed_taken : (st : State) (c : List ℕ) → st.total + length c ≤ most_fed → feed_of st c ≡ record { told = Check.Fine; state = bytes_more st c }
+pub feed_taken : (st : State) (c : List ℕ) → st.total + length c ≤ most_fed → feed_of st c ≡ record { told = (Ok tt); state = bytes_more st c }
 unfolding feed_of
 feed_taken st c h = rw (le-leb (st.total + length c) most_fed h)
 
-pub feed_refused : (st : State) (c : List ℕ) → most_fed < st.total + length c → feed_of st c ≡ record { told = Check.Bad Refusal.Chunk; state = st }
+pub feed_refused : (st : State) (c : List ℕ) → most_fed < st.total + length c → feed_of st c ≡ record { told = Err Refusal.Chunk; state = st }
 unfolding feed_of
 feed_refused st c h = rw (lt-leb (st.total + length c) most_fed h)

@@ -9,6 +9,3 @@ use Rattle.codes.proofs.little.put_le.Given as goal
 abbrev pub invariant-loop-k : goal.invariant-loop-k
 invariant-loop-k l =
     (l.k ≤ l.n) × (length l.out ≡ length l.initial.out) × (sets l.out (l.at + l.k) (le_bytes (l.n - l.k) l.y) ≡ sets l.initial.out l.at (le_bytes l.n l.x))
-
-abbrev pub decreases-loop-k : goal.decreases-loop-k
-decreases-loop-k l = l.n - l.k

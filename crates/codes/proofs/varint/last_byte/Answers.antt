@@ -2,9 +2,9 @@
 use mathlib.Core.Path.{◌≡◌, ◌∙◌, ap, sym}
 use Prim.Native.Nat.{ℕ, ◌+◌, ◌*◌, ◌^◌, ◌≤◌, ◌<◌}
 use native.Mathlib.Omega.{arith}
-use Rattle.codes.specs.declared.varint.Varint.TheVariants.{Value}
 use Rattle.codes.specs.Varint.Laws.{last_long, last_zero, last_value, last_large, digit_lt, weight_le}
 use Rattle.codes.proofs.varint.last_byte.Goals as goal
+use Rattle.std.specs.Prelude.{Ok}
 
 -- the tenth byte's weight
 tenth : (m k : ℕ) → m ≡ 128 ^ k → k ≡ 9 → m ≡ 2 ^ 63
@@ -44,7 +44,7 @@ returns-then-k-eq9 c =
     let one : a.b ≡ 1 = omega arith in
     let e : a.x + a.b * a.m ≡ a.x + a.m = rw one (omega arith) in
     let below : a.x + a.b * a.m < 2 ^ 64 = rw e (omega (arith, p.2, tenth a.m a.k p.3 (omega arith))) in
-    sym (last_value a.b a.i a.x a.m (omega arith) below ∙ ap (λ (v : ℕ). Value v (a.i + 1)) e)
+    sym (last_value a.b a.i a.x a.m (omega arith) below ∙ ap (λ (v : ℕ). Ok (v, a.i + 1)) e)
 
 pub overflow_mul-result : goal.overflow_mul-result
 overflow_mul-result c =

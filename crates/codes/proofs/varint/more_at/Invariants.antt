@@ -10,6 +10,3 @@ Head s at low x m k = (1 ≤ k) × (k ≤ 10) × (x < m) × (m ≡ 128 ^ k) × (
 
 abbrev pub invariant-loop-k : goal.invariant-loop-k
 invariant-loop-k l = Head l.s l.at l.low l.x l.m l.k
-
-abbrev pub decreases-loop-k : goal.decreases-loop-k
-decreases-loop-k l = 10 - l.k

@@ -2,8 +2,8 @@
 use Rattle.edge_sst_c.proofs.Laws.Desk.{check_told_fine, check_told_bad}
 use Rattle.edge_sst_c.proofs.desk.check_told.Goals as goal
 
-pub returns-in-Fine : goal.returns-in-Fine
-returns-in-Fine c = check_told_fine _ c.in-Fine.is
+pub returns-in-Ok : goal.returns-in-Ok
+returns-in-Ok c = check_told_fine _ c.in-Ok.is
 
-pub returns-in-Bad : goal.returns-in-Bad
-returns-in-Bad c = check_told_bad _ _ c.in-Bad.is c.told_of-t.ensures.0 c.told_of-t.ensures.1 c.told_of-t.ensures.2
+pub returns-in-Err : goal.returns-in-Err
+returns-in-Err c = check_told_bad _ _ c.in-Err.is c.told_of-t.ensures.0 c.told_of-t.ensures.1 c.told_of-t.ensures.2

@@ -1,10 +1,7 @@
 -- `edge_sst_c::desk::edge_sst_read_out` meets its contract.
-use mathlib.Core.Path.{sym, ◌∙◌}
-use Rattle.edge_sst_c.proofs.Laws.Desk.{read_done, read_refused}
+use Rattle.std.proofs.Common.{ap, ◌∙◌}
+use Rattle.edge_sst_c.specs.Desk.{done_told}
 use Rattle.edge_sst_c.proofs.desk.edge_sst_read_out.Goals as goal
 
-pub returns-in-Done : goal.returns-in-Done
-returns-in-Done c = (read_done _ _ (sym c.read_out.ensures.0 ∙ c.in-Done.is), c.read_out.ensures.1)
-
-pub returns-in-Refused : goal.returns-in-Refused
-returns-in-Refused c = (read_refused _ _ (sym c.read_out.ensures.0 ∙ c.in-Refused.is) c.told_of-t.ensures.0 c.told_of-t.ensures.1 c.told_of-t.ensures.2, c.read_out.ensures.1)
+pub returns : goal.returns
+returns c = (c.done_told.ensures ∙ ap done_told c.read_out.ensures.0, c.read_out.ensures.1)

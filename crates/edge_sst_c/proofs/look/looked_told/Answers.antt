@@ -1,13 +1,11 @@
 -- `edge_sst_c::look::looked_told` meets its contract.
-use mathlib.Core.Path.{sym, ◌∙◌}
-use Rattle.edge_sst_c.proofs.Laws.Look.{looked_found, looked_absent, looked_refused}
+use Rattle.std.proofs.Common.{sym, ap, ◌∙◌}
+use Rattle.edge_sst_c.specs.Look.{looked_told}
+use Rattle.edge_sst_c.proofs.Laws.Look.{looked_refused}
 use Rattle.edge_sst_c.proofs.look.looked_told.Goals as goal
 
-pub returns-in-Found : goal.returns-in-Found
-returns-in-Found c = sym (looked_found _ _ _ _ c.in-Found.is)
+pub returns-in-Ok : goal.returns-in-Ok
+returns-in-Ok c = c.found_told.ensures ∙ sym (ap looked_told c.in-Ok.is)
 
-pub returns-in-Absent : goal.returns-in-Absent
-returns-in-Absent c = sym (looked_absent _ _ c.in-Absent.is)
-
-pub returns-in-Refused : goal.returns-in-Refused
-returns-in-Refused c = c.refused_told.ensures ∙ sym (looked_refused _ _ c.in-Refused.is)
+pub returns-in-Err : goal.returns-in-Err
+returns-in-Err c = c.refused_told.ensures ∙ sym (looked_refused _ _ c.in-Err.is)

@@ -1,11 +1,7 @@
 -- `edge_sst_c::section_list::tell_rows` meets its contract. Invariant: the numbers of i rows are written.
-use mathlib.Core.Path.{◌≡◌}
-use Prim.Native.Nat.{◌-◌, ◌≤◌}
+use Rattle.std.specs.Prelude.{◌≡◌}
 use Rattle.edge_sst_c.specs.SectionList.{numbered}
 use Rattle.edge_sst_c.proofs.section_list.tell_rows.Given as goal
 
 abbrev pub invariant-loop-i : goal.invariant-loop-i
-invariant-loop-i l = (l.i ≤ l.n) × (l.out ≡ numbered l.file l.i l.initial.out)
-
-abbrev pub decreases-loop-i : goal.decreases-loop-i
-decreases-loop-i l = l.n - l.i
+invariant-loop-i l = l.out ≡ numbered l.file l.i l.initial.out

@@ -5,6 +5,3 @@ use Rattle.full_check.proofs.groups.groups_of.Given as goal
 
 abbrev pub invariant-loop-i : goal.invariant-loop-i
 invariant-loop-i l = Walk l.partners l.offs l.w l.n l.there l.starts l.i l.a l.edges l.dense l.stray
-
-abbrev pub decreases-loop-i : goal.decreases-loop-i
-decreases-loop-i l = l.n - l.i

@@ -1,11 +1,8 @@
--- `full_check::marks::bytes_dead` meets its contract. Invariant: one of the edges left is dead exactly if one of all is.
+-- `marks::bytes_dead` meets its contract. Invariant: one of the edges left is dead exactly if one of all is.
 use mathlib.Core.Path.{◌≡◌}
-use Prim.Native.Nat.{◌-◌, ◌*◌, ◌≤◌}
+use Prim.Native.Nat.{◌-◌, ◌*◌}
 use Rattle.full_check.specs.Full.{dead_from}
 use Rattle.full_check.proofs.marks.bytes_dead.Given as goal
 
 abbrev pub invariant-loop-b : goal.invariant-loop-b
-invariant-loop-b l = (l.b ≤ l.m) × (dead_from (8 * (l.m - l.b)) l.s (8 * l.b) ≡ dead_from (8 * l.m) l.s 0)
-
-abbrev pub decreases-loop-b : goal.decreases-loop-b
-decreases-loop-b l = l.m - l.b
+invariant-loop-b l = dead_from (8 * (l.m - l.b)) l.s (8 * l.b) ≡ dead_from (8 * l.m) l.s 0

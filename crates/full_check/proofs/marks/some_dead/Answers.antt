@@ -1,4 +1,4 @@
--- `full_check::marks::some_dead` meets its contract. Invariant: one of the edges left is dead exactly if one of all is.
+-- `marks::some_dead` meets its contract. Invariant: one of the edges left is dead exactly if one of all is.
 use mathlib.Core.Path.{ap₂}
 use Prim.Native.Nat.{ℕ}
 use native.Mathlib.Nat.{sub-zero, add-zero}
@@ -8,13 +8,13 @@ use native.Mathlib.Omega.{arith}
 use Rattle.full_check.proofs.marks.some_dead.Goals as goal
 
 pub loop-j-init : goal.loop-j-init
-loop-j-init c = let a = c.args in (omega arith, ap₂ (λ (x y : ℕ). dead_from x a.s.now y) (sub-zero a.d) (add-zero a.e))
+loop-j-init c = let a = c.args in ap₂ (λ (x y : ℕ). dead_from x a.s.now y) (sub-zero a.d) (add-zero a.e)
 
 pub returns-then-mark_at-eq1 : goal.returns-then-mark_at-eq1
-returns-then-mark_at-eq1 c = let a = c.args in let l = c.loop-j in marks_some a.s.now a.e a.d l.j l.invariant.1 (omega arith) c.mark_at.ensures (omega arith)
+returns-then-mark_at-eq1 c = let a = c.args in let l = c.loop-j in marks_some a.s.now a.e a.d l.j l.invariant (omega arith) c.mark_at.ensures (omega arith)
 
 pub loop-j-preserved : goal.loop-j-preserved
-loop-j-preserved c = let a = c.args in let l = c.loop-j in (omega arith, marks_on a.s.now a.e a.d l.j l.invariant.1 (omega arith) c.mark_at.ensures (λ q. omega arith))
+loop-j-preserved c = let a = c.args in let l = c.loop-j in marks_on a.s.now a.e a.d l.j l.invariant (omega arith) c.mark_at.ensures (λ q. omega arith)
 
 pub returns : goal.returns
-returns c = let a = c.args in let l = c.loop-j in marks_end a.s.now a.e a.d l.j l.invariant.1 (omega arith)
+returns c = let a = c.args in let l = c.loop-j in marks_end a.s.now a.e a.d l.j l.invariant (omega arith)

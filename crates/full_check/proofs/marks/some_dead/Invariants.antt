@@ -5,7 +5,4 @@ use Rattle.full_check.specs.Full.{dead_from}
 use Rattle.full_check.proofs.marks.some_dead.Given as goal
 
 abbrev pub invariant-loop-j : goal.invariant-loop-j
-invariant-loop-j l = (l.j ≤ l.d) × (dead_from (l.d - l.j) l.s (l.e + l.j) ≡ dead_from l.d l.s l.e)
-
-abbrev pub decreases-loop-j : goal.decreases-loop-j
-decreases-loop-j l = l.d - l.j
+invariant-loop-j l = (dead_from (l.d - l.j) l.s (l.e + l.j) ≡ dead_from l.d l.s l.e)

@@ -1,8 +1,9 @@
--- `group::dense::check_dense` meets its contract. Invariant: `last` is the upper half of the partner before i, so many partners were good, and what is left gives the whole answer.
-use mathlib.Core.Path.{sym, ◌∙◌}
-use Prim.Native.Nat.{◌+◌}
+-- `group::dense::check_dense` meets its contract. Invariant: k partners were good, `last` is the upper half of the last of them, and what is left gives the whole answer.
+use mathlib.Core.Path.{◌≡◌, sym, ap, ◌∙◌}
+use Prim.Native.Nat.{◌+◌, ◌*◌}
 use native.Mathlib.Omega.{arith}
 use mathlib.Core.Bool.{true}
+use Rattle.std.specs.Prelude.{Err}
 use Rattle.group.proofs.Laws.Group.{check_start, check_end, check_over}
 use Rattle.group.proofs.dense.check_dense.Goals as goal
 use Rattle.group.proofs.dense.check_dense.Invariants.{passed_first, passed_low, passed_on, cut}
@@ -11,46 +12,46 @@ pub returns-then-count-eq0 : goal.returns-then-count-eq0
 returns-then-count-eq0 c =
     let a = c.args in
     let few = c.whole-count.ensures.2 (omega arith) in
-    c.bad_group.ensures ∙ sym (cut a.g.now a.at a.degree a.at 0 0 0 (check_start true a.g.now a.at a.degree) (omega arith) (omega arith))
+    ap Err c.at.ensures ∙ sym (cut a.g.now a.at a.degree a.at 0 0 0 (check_start true a.g.now a.at a.degree) (omega arith) (omega arith))
 
-pub loop-i-init : goal.loop-i-init
-loop-i-init c =
-    let a = c.args in
-    (1, omega arith, passed_first a.g.now a.at a.degree (omega arith) (omega arith) c.be64-last.ensures)
+pub loop-k-init : goal.loop-k-init
+loop-k-init c = let a = c.args in passed_first a.g.now a.at a.degree (omega arith) (omega arith) c.be64-last.ensures
 
 pub precedes-requires : goal.precedes-requires
-precedes-requires c =
-    let l = c.loop-i.invariant.2 in
-    (omega arith, omega arith, l.3, c.be64-hi.ensures)
+precedes-requires c = (omega arith, omega arith, c.loop-k.invariant.3, c.be64-hi.ensures)
 
 pub returns-then-not-precedes : goal.returns-then-not-precedes
 returns-then-not-precedes c =
     let a = c.args in
-    let l = c.loop-i in
-    c.bad_group-then-not-precedes.ensures
-    ∙ sym (passed_low a.g.now a.at a.degree l.last l.i l.invariant.0 l.invariant.2 (omega arith) (omega arith) (sym c.precedes.ensures ∙ c.if-not-precedes.true))
+    let l = c.loop-k in
+    ap Err c.at-then-not-precedes.ensures
+    ∙ sym (passed_low a.g.now a.at a.degree l.last (a.at + 16 * l.k) l.k l.invariant (omega arith) (omega arith) (sym c.precedes.ensures ∙ c.if-not-precedes.true))
 
-pub loop-i-preserved : goal.loop-i-preserved
-loop-i-preserved c =
+pub loop-k-preserved : goal.loop-k-preserved
+loop-k-preserved c =
     let a = c.args in
-    let l = c.loop-i in
-    (l.invariant.0 + 1, omega arith, passed_on a.g.now a.at a.degree l.last l.i l.invariant.0 l.invariant.2 (omega arith) (omega arith) c.be64-hi.ensures (sym c.precedes.ensures ∙ c.if-not-precedes.false))
+    let l = c.loop-k in
+    passed_on a.g.now a.at a.degree l.last (a.at + 16 * l.k) l.k l.invariant (omega arith) (omega arith) c.be64-hi.ensures (sym c.precedes.ensures ∙ c.if-not-precedes.false)
 
 pub returns-then-count-degree : goal.returns-then-count-degree
 returns-then-count-degree c =
     let a = c.args in
-    let l = c.loop-i in
+    let l = c.loop-k in
     let few = c.whole-count.ensures.2 c.if-count-degree.true in
-    c.bad_group-then-count-degree.ensures ∙ sym (cut a.g.now a.at a.degree l.i l.invariant.0 _ _ l.invariant.2.4 (omega arith) (omega arith))
+    let all : c.whole-count.result ≡ l.k = omega arith in
+    ap Err c.at-then-count-degree.ensures
+    ∙ rw all (sym (cut a.g.now a.at a.degree (a.at + 16 * l.k) l.k _ _ l.invariant.4 (omega arith) (omega arith)))
 
-pub returns-then-i-g : goal.returns-then-i-g
-returns-then-i-g c =
+pub returns-then-end-g : goal.returns-then-end-g
+returns-then-end-g c =
     let a = c.args in
-    let l = c.loop-i in
-    c.bad_group-then-i-g.ensures ∙ sym (check_over true a.g.now a.at a.degree l.i l.invariant.0 _ _ l.invariant.2.4 (omega arith) (λ q. omega arith))
+    let l = c.loop-k in
+    let all : c.whole-count.result ≡ l.k = omega arith in
+    ap Err c.at-then-end-g.ensures
+    ∙ rw all (sym (check_over true a.g.now a.at a.degree (a.at + 16 * l.k) l.k _ _ l.invariant.4 (omega arith) (λ q. omega arith)))
 
 pub returns : goal.returns
 returns c =
     let a = c.args in
-    let l = c.loop-i in
-    sym (check_end true a.g.now a.at a.degree l.i l.invariant.0 _ _ l.invariant.2.4 (omega arith) (omega arith) (omega arith))
+    let l = c.loop-k in
+    sym (check_end true a.g.now a.at a.degree (a.at + 16 * l.k) l.k _ _ l.invariant.4 (omega arith) (omega arith) (omega arith))

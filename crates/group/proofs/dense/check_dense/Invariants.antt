@@ -1,4 +1,4 @@
--- `group::dense::check_dense` meets its contract. Invariant: `last` is the upper half of the partner before i, so many partners were good, and what is left gives the whole answer.
+-- `group::dense::check_dense` meets its contract. Invariant: k partners were good, `last` is the upper half of the last of them, and what is left gives the whole answer.
 use mathlib.Core.Path.{◌≡◌, refl, ap₂, ◌∙◌}
 use Prim.Native.Nat.{ℕ, suc, ◌+◌, ◌-◌, ◌*◌, ◌≤◌, ◌<◌}
 use native.Mathlib.Omega.{arith}
@@ -9,11 +9,11 @@ use lib.Dec.{ltb}
 use borrow.Author.Tests.{le-leb}
 use Rattle.codes.specs.Ids.{be_at, id_at, halves_at, id_number}
 use Rattle.codes.specs.Ids.Laws.{number_halves}
-use Rattle.group.specs.declared.GroupVerdict.{GroupVerdict}
 use Rattle.group.specs.declared.fault.Flaw.{Flaw}
 use Rattle.group.specs.Fault.{fault_at}
 use Rattle.group.proofs.Laws.Group.{answered, Checked, check_start, check_bad, check_low, check_more, step_dense, dense_short, dense_at}
 use Rattle.group.proofs.dense.check_dense.Given as goal
+use Rattle.std.specs.Prelude.{Err}
 
 module _ (g : List ℕ) (at degree : ℕ) where
   -- k partners were good: what is left, after the partner at j, gives the whole
@@ -41,7 +41,7 @@ module _ (g : List ℕ) (at degree : ℕ) where
     pub compared : (b : Bool) → ltb (id_at g (i - 16)) (id_at g i) ≡ b → ltb (id_number (halves_at g (i - 16))) (id_number (halves_at g i)) ≡ b
     compared b q = ap₂ ltb (number_halves g (i - 16)) (number_halves g i) ∙ q
 
-    pub passed_low : ltb (id_at g (i - 16)) (id_at g i) ≡ false → answered true g at degree ≡ GroupVerdict.Bad (fault_at Flaw.Order i)
+    pub passed_low : ltb (id_at g (i - 16)) (id_at g i) ≡ false → answered true g at degree ≡ Err (fault_at Flaw.Order i)
     passed_low q =
         check_low true g at degree i k (halves_at g (i - 16)).hi (suc (id_number (halves_at g (i - 16)))) l.4 lt
         (halves_at g i) (i + 16) (dense_at g i (halves_at g (i - 16)).hi refl room) (compared false q)
@@ -51,18 +51,16 @@ module _ (g : List ℕ) (at degree : ℕ) where
         check_more true g at degree i k (halves_at g (i - 16)).hi (suc (id_number (halves_at g (i - 16)))) l.4 lt
         (halves_at g i) (i + 16) (dense_at g i (halves_at g (i - 16)).hi refl room) (compared true q)
 
-    pub passed_on : {hi : ℕ} → hi ≡ be_at g i 8 → ltb (id_at g (i - 16)) (id_at g i) ≡ true → Passed hi (i + 16) (k + 1)
+    pub passed_on : {hi : ℕ} → hi ≡ be_at g i 8 → ltb (id_at g (i - 16)) (id_at g i) ≡ true → Passed hi (at + 16 * (k + 1)) (k + 1)
     passed_on e q =
-        let back : i + 16 - 16 ≡ i = omega arith in
         let place = l.1 in
-        (omega arith, omega arith, omega arith, rw back e, rw back (next q))
+        let back : at + 16 * (k + 1) - 16 ≡ i = omega arith in
+        let on : at + 16 * (k + 1) ≡ i + 16 = omega arith in
+        (omega arith, omega arith, omega arith, rw back e, rw (back, on) (next q))
 
   -- the next partner does not lie whole
-  pub cut : (i k hi floor : ℕ) → Checked true g at degree i k hi floor → k < degree → length g < i + 16 → answered true g at degree ≡ GroupVerdict.Bad (fault_at Flaw.Cut i)
+  pub cut : (i k hi floor : ℕ) → Checked true g at degree i k hi floor → k < degree → length g < i + 16 → answered true g at degree ≡ Err (fault_at Flaw.Cut i)
   cut i k hi floor l lt few = check_bad true g at degree i k hi floor l lt (fault_at Flaw.Cut i) (step_dense g i hi ∙ dense_short g i few)
 
-abbrev pub invariant-loop-i : goal.invariant-loop-i
-invariant-loop-i l = (k : ℕ) × (k ≤ l.count) × Passed l.g l.at l.degree l.last l.i k
-
-abbrev pub decreases-loop-i : goal.decreases-loop-i
-decreases-loop-i l = length l.g - l.i
+abbrev pub invariant-loop-k : goal.invariant-loop-k
+invariant-loop-k l = Passed l.g l.at l.degree l.last (l.at + 16 * l.k) l.k

@@ -1,11 +1,11 @@
 -- `group::dense::fill_dense` meets its contract. Invariant: what is still to be copied, copied over what is there, is the whole.
-use mathlib.Core.Path.{◌≡◌, ◌∙◌, ap, ap₂, sym, refl}
+use mathlib.Core.Path.{◌≡◌, ◌∙◌, ap, ap₂, sym}
 use Prim.Native.Nat.{ℕ, suc, ◌+◌, ◌≤◌, ◌<◌}
 use native.Mathlib.Nat.{add-zero}
 use native.Mathlib.Numerals.{add-one}
 use native.Mathlib.Omega.{arith}
 use mathlib.Core.List.{List, []}
-use lib.ListN.{length, drop, get_or, set, length-set, length-drop, drop_of_length-le}
+use lib.ListN.{length, drop, get_or, set, length-drop, drop_of_length-le}
 use lib.Seq.{sets, drop-cons}
 use Rattle.base.specs.Over.{sets_over}
 use Rattle.group.proofs.dense.fill_dense.Goals as goal
@@ -18,13 +18,13 @@ more g out at k h =
     ap (sets out k) (drop-cons g (at + k) 0 h) ∙ ap₂ (λ (i j : ℕ). sets (set out k x) i (drop j g)) (sym (add-one k)) next
 
 pub loop-k-init : goal.loop-k-init
-loop-k-init c = (omega arith, refl, rw add-zero)
+loop-k-init c = rw add-zero
 
 pub loop-k-preserved : goal.loop-k-preserved
 loop-k-preserved c =
     let a = c.args in
     let l = c.loop-k in
-    (omega arith, rw length-set (omega arith), sym (more a.g.now l.out a.at l.k (omega arith)) ∙ l.invariant.2)
+    sym (more a.g.now l.out a.at l.k (omega arith)) ∙ l.invariant
 
 pub returns : goal.returns
 returns c =
@@ -32,4 +32,4 @@ returns c =
     let l = c.loop-k in
     let none : drop (a.at + l.k) a.g.now ≡ [] = drop_of_length-le a.g.now {i = a.at + l.k} (omega arith) in
     let fits : length (drop a.at a.g.now) ≤ length a.out.now = rw length-drop (omega arith) in
-    (rw none at l.invariant.2) ∙ sets_over (drop a.at a.g.now) a.out.now fits
+    (rw none at l.invariant) ∙ sets_over (drop a.at a.g.now) a.out.now fits

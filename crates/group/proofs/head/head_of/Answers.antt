@@ -1,44 +1,39 @@
--- `group::head::head_of` meets its contract: each way out is a case of headOf.
-use mathlib.Core.Path.{sym, ◌∙◌}
-use Rattle.group.proofs.Laws.Group.{head_unread, head_none, head_short, head_split, head_dense, head_tag}
+-- `group::head::head_of` meets its contract: each way out is a case of head_of.
+use mathlib.Core.Path.{sym, ap, ◌∙◌}
+use native.Mathlib.Omega.{arith}
+use borrow.Author.Rules.{rules}
+use Rattle.std.specs.Prelude.{Err}
+use Rattle.std.proofs.lemmas.Result.{err_from_is_err_and}
+use Rattle.group.proofs.Laws.Group.{told_for, read_for, head_unread, head_none, head_short, head_split, head_dense, head_tag}
 use Rattle.group.proofs.head.head_of.Goals as goal
 
-pub returns-then-value-eq0 : goal.returns-then-value-eq0
-returns-then-value-eq0 c =
-    let a = c.args in
-    let d = c.in-Value.value in
-    let n = c.in-Value.next in
-    c.bad_head.ensures ∙ sym (head_none a.g.now d n (sym c.short_at.ensures ∙ c.in-Value.is) c.if-value-eq0.true)
+pub returns-in_err-degree : goal.returns-in_err-degree
+returns-in_err-degree c =
+    let (why, is, fault) = told_for _ c.short_at.result c.map_err.result _ c.map_err.ensures.cases c.in_err-degree.was in
+    let (f, given, same) = err_from_is_err_and c.from_residual.result c.from_residual.ensures.1 in
+    given ∙ ap Err (same ∙ (search rules)) ∙ sym (head_unread c.args.g.now why (sym c.short_at.ensures ∙ is))
 
-pub returns-then-g-next : goal.returns-then-g-next
-returns-then-g-next c =
-    let a = c.args in
-    let d = c.in-Value.value in
-    let n = c.in-Value.next in
-    c.bad_head-then-g-next.ensures ∙ sym (head_short a.g.now d n (sym c.short_at.ensures ∙ c.in-Value.is) c.if-value-eq0.false c.if-g-next.true)
+pub returns-then-degree-eq0 : goal.returns-then-degree-eq0
+returns-then-degree-eq0 c =
+    let e = read_for _ c.short_at.result c.map_err.result _ c.map_err.ensures.cases c.map_err.ensures.variant c.in_ok-degree.was in
+    ap Err c.at.ensures ∙ sym (head_none c.args.g.now _ _ (sym c.short_at.ensures ∙ e) c.if-degree-eq0.true)
 
-pub returns-then-tag-eq-SPLIT : goal.returns-then-tag-eq-SPLIT
-returns-then-tag-eq-SPLIT c =
-    let a = c.args in
-    let d = c.in-Value.value in
-    let n = c.in-Value.next in
-    sym (head_split a.g.now d n (sym c.short_at.ensures ∙ c.in-Value.is) c.if-value-eq0.false c.if-g-next.false c.if-tag-eq-SPLIT.true)
+pub returns-then-g-tag : goal.returns-then-g-tag
+returns-then-g-tag c =
+    let e = read_for _ c.short_at.result c.map_err.result _ c.map_err.ensures.cases c.map_err.ensures.variant c.in_ok-degree.was in
+    ap Err c.at-then-g-tag.ensures ∙ sym (head_short c.args.g.now _ _ (sym c.short_at.ensures ∙ e) c.if-degree-eq0.false c.if-g-tag.true)
 
-pub returns-then-tag-eq-DENSE : goal.returns-then-tag-eq-DENSE
-returns-then-tag-eq-DENSE c =
-    let a = c.args in
-    let d = c.in-Value.value in
-    let n = c.in-Value.next in
-    sym (head_dense a.g.now d n (sym c.short_at.ensures ∙ c.in-Value.is) c.if-value-eq0.false c.if-g-next.false c.if-tag-eq-DENSE.true)
+pub returns-in-1 : goal.returns-in-1
+returns-in-1 c =
+    let e = read_for _ c.short_at.result c.map_err.result _ c.map_err.ensures.cases c.map_err.ensures.variant c.in_ok-degree.was in
+    sym (head_split c.args.g.now _ _ (sym c.short_at.ensures ∙ e) c.if-degree-eq0.false c.if-g-tag.false c.in-1.is)
 
-pub returns-else-tag-eq-DENSE : goal.returns-else-tag-eq-DENSE
-returns-else-tag-eq-DENSE c =
-    let a = c.args in
-    let d = c.in-Value.value in
-    let n = c.in-Value.next in
-    c.bad_head-in-Value.ensures
-    ∙ sym (head_tag a.g.now d n (sym c.short_at.ensures ∙ c.in-Value.is) c.if-value-eq0.false c.if-g-next.false c.if-tag-eq-SPLIT.false c.if-tag-eq-DENSE.false)
+pub returns-in-16 : goal.returns-in-16
+returns-in-16 c =
+    let e = read_for _ c.short_at.result c.map_err.result _ c.map_err.ensures.cases c.map_err.ensures.variant c.in_ok-degree.was in
+    sym (head_dense c.args.g.now _ _ (sym c.short_at.ensures ∙ e) c.if-degree-eq0.false c.if-g-tag.false c.in-16.is)
 
-pub returns-in-Bad : goal.returns-in-Bad
-returns-in-Bad c =
-    c.bad_head-in-Bad.ensures ∙ sym (head_unread c.args.g.now _ (sym c.short_at.ensures ∙ c.in-Bad.is))
+pub returns-in_default : goal.returns-in_default
+returns-in_default c =
+    let e = read_for _ c.short_at.result c.map_err.result _ c.map_err.ensures.cases c.map_err.ensures.variant c.in_ok-degree.was in
+    ap Err c.at-in_default.ensures ∙ sym (head_tag c.args.g.now _ _ (sym c.short_at.ensures ∙ e) c.if-degree-eq0.false c.if-g-tag.false (λ q. omega arith) (λ q. omega arith))

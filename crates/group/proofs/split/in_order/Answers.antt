@@ -1,11 +1,16 @@
 -- `group::split::in_order` meets its contract.
-use mathlib.Core.Path.{sym, ◌∙◌}
+use mathlib.Core.Path.{◌≡◌, sym, ◌∙◌}
 use native.Mathlib.Omega.{arith}
-use Rattle.group.proofs.Laws.Group.{above_first, above_next}
+use borrow.Author.Rules.{rules}
+use borrow.Author.Tests.{eq-eqb}
+use Rattle.std.specs.Ordering.{is_lt, ordering_then, nat_cmp}
+use Rattle.group.proofs.Laws.Group.{less_id, above_first, above_next}
 use Rattle.group.proofs.split.in_order.Goals as goal
 
 pub returns-then-k-eq0 : goal.returns-then-k-eq0
-returns-then-k-eq0 c = let a = c.args in sym (above_first a.k a.last a.id (omega arith))
+returns-then-k-eq0 c = let a = c.args in eq-eqb a.k 0 c.if-k-eq0.true ∙ sym (above_first a.k a.last a.id c.if-k-eq0.true)
 
-pub returns : goal.returns
-returns c = let a = c.args in c.rises.ensures ∙ sym (above_next a.k a.last a.id (λ q. omega arith))
+pub returns-else-k-eq0 : goal.returns-else-k-eq0
+returns-else-k-eq0 c = let a = c.args in
+    let z : c.lt.result ≡ is_lt (ordering_then (nat_cmp a.last.hi a.id.hi) (nat_cmp a.last.lo a.id.lo)) = search rules in
+    z ∙ less_id a.last a.id (omega arith) (omega arith) ∙ sym (above_next a.k a.last a.id c.if-k-eq0.false)

@@ -1,37 +1,25 @@
--- `index::fences::all_good` meets its contract. Invariant: what is left to check from i on gives the whole.
+-- `fences::all_good` meets its contract. Invariant: what is left to check from i on gives the whole.
 use mathlib.Core.Path.{◌∙◌, sym}
-use Prim.Native.Nat.{◌+◌, ◌*◌, ◌≤◌}
-use native.Mathlib.Nat.{sub-zero, mul-le-mul_right}
 use native.Mathlib.Omega.{arith}
 use Rattle.index.specs.Cases.{fences_bad, fences_on, fences_none}
 use Rattle.index.proofs.fences.all_good.Goals as goal
-
-pub loop-i-init : goal.loop-i-init
-loop-i-init c = (omega arith, rw sub-zero)
-
-pub fence_good-requires : goal.fence_good-requires
-fence_good-requires c =
-    let a = c.args in
-    let l = c.loop-i in
-    let m : (l.i + 1) * a.stride ≤ a.count * a.stride = mul-le-mul_right a.stride (omega arith) in
-    (omega arith, omega arith, omega arith, omega arith)
 
 pub returns-then-not-fence_good : goal.returns-then-not-fence_good
 returns-then-not-fence_good c =
     let a = c.args in
     let l = c.loop-i in
     let e = sym c.fence_good.ensures ∙ c.if-not-fence_good.true in
-    sym (fences_bad a.x.now a.keys.now a.stride a.count l.i (omega arith) e) ∙ l.invariant.1
+    sym (fences_bad a.x.now a.keys.now a.stride a.count l.i (omega arith) e) ∙ l.invariant
 
 pub loop-i-preserved : goal.loop-i-preserved
 loop-i-preserved c =
     let a = c.args in
     let l = c.loop-i in
     let e = sym c.fence_good.ensures ∙ c.if-not-fence_good.false in
-    (omega arith, sym (fences_on a.x.now a.keys.now a.stride a.count l.i (omega arith) e) ∙ l.invariant.1)
+    sym (fences_on a.x.now a.keys.now a.stride a.count l.i (omega arith) e) ∙ l.invariant
 
 pub returns : goal.returns
 returns c =
     let a = c.args in
     let l = c.loop-i in
-    sym (fences_none a.x.now a.keys.now a.stride a.count l.i (omega arith)) ∙ l.invariant.1
+    sym (fences_none a.x.now a.keys.now a.stride a.count l.i (omega arith)) ∙ l.invariant

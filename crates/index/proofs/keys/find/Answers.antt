@@ -1,7 +1,7 @@
 -- `index::keys::find` meets its contract. Invariant: the turns that are left give the whole answer.
 use Prim.Native.Nat.{◌*◌}
 use native.Mathlib.Omega.{arith}
-use Rattle.codes.specs.declared.ids.Order.{Order}
+use Rattle.std.specs.declared.cmp.Ordering.{Ordering}
 use Rattle.codes.specs.Ids.{id_number}
 use Rattle.index.specs.Compare.{order_read}
 use Rattle.index.specs.Find.{middle}
@@ -15,21 +15,21 @@ pub loop-low-preserved-in-Less : goal.loop-low-preserved-in-Less
 loop-low-preserved-in-Less c =
     let a = c.args in
     let l = c.loop-low in
-    let answer = order_read a.keys.now (middle l.low l.high * 16) c.key_at.ensures (id_number a.key) Order.Less c.compare.ensures c.in-Less.is in
+    let answer = order_read a.keys.now (middle l.low l.high * 16) c.key_at.ensures (id_number a.key) Ordering.Less c.compare.ensures c.in-Less.is in
     (omega arith, omega arith, search_above a.keys.now a.n (id_number a.key) l.low l.high l.compared l.invariant.2 (omega arith) answer)
 
 pub loop-low-preserved : goal.loop-low-preserved
 loop-low-preserved c =
     let a = c.args in
     let l = c.loop-low in
-    let answer = order_read a.keys.now (middle l.low l.high * 16) c.key_at.ensures (id_number a.key) Order.Greater c.compare.ensures c.in-Greater.is in
+    let answer = order_read a.keys.now (middle l.low l.high * 16) c.key_at.ensures (id_number a.key) Ordering.Greater c.compare.ensures c.in-Greater.is in
     (omega arith, omega arith, search_below a.keys.now a.n (id_number a.key) l.low l.high l.compared l.invariant.2 (omega arith) answer)
 
 pub returns-in-Equal : goal.returns-in-Equal
 returns-in-Equal c =
     let a = c.args in
     let l = c.loop-low in
-    let answer = order_read a.keys.now (middle l.low l.high * 16) c.key_at.ensures (id_number a.key) Order.Equal c.compare.ensures c.in-Equal.is in
+    let answer = order_read a.keys.now (middle l.low l.high * 16) c.key_at.ensures (id_number a.key) Ordering.Equal c.compare.ensures c.in-Equal.is in
     search_here a.keys.now a.n (id_number a.key) l.low l.high l.compared l.invariant.2 (omega arith) answer
 
 pub returns : goal.returns

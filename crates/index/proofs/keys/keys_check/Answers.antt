@@ -22,34 +22,32 @@ pub returns-then-n-eq0 : goal.returns-then-n-eq0
 returns-then-n-eq0 c = sym (keys_none c.args.keys.now c.args.n 1 (omega arith))
 
 pub loop-k-init : goal.loop-k-init
-loop-k-init c = (omega arith, omega arith, c.be64-last.ensures, refl)
+loop-k-init c = (c.be64-last.ensures, refl)
 
 pub precedes-requires : goal.precedes-requires
 precedes-requires c =
     let a = c.args in
     let l = c.loop-k in
     let place = before l.k (omega arith) in
-    (omega arith, omega arith, l.invariant.2 ∙ ap (λ (t : ℕ). be_at a.keys.now t 8) (sym place), c.be64-hi.ensures)
+    (omega arith, omega arith, l.invariant.0 ∙ ap (λ (t : ℕ). be_at a.keys.now t 8) (sym place), c.be64-hi.ensures)
 
 pub returns-then-not-precedes : goal.returns-then-not-precedes
 returns-then-not-precedes c =
     let a = c.args in
     let l = c.loop-k in
-    sym (keys_bad a.keys.now a.n l.k (omega arith) (said a.keys.now l.k (omega arith) c.precedes.ensures c.if-not-precedes.true)) ∙ l.invariant.3
+    sym (keys_bad a.keys.now a.n l.k (omega arith) (said a.keys.now l.k (omega arith) c.precedes.ensures c.if-not-precedes.true)) ∙ l.invariant.1
 
 pub loop-k-preserved : goal.loop-k-preserved
 loop-k-preserved c =
     let a = c.args in
     let l = c.loop-k in
     let back : l.k + 1 - 1 ≡ l.k = omega arith in (
-      omega arith,
-      omega arith,
       rw back c.be64-hi.ensures,
-      sym (keys_on a.keys.now a.n l.k (omega arith) (said a.keys.now l.k (omega arith) c.precedes.ensures c.if-not-precedes.false)) ∙ l.invariant.3,
+      sym (keys_on a.keys.now a.n l.k (omega arith) (said a.keys.now l.k (omega arith) c.precedes.ensures c.if-not-precedes.false)) ∙ l.invariant.1,
     )
 
 pub returns : goal.returns
 returns c =
     let a = c.args in
     let l = c.loop-k in
-    sym (keys_none a.keys.now a.n l.k (omega arith)) ∙ l.invariant.3
+    sym (keys_none a.keys.now a.n l.k (omega arith)) ∙ l.invariant.1

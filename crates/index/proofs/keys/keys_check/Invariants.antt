@@ -1,13 +1,10 @@
 -- `index::keys::keys_check` meets its contract. Invariant: `last` is the upper half of the key before k, and what is left to check from k on gives the whole.
 use mathlib.Core.Path.{◌≡◌}
-use Prim.Native.Nat.{◌-◌, ◌*◌, ◌≤◌}
+use Prim.Native.Nat.{◌-◌, ◌*◌}
 use Rattle.codes.specs.Ids.{be_at}
 use Rattle.frame.specs.Open.{keys_from}
 use Rattle.index.proofs.keys.keys_check.Given as goal
 
 abbrev pub invariant-loop-k : goal.invariant-loop-k
 invariant-loop-k l =
-    (1 ≤ l.k) × (l.k ≤ l.n) × (l.last ≡ be_at l.keys ((l.k - 1) * 16) 8) × (keys_from (l.n - l.k) l.keys l.k ≡ keys_from (l.n - 1) l.keys 1)
-
-abbrev pub decreases-loop-k : goal.decreases-loop-k
-decreases-loop-k l = l.n - l.k
+    (l.last ≡ be_at l.keys ((l.k - 1) * 16) 8) × (keys_from (l.n - l.k) l.keys l.k ≡ keys_from (l.n - 1) l.keys 1)

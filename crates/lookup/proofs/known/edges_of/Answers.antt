@@ -7,19 +7,19 @@ use native.Mathlib.Nat.{mul-le-mul_right}
 use lib.ListN.{length}
 use Rattle.frame.specs.declared.Opened.{Opened}
 use Rattle.frame.specs.Open.{known_of, bytes_at}
-use Rattle.degrees.specs.declared.Sum.{Sum}
 use Rattle.degrees.specs.Degrees.{edges_before, start_of, capped}
 use Rattle.lookup.specs.Lookup.{before}
 use native.Mathlib.Omega.{arith}
+use Rattle.std.specs.Prelude.{Option}
 use Rattle.lookup.proofs.known.edges_of.Goals as goal
 
 module _ (f : List ℕ) (o : Opened) (i d : ℕ) where
-  by_index : o.indexed ≡ true → {s : List ℕ} {r : Sum} → s ≡ bytes_at f o.starts → r ≡ capped o.edgecount (start_of s i d)
+  by_index : o.indexed ≡ true → {s : List ℕ} {r : Option ℕ} → s ≡ bytes_at f o.starts → r ≡ capped o.edgecount (start_of s i d)
       → r ≡ capped o.edgecount (before (known_of f o) i d)
   unfolding before known_of
   by_index m e q = rw m (q ∙ ap (λ (s : List ℕ). capped o.edgecount (start_of s i d)) e)
 
-  by_sum : o.indexed ≡ false → {p q : List ℕ} {r : Sum} → p ≡ bytes_at f o.partners → q ≡ bytes_at f o.offsets
+  by_sum : o.indexed ≡ false → {p q : List ℕ} {r : Option ℕ} → p ≡ bytes_at f o.partners → q ≡ bytes_at f o.offsets
       → r ≡ capped o.edgecount (edges_before p q (o.bits / 8) i) → r ≡ capped o.edgecount (before (known_of f o) i d)
   unfolding before known_of
   by_sum m e g h = rw m (h ∙ (λ t. capped o.edgecount (edges_before (e t) (g t) (o.bits / 8) i)))

@@ -1,6 +1,7 @@
 -- `lookup::whole::edges_of_key` meets its contract.
 use mathlib.Core.Path.{sym, ◌∙◌}
 use lib.ListN.{length}
+use Rattle.std.proofs.lemmas.Result.{err_from_is_err_and}
 use mathlib.Core.Bool.{true}
 use Rattle.codes.specs.Ids.{id_number}
 use Rattle.frame.specs.Open.{bytes_at}
@@ -27,7 +28,7 @@ group_edges-requires c = let a = c.args in
     let i = c.in-At.index in
     let m = c.in-At.compared in
     let at = sym c.locate.ensures ∙ c.in-At.is in
-    let g = sym c.group_of.ensures ∙ c.in-Good.is in
+    let g = sym c.group_of.ensures ∙ c.in_ok-degree-in-At.was in
     (c.requires, (find_sound (bytes_at f a.o.keys) a.o.keycount key i m at).0, g)
 
 pub returns-in-Absent : goal.returns-in-Absent
@@ -36,19 +37,20 @@ returns-in-Absent c = let a = c.args in
     let rooms = lent (length a.out.now) (length a.logs.now) (length a.marks.now) in
     whole_absent _ _ a.out.now a.logs.now a.marks.now (look_absent true rooms f a.o (id_number a.key) _ (sym c.locate.ensures ∙ c.in-Absent.is))
 
-pub returns-in-Refused : goal.returns-in-Refused
-returns-in-Refused c = let a = c.args in
+pub returns-in_err-degree-in-At : goal.returns-in_err-degree-in-At
+returns-in_err-degree-in-At c = let a = c.args in
     let f = a.file.now in
     let key = id_number a.key in
     let rooms = lent (length a.out.now) (length a.logs.now) (length a.marks.now) in
     let i = c.in-At.index in
     let m = c.in-At.compared in
     let at = sym c.locate.ensures ∙ c.in-At.is in
-    let g = sym c.group_of.ensures ∙ c.in-Refused.is in
-    whole_refused _ _ a.out.now a.logs.now a.marks.now (look_at true rooms f a.o key i m at ∙ look_fault f a.o i true rooms m _ g)
+    let g = sym c.group_of.ensures ∙ c.in_err-degree-in-At.was in
+    let (r, given, same) = err_from_is_err_and c.from_residual.result c.from_residual.ensures.1 in
+    rw (given, same) (whole_refused _ _ a.out.now a.logs.now a.marks.now (look_at true rooms f a.o key i m at ∙ look_fault f a.o i true rooms m _ g))
 
-pub returns-in-Good : goal.returns-in-Good
-returns-in-Good c = let a = c.args in
+pub returns-in_ok-degree-in-At : goal.returns-in_ok-degree-in-At
+returns-in_ok-degree-in-At c = let a = c.args in
     let f = a.file.now in
     let key = id_number a.key in
     let rooms = lent (length a.out.now) (length a.logs.now) (length a.marks.now) in

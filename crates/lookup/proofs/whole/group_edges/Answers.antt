@@ -1,6 +1,8 @@
 -- `lookup::whole::group_edges` meets its contract.
-use mathlib.Core.Path.{sym, ◌∙◌}
+use mathlib.Core.Path.{◌≡◌, sym, ◌∙◌}
 use lib.ListN.{length}
+use Rattle.std.proofs.lemmas.Result.{err_from_is_err_and}
+use Rattle.refusal.specs.declared.Refusal.{Refusal}
 use Rattle.frame.specs.Open.{known_of, bytes_at}
 use Rattle.lookup.proofs.Laws.Groups.{seen_fills, seen_degree}
 use Rattle.lookup.specs.Calls.{lent, begins, ends}
@@ -9,7 +11,7 @@ use native.Mathlib.Omega.{arith}
 use Rattle.lookup.proofs.whole.group_edges.Goals as goal
 
 pub overflow_sub-o : goal.overflow_sub-o
-overflow_sub-o c = let s = c.in-Total.edges in let m = capped_le _ _ s (sym c.edges_of.ensures ∙ c.in-Total.is) in m
+overflow_sub-o c = let s = c.in_ok-edges.edges in let m = capped_le _ _ s (sym c.edges_of.ensures ∙ c.in_ok-edges.ensures.ok_part) in m
 
 pub returns-then-o-edges : goal.returns-then-o-edges
 returns-then-o-edges c = let a = c.args in
@@ -17,11 +19,11 @@ returns-then-o-edges c = let a = c.args in
     let o = a.o in
     let g = c.requires.2 in
     let rooms = lent (length a.out.now) (length a.logs.now) (length a.marks.now) in
-    let s = c.in-Total.edges in
-    let e = sym c.edges_of.ensures ∙ c.in-Total.is in
+    let s = c.in_ok-edges.edges in
+    let e = sym c.edges_of.ensures ∙ c.in_ok-edges.ensures.ok_part in
     let most = capped_le o.edgecount _ s e in
     let h0 = c.if-o-edges.true in
-    rw c.degrees_refused-then-o-edges.ensures (whole_refused _ _ a.out.now a.logs.now a.marks.now (whole_over f o a.i a.degree g rooms a.compared s e (omega arith)))
+    whole_refused _ _ a.out.now a.logs.now a.marks.now (whole_over f o a.i a.degree g rooms a.compared s e (omega arith))
 
 pub returns-then-short_of : goal.returns-then-short_of
 returns-then-short_of c = let a = c.args in
@@ -29,12 +31,12 @@ returns-then-short_of c = let a = c.args in
     let o = a.o in
     let g = c.requires.2 in
     let rooms = lent (length a.out.now) (length a.logs.now) (length a.marks.now) in
-    let s = c.in-Total.edges in
-    let e = sym c.edges_of.ensures ∙ c.in-Total.is in
+    let s = c.in_ok-edges.edges in
+    let e = sym c.edges_of.ensures ∙ c.in_ok-edges.ensures.ok_part in
     let most = capped_le o.edgecount _ s e in
     let h0 = c.if-o-edges.false in
     let q = sym c.short_of.ensures ∙ c.if-short_of.true in
-    rw c.too_short.ensures (whole_refused _ _ a.out.now a.logs.now a.marks.now (whole_short f o a.i a.degree g rooms a.compared s e (omega arith) q))
+    whole_refused _ _ a.out.now a.logs.now a.marks.now (whole_short f o a.i a.degree g rooms a.compared s e (omega arith) q)
 
 pub give_partners-requires : goal.give_partners-requires
 give_partners-requires c = let a = c.args in
@@ -51,8 +53,8 @@ give_logs-requires c = let a = c.args in
     let o = a.o in
     let g = c.requires.2 in
     let rooms = lent (length a.out.now) (length a.logs.now) (length a.marks.now) in
-    let s = c.in-Total.edges in
-    let e = sym c.edges_of.ensures ∙ c.in-Total.is in
+    let s = c.in_ok-edges.edges in
+    let e = sym c.edges_of.ensures ∙ c.in_ok-edges.ensures.ok_part in
     let most = capped_le o.edgecount _ s e in
     let h0 = c.if-o-edges.false in
     let room = none_short rooms a.degree (sym c.short_of.ensures ∙ c.if-short_of.false) in
@@ -64,30 +66,33 @@ give_marks-requires c = let a = c.args in
     let o = a.o in
     let g = c.requires.2 in
     let rooms = lent (length a.out.now) (length a.logs.now) (length a.marks.now) in
-    let s = c.in-Total.edges in
-    let e = sym c.edges_of.ensures ∙ c.in-Total.is in
+    let s = c.in_ok-edges.edges in
+    let e = sym c.edges_of.ensures ∙ c.in_ok-edges.ensures.ok_part in
     let most = capped_le o.edgecount _ s e in
     let h0 = c.if-o-edges.false in
     let room = none_short rooms a.degree (sym c.short_of.ensures ∙ c.if-short_of.false) in
     (c.requires.0, omega arith, room.2)
 
-pub returns-in-Bad : goal.returns-in-Bad
-returns-in-Bad c = let a = c.args in
+pub returns-in_err-edges : goal.returns-in_err-edges
+returns-in_err-edges c = let a = c.args in
     let f = a.file.now in
     let o = a.o in
     let g = c.requires.2 in
     let rooms = lent (length a.out.now) (length a.logs.now) (length a.marks.now) in
-    rw c.degrees_refused.ensures (whole_refused _ _ a.out.now a.logs.now a.marks.now (whole_lost f o a.i a.degree g rooms a.compared (sym c.edges_of.ensures ∙ c.in-Bad.is)))
+    let none = c.in_err-edges.ensures.ok_part in
+    let told : c.in_err-edges.field-0.0 ≡ Refusal.Degrees a.i = cc (rw none at c.in_err-edges.ensures.value) in
+    let (r, given, same) = err_from_is_err_and c.from_residual.result c.from_residual.ensures.1 in
+    rw (given, same, told) (whole_refused _ _ a.out.now a.logs.now a.marks.now (whole_lost f o a.i a.degree g rooms a.compared (sym c.edges_of.ensures ∙ none)))
 
-pub returns-else-short_of : goal.returns-else-short_of
+pub returns : goal.returns
 unfolding known_of
-returns-else-short_of c = let a = c.args in
+returns c = let a = c.args in
     let f = a.file.now in
     let o = a.o in
     let g = c.requires.2 in
     let rooms = lent (length a.out.now) (length a.logs.now) (length a.marks.now) in
-    let s = c.in-Total.edges in
-    let e = sym c.edges_of.ensures ∙ c.in-Total.is in
+    let s = c.in_ok-edges.edges in
+    let e = sym c.edges_of.ensures ∙ c.in_ok-edges.ensures.ok_part in
     let most = capped_le o.edgecount _ s e in
     let h0 = c.if-o-edges.false in
     let q = sym c.short_of.ensures ∙ c.if-short_of.false in

@@ -1,4 +1,4 @@
--- `reader::look::partners_with` meets its contract.
+-- `look::partners_with` meets its contract.
 use mathlib.Core.Path.{sym, ap, ◌∙◌}
 use lib.ListN.{length}
 use mathlib.Core.Bool.{false}
@@ -12,17 +12,19 @@ use Rattle.reader.proofs.Laws.Look.{with_bad, with_good, key_number}
 use Rattle.reader.proofs.look.partners_with.Goals as goal
 
 pub returns-then-not-record_good : goal.returns-then-not-record_good
-returns-then-not-record_good c = let a = c.args in
+returns-then-not-record_good c =
+    let a = c.args in
     let f = a.file.now in
     let key = id_at a.key.now 0 in
     let rooms = alone (length a.out.now) in
-    rw c.refused.ensures (alone_refused _ _ a.out.now (with_bad false rooms key f a.o (sym c.record_good.ensures ∙ c.if-not-record_good.true)))
+    alone_refused _ _ a.out.now (with_bad false rooms key f a.o (sym c.record_good.ensures ∙ c.if-not-record_good.true))
 
 pub partners_of-requires : goal.partners_of-requires
 partners_of-requires c = let a = c.args in holds a.file.now a.o (sym c.record_good.ensures ∙ c.if-not-record_good.false)
 
 pub returns : goal.returns
-returns c = let a = c.args in
+returns c =
+    let a = c.args in
     let f = a.file.now in
     let key = id_at a.key.now 0 in
     let rooms = alone (length a.out.now) in

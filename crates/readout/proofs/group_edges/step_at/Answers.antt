@@ -9,6 +9,6 @@ pub returns-then-dense : goal.returns-then-dense
 returns-then-dense c = let a = c.args in
     c.dense_step.ensures ∙ sym (step_dense a.g.now a.i a.hi) ∙ ap (λ (b : Bool). step_at b a.g.now a.i a.hi) (sym c.if-dense.true)
 
-pub returns : goal.returns
-returns c = let a = c.args in
+pub returns-else-dense : goal.returns-else-dense
+returns-else-dense c = let a = c.args in
     c.split_step.ensures ∙ sym (step_split a.g.now a.i a.hi) ∙ ap (λ (b : Bool). step_at b a.g.now a.i a.hi) (sym c.if-dense.false)

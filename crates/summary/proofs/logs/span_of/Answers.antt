@@ -4,7 +4,7 @@ use Rattle.summary.proofs.Laws.Logs.{blocks_start, blocks_on, blocks_end}
 use Rattle.summary.proofs.logs.span_of.Goals as goal
 
 pub loop-e-init : goal.loop-e-init
-loop-e-init c = let a = c.args in blocks_start a.logs.now a.n (omega arith) c.le64-first.ensures
+loop-e-init c = let a = c.args in blocks_start a.logs.now a.n (omega arith) c.le-first.ensures.value
 
 pub overflow_sub-n : goal.overflow_sub-n
 overflow_sub-n c = c.loop-e.invariant.most

@@ -12,4 +12,4 @@ within-requires c = let s = c in
 pub returns-then-within : goal.returns-then-within
 returns-then-within c = let a = c.args in
     let last : a.e + 80 - 1 ≡ a.e + 79 = omega arith in
-    block_one a.logs.now a.e 80 79 (omega arith) a.s (c.le64-last.ensures ∙ ap (λ (x : ℕ). le_at a.logs.now (8 * x) 8) last) c.with_one-t.ensures (c.within.ensures c.if-within.true)
+    block_one a.logs.now a.e 80 79 (omega arith) a.s (c.le-last.ensures.value ∙ ap (λ (x : ℕ). le_at a.logs.now (8 * x) 8) last) c.with_one-t.ensures (c.within.ensures c.if-within.true)

@@ -12,7 +12,7 @@ with_one-t-requires c = c.loop-i.invariant.ends
 pub loop-i-preserved : goal.loop-i-preserved
 loop-i-preserved c = let a = c.args in
     let l = c.loop-i in
-    spanning_on a.logs.now a.e a.n a.s l.t l.i l.invariant (omega arith) c.le64.ensures c.with_one-t.ensures
+    spanning_on a.logs.now a.e a.n a.s l.t l.i l.invariant (omega arith) c.le.ensures.value c.with_one-t.ensures
 
 pub returns : goal.returns
 returns c = let a = c.args in

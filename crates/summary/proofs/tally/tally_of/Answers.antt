@@ -1,6 +1,6 @@
 -- `summary::tally::tally_of` meets its contract.
-use Rattle.std.proofs.Common.{◌+◌, ◌*◌, ◌≤◌, mul-le-mul_right, arith, rules}
-use Rattle.summary.proofs.Laws.Tally.{tallying_start, tallying_few, tallying_lies, tallying_degree, tallying_on, tallying_end}
+use Rattle.std.proofs.Common.{◌+◌, ◌*◌, ◌≤◌, ◌∙◌, mul-le-mul_right, arith, rules}
+use Rattle.summary.proofs.Laws.Tally.{tallying_start, tallying_few, tallying_lies, tallying_degree, tallying_on, tallying_end, max_is}
 use Rattle.summary.proofs.tally.tally_of.Goals as goal
 
 pub loop-i-init : goal.loop-i-init
@@ -48,7 +48,7 @@ loop-i-preserved c = let a = c.args in
     let l = c.loop-i in
     let b = c.bucket_of-b in
     tallying_on a.partners.now a.offs.now a.w a.n l.largest l.buckets l.a l.i l.invariant (omega arith) _ _
-    c.offset_at-e.ensures.0 c.degree_of-d.ensures b.result b.ensures.0 b.ensures.1 c.larger-largest.ensures
+    c.offset_at-e.ensures.0 c.degree_of-d.ensures b.result b.ensures.0 b.ensures.1 (c.max-largest.ensures ∙ max_is l.largest c.degree_of-d.result)
 
 pub returns : goal.returns
 returns c = let a = c.args in

@@ -92,31 +92,31 @@ module _ (o : List ℕ) (at keys w partners n : ℕ) (dead : Bool) (count : ℕ)
         done r = P.end refl (P.put l₃ r)
 
 pub put_le-requires : goal.put_le-requires
-put_le-requires c = let a = c.args in let r = room₀ a.out.now a.at a.keys a.w a.partners a.n a.dead _ c.section_count-count.ensures.0 c.requires.3 c.requires.4 c.requires.5 in omega arith
+put_le-requires c = let a = c.args in let r = room₀ a.out.now a.at a.plan.keys a.plan.width a.plan.partners a.plan.edges a.plan.dead _ c.section_count-count.ensures.0 c.requires.3 c.requires.4 c.requires.5 in omega arith
 
 pub put_four-p-requires : goal.put_four-p-requires
-put_four-p-requires c = let a = c.args in let r = room₁ a.out.now a.at a.keys a.w a.partners a.n a.dead _ c.section_count-count.ensures.0 c.requires.3 c.requires.4 c.requires.5 c.put_le.ensures in (r.0, r.1, r.2, c.requires.1)
+put_four-p-requires c = let a = c.args in let r = room₁ a.out.now a.at a.plan.keys a.plan.width a.plan.partners a.plan.edges a.plan.dead _ c.section_count-count.ensures.0 c.requires.3 c.requires.4 c.requires.5 c.put_le.ensures in (r.0, r.1, r.2, c.requires.1)
 
 pub overflow_mul-start-2 : goal.overflow_mul-start-2
-overflow_mul-start-2 c = let a = c.args in let z = start_low a.out.now a.at a.keys a.w a.partners a.n a.dead _ c.section_count-count.ensures.0 c.requires.3 c.requires.4 c.requires.5 in omega (arith, c.requires.3)
+overflow_mul-start-2 c = let a = c.args in let z = start_low a.out.now a.at a.plan.keys a.plan.width a.plan.partners a.plan.edges a.plan.dead _ c.section_count-count.ensures.0 c.requires.3 c.requires.4 c.requires.5 in omega (arith, c.requires.3)
 
 pub overflow_add-start-2 : goal.overflow_add-start-2
-overflow_add-start-2 c = let a = c.args in let z = start_low a.out.now a.at a.keys a.w a.partners a.n a.dead _ c.section_count-count.ensures.0 c.requires.3 c.requires.4 c.requires.5 in omega (arith, c.requires.3)
+overflow_add-start-2 c = let a = c.args in let z = start_low a.out.now a.at a.plan.keys a.plan.width a.plan.partners a.plan.edges a.plan.dead _ c.section_count-count.ensures.0 c.requires.3 c.requires.4 c.requires.5 in omega (arith, c.requires.3)
 
 pub overflow_add-start-3 : goal.overflow_add-start-3
-overflow_add-start-3 c = let a = c.args in let z = start_low a.out.now a.at a.keys a.w a.partners a.n a.dead _ c.section_count-count.ensures.0 c.requires.3 c.requires.4 c.requires.5 in omega (arith, c.requires.3)
+overflow_add-start-3 c = let a = c.args in let z = start_low a.out.now a.at a.plan.keys a.plan.width a.plan.partners a.plan.edges a.plan.dead _ c.section_count-count.ensures.0 c.requires.3 c.requires.4 c.requires.5 in omega (arith, c.requires.3)
 
 pub overflow_add-start-4 : goal.overflow_add-start-4
-overflow_add-start-4 c = let a = c.args in let z = start_low a.out.now a.at a.keys a.w a.partners a.n a.dead _ c.section_count-count.ensures.0 c.requires.3 c.requires.4 c.requires.5 in omega (arith, c.requires.3)
+overflow_add-start-4 c = let a = c.args in let z = start_low a.out.now a.at a.plan.keys a.plan.width a.plan.partners a.plan.edges a.plan.dead _ c.section_count-count.ensures.0 c.requires.3 c.requires.4 c.requires.5 in omega (arith, c.requires.3)
 
 pub overflow_add-start-5 : goal.overflow_add-start-5
-overflow_add-start-5 c = let a = c.args in let z = start_low a.out.now a.at a.keys a.w a.partners a.n a.dead _ c.section_count-count.ensures.0 c.requires.3 c.requires.4 c.requires.5 in omega (arith, c.requires.3)
+overflow_add-start-5 c = let a = c.args in let z = start_low a.out.now a.at a.plan.keys a.plan.width a.plan.partners a.plan.edges a.plan.dead _ c.section_count-count.ensures.0 c.requires.3 c.requires.4 c.requires.5 in omega (arith, c.requires.3)
 
 pub put_last-q-requires : goal.put_last-q-requires
-put_last-q-requires c = let a = c.args in let r = room₂ a.out.now a.at a.keys a.w a.partners a.n a.dead _ c.section_count-count.ensures.0 c.requires.3 c.requires.4 c.requires.5 c.put_le.ensures c.put_four-p.ensures in (c.requires.2, c.requires.0, r.0, r.1, r.2)
+put_last-q-requires c = let a = c.args in let r = room₂ a.out.now a.at a.plan.keys a.plan.width a.plan.partners a.plan.edges a.plan.dead _ c.section_count-count.ensures.0 c.requires.3 c.requires.4 c.requires.5 c.put_le.ensures c.put_four-p.ensures in (c.requires.2, c.requires.0, r.0, r.1, r.2)
 
 pub put_counts-requires : goal.put_counts-requires
-put_counts-requires c = let a = c.args in room₃ a.out.now a.at a.keys a.w a.partners a.n a.dead _ c.section_count-count.ensures.0 c.requires.3 c.requires.4 c.requires.5 c.put_le.ensures c.put_four-p.ensures c.put_last-q.ensures
+put_counts-requires c = let a = c.args in room₃ a.out.now a.at a.plan.keys a.plan.width a.plan.partners a.plan.edges a.plan.dead _ c.section_count-count.ensures.0 c.requires.3 c.requires.4 c.requires.5 c.put_le.ensures c.put_four-p.ensures c.put_last-q.ensures
 
 pub returns : goal.returns
-returns c = let a = c.args in done a.out.now a.at a.keys a.w a.partners a.n a.dead _ c.section_count-count.ensures.0 c.requires.3 c.requires.4 c.requires.5 c.put_le.ensures c.put_four-p.ensures c.put_last-q.ensures c.put_counts.ensures
+returns c = let a = c.args in done a.out.now a.at a.plan.keys a.plan.width a.plan.partners a.plan.edges a.plan.dead _ c.section_count-count.ensures.0 c.requires.3 c.requires.4 c.requires.5 c.put_le.ensures c.put_four-p.ensures c.put_last-q.ensures c.put_counts.ensures

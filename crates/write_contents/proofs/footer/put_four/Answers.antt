@@ -70,16 +70,16 @@ module _ (o : List ℕ) (at keys w partners n : ℕ) (below : 64 + (16 * keys + 
         done p₄ = let q = at₃ in P.end refl (entry_put kind.logs fourth (8 * n) l₃ (omega arith) (omega arith) p₄)
 
 pub put_entry-p-requires : goal.put_entry-p-requires
-put_entry-p-requires c = let a = c.args in asked kind.keys 64 (16 * a.keys) c.entry.ensures (omega arith, omega arith, omega arith)
+put_entry-p-requires c = let a = c.args in asked kind.keys 64 (16 * a.plan.keys) c.entry.ensures (omega arith, omega arith, omega arith)
 
 pub put_entry-q-requires : goal.put_entry-q-requires
-put_entry-q-requires c = let a = c.args in asked kind.offsets (64 + 16 * a.keys) ((a.keys + 1) * a.w) c.entry-2.ensures (room₁ a.out.now a.at a.keys a.w a.partners a.n c.requires.0 c.requires.1 c.requires.2 (named kind.keys 64 (16 * a.keys) c.entry.ensures c.put_entry-p.ensures))
+put_entry-q-requires c = let a = c.args in asked kind.offsets (64 + 16 * a.plan.keys) ((a.plan.keys + 1) * a.plan.width) c.entry-2.ensures (room₁ a.out.now a.at a.plan.keys a.plan.width a.plan.partners a.plan.edges c.requires.0 c.requires.1 c.requires.2 (named kind.keys 64 (16 * a.plan.keys) c.entry.ensures c.put_entry-p.ensures))
 
 pub put_entry-r-requires : goal.put_entry-r-requires
-put_entry-r-requires c = let a = c.args in asked kind.partners (64 + 16 * a.keys + (a.keys + 1) * a.w) a.partners c.entry-3.ensures (room₂ a.out.now a.at a.keys a.w a.partners a.n c.requires.0 c.requires.1 c.requires.2 (named kind.keys 64 (16 * a.keys) c.entry.ensures c.put_entry-p.ensures) (named kind.offsets (64 + 16 * a.keys) ((a.keys + 1) * a.w) c.entry-2.ensures c.put_entry-q.ensures))
+put_entry-r-requires c = let a = c.args in asked kind.partners (64 + 16 * a.plan.keys + (a.plan.keys + 1) * a.plan.width) a.plan.partners c.entry-3.ensures (room₂ a.out.now a.at a.plan.keys a.plan.width a.plan.partners a.plan.edges c.requires.0 c.requires.1 c.requires.2 (named kind.keys 64 (16 * a.plan.keys) c.entry.ensures c.put_entry-p.ensures) (named kind.offsets (64 + 16 * a.plan.keys) ((a.plan.keys + 1) * a.plan.width) c.entry-2.ensures c.put_entry-q.ensures))
 
 pub put_entry-requires : goal.put_entry-requires
-put_entry-requires c = let a = c.args in asked kind.logs (64 + 16 * a.keys + (a.keys + 1) * a.w + a.partners) (8 * a.n) c.entry-4.ensures (room₃ a.out.now a.at a.keys a.w a.partners a.n c.requires.0 c.requires.1 c.requires.2 (named kind.keys 64 (16 * a.keys) c.entry.ensures c.put_entry-p.ensures) (named kind.offsets (64 + 16 * a.keys) ((a.keys + 1) * a.w) c.entry-2.ensures c.put_entry-q.ensures) (named kind.partners (64 + 16 * a.keys + (a.keys + 1) * a.w) a.partners c.entry-3.ensures c.put_entry-r.ensures))
+put_entry-requires c = let a = c.args in asked kind.logs (64 + 16 * a.plan.keys + (a.plan.keys + 1) * a.plan.width + a.plan.partners) (8 * a.plan.edges) c.entry-4.ensures (room₃ a.out.now a.at a.plan.keys a.plan.width a.plan.partners a.plan.edges c.requires.0 c.requires.1 c.requires.2 (named kind.keys 64 (16 * a.plan.keys) c.entry.ensures c.put_entry-p.ensures) (named kind.offsets (64 + 16 * a.plan.keys) ((a.plan.keys + 1) * a.plan.width) c.entry-2.ensures c.put_entry-q.ensures) (named kind.partners (64 + 16 * a.plan.keys + (a.plan.keys + 1) * a.plan.width) a.plan.partners c.entry-3.ensures c.put_entry-r.ensures))
 
 pub returns : goal.returns
-returns c = let a = c.args in done a.out.now a.at a.keys a.w a.partners a.n c.requires.0 c.requires.1 c.requires.2 (named kind.keys 64 (16 * a.keys) c.entry.ensures c.put_entry-p.ensures) (named kind.offsets (64 + 16 * a.keys) ((a.keys + 1) * a.w) c.entry-2.ensures c.put_entry-q.ensures) (named kind.partners (64 + 16 * a.keys + (a.keys + 1) * a.w) a.partners c.entry-3.ensures c.put_entry-r.ensures) (named kind.logs (64 + 16 * a.keys + (a.keys + 1) * a.w + a.partners) (8 * a.n) c.entry-4.ensures c.put_entry.ensures)
+returns c = let a = c.args in done a.out.now a.at a.plan.keys a.plan.width a.plan.partners a.plan.edges c.requires.0 c.requires.1 c.requires.2 (named kind.keys 64 (16 * a.plan.keys) c.entry.ensures c.put_entry-p.ensures) (named kind.offsets (64 + 16 * a.plan.keys) ((a.plan.keys + 1) * a.plan.width) c.entry-2.ensures c.put_entry-q.ensures) (named kind.partners (64 + 16 * a.plan.keys + (a.plan.keys + 1) * a.plan.width) a.plan.partners c.entry-3.ensures c.put_entry-r.ensures) (named kind.logs (64 + 16 * a.plan.keys + (a.plan.keys + 1) * a.plan.width + a.plan.partners) (8 * a.plan.edges) c.entry-4.ensures c.put_entry.ensures)

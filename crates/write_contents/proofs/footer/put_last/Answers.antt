@@ -97,20 +97,20 @@ module _ (o : List ℕ) (at start n keys : ℕ) (dead : Bool) (t : ℕ) (et : t 
 pub overflow_add-after_tombs : goal.overflow_add-after_tombs
 overflow_add-after_tombs c =
     let a = c.args in
-    let l = total_last a.n a.dead a.keys in
+    let l = total_last a.plan.edges a.plan.dead a.plan.keys in
     let p = c.requires in omega (arith, p.2, p.4, c.tomb_size.ensures.0)
 
 pub overflow_add-after_fences : goal.overflow_add-after_fences
-overflow_add-after_fences c = let a = c.args in let e = ends a.out.now a.at a.start a.n a.keys a.dead _ c.tomb_size.ensures.0 _ c.fences_size.ensures.0 c.requires.2 c.requires.3 c.requires.4 in omega arith
+overflow_add-after_fences c = let a = c.args in let e = ends a.out.now a.at a.start a.plan.edges a.plan.keys a.plan.dead _ c.tomb_size.ensures.0 _ c.fences_size.ensures.0 c.requires.2 c.requires.3 c.requires.4 in omega arith
 
 pub put_tombs_entry-p-requires : goal.put_tombs_entry-p-requires
-put_tombs_entry-p-requires c = let a = c.args in let r = room₀ a.out.now a.at a.start a.n a.keys a.dead _ c.tomb_size.ensures.0 _ c.fences_size.ensures.0 c.requires.2 c.requires.3 c.requires.4 in (c.requires.0, r.0, r.1, r.2)
+put_tombs_entry-p-requires c = let a = c.args in let r = room₀ a.out.now a.at a.start a.plan.edges a.plan.keys a.plan.dead _ c.tomb_size.ensures.0 _ c.fences_size.ensures.0 c.requires.2 c.requires.3 c.requires.4 in (c.requires.0, r.0, r.1, r.2)
 
 pub put_fences_entry-q-requires : goal.put_fences_entry-q-requires
-put_fences_entry-q-requires c = let a = c.args in let r = room₁ a.out.now a.at a.start a.n a.keys a.dead _ c.tomb_size.ensures.0 _ c.fences_size.ensures.0 c.requires.2 c.requires.3 c.requires.4 c.put_tombs_entry-p.ensures in (c.requires.1, r.0, r.1, r.2)
+put_fences_entry-q-requires c = let a = c.args in let r = room₁ a.out.now a.at a.start a.plan.edges a.plan.keys a.plan.dead _ c.tomb_size.ensures.0 _ c.fences_size.ensures.0 c.requires.2 c.requires.3 c.requires.4 c.put_tombs_entry-p.ensures in (c.requires.1, r.0, r.1, r.2)
 
 pub put_starts_entry-requires : goal.put_starts_entry-requires
-put_starts_entry-requires c = let a = c.args in let r = room₂ a.out.now a.at a.start a.n a.keys a.dead _ c.tomb_size.ensures.0 _ c.fences_size.ensures.0 c.requires.2 c.requires.3 c.requires.4 c.put_tombs_entry-p.ensures c.put_fences_entry-q.ensures in (c.requires.1, r.0, r.1, r.2)
+put_starts_entry-requires c = let a = c.args in let r = room₂ a.out.now a.at a.start a.plan.edges a.plan.keys a.plan.dead _ c.tomb_size.ensures.0 _ c.fences_size.ensures.0 c.requires.2 c.requires.3 c.requires.4 c.put_tombs_entry-p.ensures c.put_fences_entry-q.ensures in (c.requires.1, r.0, r.1, r.2)
 
 pub returns : goal.returns
-returns c = let a = c.args in done a.out.now a.at a.start a.n a.keys a.dead _ c.tomb_size.ensures.0 _ c.fences_size.ensures.0 c.requires.2 c.requires.3 c.requires.4 c.put_tombs_entry-p.ensures c.put_fences_entry-q.ensures c.put_starts_entry.ensures
+returns c = let a = c.args in done a.out.now a.at a.start a.plan.edges a.plan.keys a.plan.dead _ c.tomb_size.ensures.0 _ c.fences_size.ensures.0 c.requires.2 c.requires.3 c.requires.4 c.put_tombs_entry-p.ensures c.put_fences_entry-q.ensures c.put_starts_entry.ensures

@@ -10,7 +10,7 @@ use Rattle.base.specs.Put.{Put}
 use Rattle.batch.specs.declared.Edge.{Edge}
 use Rattle.write_image.specs.Image.{log_bytes, tomb_bytes}
 use Rattle.write_image.specs.Image.Laws.{logs_rest}
-use Rattle.write_source.specs.Source.{source_edges}
+use Rattle.batch.specs.Batch.{edges_of}
 use Rattle.write_contents.proofs.payload.put_by_edge.Goals as goal
 
 module _ (es : List Edge) (dead : Bool) where
@@ -32,13 +32,13 @@ module _ (es : List Edge) (dead : Bool) where
     written {o₁} {r} p = subst (Put o o₁ at r) (sym e) p
 
 pub put_logs_tombs-requires : goal.put_logs_tombs-requires
-put_logs_tombs-requires c = let a = c.args in let es = source_edges a.kind a.a.now a.b.now in (c.requires.0, c.requires.1, room es a.dead a.out.now a.at (both es a.dead c.if-dead.true) c.requires.2)
+put_logs_tombs-requires c = let a = c.args in let es = edges_of a.batch.now in (c.requires.0, c.requires.1, room es a.dead a.out.now a.at (both es a.dead c.if-dead.true) c.requires.2)
 
 pub returns-then-dead : goal.returns-then-dead
-returns-then-dead c = let a = c.args in let es = source_edges a.kind a.a.now a.b.now in written es a.dead a.out.now a.at (both es a.dead c.if-dead.true) c.put_logs_tombs.ensures
+returns-then-dead c = let a = c.args in let es = edges_of a.batch.now in written es a.dead a.out.now a.at (both es a.dead c.if-dead.true) c.put_logs_tombs.ensures
 
 pub put_logs-requires : goal.put_logs-requires
-put_logs-requires c = let a = c.args in let es = source_edges a.kind a.a.now a.b.now in (omega arith, omega arith, room es a.dead a.out.now a.at (alone es a.dead c.if-dead.false a.n c.requires.0) c.requires.2)
+put_logs-requires c = let a = c.args in let es = edges_of a.batch.now in (omega arith, omega arith, room es a.dead a.out.now a.at (alone es a.dead c.if-dead.false a.n c.requires.0) c.requires.2)
 
 pub returns : goal.returns
-returns c = let a = c.args in let es = source_edges a.kind a.a.now a.b.now in written es a.dead a.out.now a.at (alone es a.dead c.if-dead.false a.n c.requires.0) c.put_logs.ensures
+returns c = let a = c.args in let es = edges_of a.batch.now in written es a.dead a.out.now a.at (alone es a.dead c.if-dead.false a.n c.requires.0) c.put_logs.ensures

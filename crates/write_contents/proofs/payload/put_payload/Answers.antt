@@ -14,7 +14,7 @@ use Rattle.batch_groups.specs.Groups.{Group, groups_of, Grouped}
 use Rattle.write_image.specs.Image.{keys_in, key_bytes, offset_bytes, partner_bytes, log_bytes, tomb_bytes, fences_of, fenced, start_bytes, indexed, sections_by}
 use Rattle.write_image.specs.Image.Laws.{length_keys}
 use Rattle.write_sections.specs.Ids.{ids_at}
-use Rattle.write_source.specs.Source.{source_edges}
+use Rattle.batch.specs.Batch.{edges_of}
 use Rattle.write_plan.specs.Parts.{payload_parts}
 use Rattle.write_contents.specs.Payload.{keys_stand}
 use Rattle.write_contents.proofs.payload.put_payload.Goals as goal
@@ -104,24 +104,24 @@ module _ (es : List Edge) (keys w : ℕ) (dead : Bool) (o : List ℕ) (at : ℕ)
         done p₄ = P.end refl (P.put l₃ p₄)
 
 pub put_groups-p-requires : goal.put_groups-p-requires
-put_groups-p-requires c = let a = c.args in (c.requires.0, c.requires.1, c.requires.2, c.requires.3, c.requires.4, room₀ (source_edges a.kind a.a.now a.b.now) a.keys a.w a.dead a.out.now a.at c.requires.2 c.requires.4 c.requires.5, c.requires.6)
+put_groups-p-requires c = let a = c.args in (c.requires.0, c.requires.1, c.requires.2, c.requires.3, c.requires.4, room₀ (edges_of a.batch.now) a.plan.keys a.plan.width a.plan.dead a.out.now a.at c.requires.2 c.requires.4 c.requires.5, c.requires.6)
 
 pub put_by_edge-q-requires : goal.put_by_edge-q-requires
-put_by_edge-q-requires c = let a = c.args in (c.requires.0, c.requires.1, room₁ (source_edges a.kind a.a.now a.b.now) a.keys a.w a.dead a.out.now a.at c.requires.2 c.requires.4 c.requires.5 c.put_groups-p.ensures)
+put_by_edge-q-requires c = let a = c.args in (c.requires.0, c.requires.1, room₁ (edges_of a.batch.now) a.plan.keys a.plan.width a.plan.dead a.out.now a.at c.requires.2 c.requires.4 c.requires.5 c.put_groups-p.ensures)
 
 pub put_fences_if-r-requires : goal.put_fences_if-r-requires
 put_fences_if-r-requires c =
     let a = c.args in
     let p₁ = c.put_groups-p.ensures in
     let p₂ = c.put_by_edge-q.ensures in
-    (c.requires.3, keys_below (source_edges a.kind a.a.now a.b.now) a.keys a.w a.dead a.out.now a.at c.requires.2 c.requires.4 c.requires.5 p₁ p₂, room₂ (source_edges a.kind a.a.now a.b.now) a.keys a.w a.dead a.out.now a.at c.requires.2 c.requires.4 c.requires.5 p₁ p₂)
+    (c.requires.3, keys_below (edges_of a.batch.now) a.plan.keys a.plan.width a.plan.dead a.out.now a.at c.requires.2 c.requires.4 c.requires.5 p₁ p₂, room₂ (edges_of a.batch.now) a.plan.keys a.plan.width a.plan.dead a.out.now a.at c.requires.2 c.requires.4 c.requires.5 p₁ p₂)
 
 pub put_starts_if-requires : goal.put_starts_if-requires
 put_starts_if-requires c =
     let a = c.args in
-    (c.requires.0, room₃ (source_edges a.kind a.a.now a.b.now) a.keys a.w a.dead a.out.now a.at c.requires.2 c.requires.4 c.requires.5 c.put_groups-p.ensures c.put_by_edge-q.ensures c.put_fences_if-r.ensures)
+    (c.requires.0, room₃ (edges_of a.batch.now) a.plan.keys a.plan.width a.plan.dead a.out.now a.at c.requires.2 c.requires.4 c.requires.5 c.put_groups-p.ensures c.put_by_edge-q.ensures c.put_fences_if-r.ensures)
 
 pub returns : goal.returns
 returns c =
     let a = c.args in
-    done (source_edges a.kind a.a.now a.b.now) a.keys a.w a.dead a.out.now a.at c.requires.2 c.requires.4 c.requires.5 c.put_groups-p.ensures c.put_by_edge-q.ensures c.put_fences_if-r.ensures c.put_starts_if.ensures
+    done (edges_of a.batch.now) a.plan.keys a.plan.width a.plan.dead a.out.now a.at c.requires.2 c.requires.4 c.requires.5 c.put_groups-p.ensures c.put_by_edge-q.ensures c.put_fences_if-r.ensures c.put_starts_if.ensures

@@ -9,11 +9,10 @@ use Rattle.base.specs.Put as P
 use Rattle.base.specs.Put.{Put, Left}
 use Rattle.batch.specs.declared.Edge.{Edge}
 use Rattle.frame.specs.Layout.{Section, payload, body_bytes, trailer, head_bytes}
-use Rattle.batch.specs.Batch.{Heading}
+use Rattle.batch.specs.Batch.{Heading, edges_of}
 use Rattle.batch_groups.specs.Groups.{groups_of}
 use Rattle.write_image.specs.Image.{flags_by, minor_of, sections_by, layout_by, file_of}
 use Rattle.write_image.specs.Image.Laws.{width_least, width_most}
-use Rattle.write_source.specs.Source.{source_edges}
 use Rattle.write_frame.specs.Standing.{stands}
 use Rattle.write_frame.specs.Runs.{length_head, length_trailer}
 use Rattle.write_plan.specs.declared.Plan.{Plan}
@@ -153,16 +152,16 @@ module _ (h : Heading) (es : List Edge) (p : Plan) (fits : PlanFits es p) (ids :
         done s = (P.end refl (P.put left s)).bytes ∙ sets_over whole o (omega (arith, room))
 
 pub put_header-requires : goal.put_header-requires
-put_header-requires c = let a = c.args in (room₀ (record { direction = a.direction; ids = a.ids.now }) (source_edges a.kind a.a.now a.b.now) a.plan c.requires.0 c.requires.2 a.out.now c.requires.3, c.requires.2)
+put_header-requires c = let a = c.args in (room₀ (record { direction = a.direction; ids = a.ids.now }) (edges_of a.batch.now) a.plan c.requires.0 c.requires.2 a.out.now c.requires.3, c.requires.2)
 
 pub put_payload-p-requires : goal.put_payload-p-requires
-put_payload-p-requires c = let a = c.args in let b = bounds (record { direction = a.direction; ids = a.ids.now }) (source_edges a.kind a.a.now a.b.now) a.plan c.requires.0 c.requires.2 a.out.now c.requires.3 in (b.0, b.1, b.2, b.3, c.requires.1, room₁ (record { direction = a.direction; ids = a.ids.now }) (source_edges a.kind a.a.now a.b.now) a.plan c.requires.0 c.requires.2 a.out.now c.requires.3 _ c.flags_for-flags.ensures _ c.minor_for.ensures c.put_header.ensures, (b.5, b.4))
+put_payload-p-requires c = let a = c.args in let b = bounds (record { direction = a.direction; ids = a.ids.now }) (edges_of a.batch.now) a.plan c.requires.0 c.requires.2 a.out.now c.requires.3 in (b.0, b.1, b.2, b.3, c.requires.1, room₁ (record { direction = a.direction; ids = a.ids.now }) (edges_of a.batch.now) a.plan c.requires.0 c.requires.2 a.out.now c.requires.3 _ c.flags_for-flags.ensures _ c.minor_for.ensures c.put_header.ensures, (b.5, b.4))
 
 pub put_body-q-requires : goal.put_body-q-requires
-put_body-q-requires c = let a = c.args in let b = bounds (record { direction = a.direction; ids = a.ids.now }) (source_edges a.kind a.a.now a.b.now) a.plan c.requires.0 c.requires.2 a.out.now c.requires.3 in let r = room₂ (record { direction = a.direction; ids = a.ids.now }) (source_edges a.kind a.a.now a.b.now) a.plan c.requires.0 c.requires.2 a.out.now c.requires.3 _ c.flags_for-flags.ensures _ c.minor_for.ensures c.put_header.ensures c.put_payload-p.ensures in (b.3, b.4, b.1, r.0, r.1, r.2)
+put_body-q-requires c = let a = c.args in let b = bounds (record { direction = a.direction; ids = a.ids.now }) (edges_of a.batch.now) a.plan c.requires.0 c.requires.2 a.out.now c.requires.3 in let r = room₂ (record { direction = a.direction; ids = a.ids.now }) (edges_of a.batch.now) a.plan c.requires.0 c.requires.2 a.out.now c.requires.3 _ c.flags_for-flags.ensures _ c.minor_for.ensures c.put_header.ensures c.put_payload-p.ensures in (b.3, b.4, b.1, r.0, r.1, r.2)
 
 pub put_trailer-requires : goal.put_trailer-requires
-put_trailer-requires c = let a = c.args in room₃ (record { direction = a.direction; ids = a.ids.now }) (source_edges a.kind a.a.now a.b.now) a.plan c.requires.0 c.requires.2 a.out.now c.requires.3 _ c.flags_for-flags.ensures _ c.minor_for.ensures c.put_header.ensures c.put_payload-p.ensures c.put_body-q.ensures
+put_trailer-requires c = let a = c.args in room₃ (record { direction = a.direction; ids = a.ids.now }) (edges_of a.batch.now) a.plan c.requires.0 c.requires.2 a.out.now c.requires.3 _ c.flags_for-flags.ensures _ c.minor_for.ensures c.put_header.ensures c.put_payload-p.ensures c.put_body-q.ensures
 
 pub returns : goal.returns
-returns c = let a = c.args in done (record { direction = a.direction; ids = a.ids.now }) (source_edges a.kind a.a.now a.b.now) a.plan c.requires.0 c.requires.2 a.out.now c.requires.3 _ c.flags_for-flags.ensures _ c.minor_for.ensures c.put_header.ensures c.put_payload-p.ensures c.put_body-q.ensures c.put_trailer.ensures
+returns c = let a = c.args in done (record { direction = a.direction; ids = a.ids.now }) (edges_of a.batch.now) a.plan c.requires.0 c.requires.2 a.out.now c.requires.3 _ c.flags_for-flags.ensures _ c.minor_for.ensures c.put_header.ensures c.put_payload-p.ensures c.put_body-q.ensures c.put_trailer.ensures

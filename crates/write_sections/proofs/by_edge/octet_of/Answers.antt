@@ -3,12 +3,11 @@ use Prim.Native.Nat.{ℕ, suc, ◌+◌, ◌-◌, ◌*◌, ◌^◌, ◌≤◌, �
 use native.Mathlib.Omega.{arith}
 use mathlib.Core.List.{List}
 use lib.ListN.{length, get_or, drop}
-use Rattle.batch.specs.Batch.{marks_in}
+use Rattle.batch.specs.Batch.{marks_in, edges_of}
 use Rattle.batch.specs.declared.Edge.{Edge}
 use Rattle.batch_groups.specs.Groups.{none}
 use Rattle.write_image.specs.Image.{bit, octet}
 use Rattle.write_image.specs.Image.Laws.{mark_here, octet_none, octet_byte}
-use Rattle.write_source.specs.Source.{source_edges}
 use Rattle.write_sections.proofs.by_edge.octet_of.Goals as goal
 use Rattle.write_sections.proofs.by_edge.octet_of.Invariants.{Head}
 
@@ -42,22 +41,22 @@ begin es i j h =
     }
 
 pub loop-k-init : goal.loop-k-init
-loop-k-init c = let a = c.args in let es = source_edges a.kind a.a.now a.b.now in begin es a.i a.j (omega arith)
+loop-k-init c = let a = c.args in let es = edges_of a.batch.now in begin es a.i a.j (omega arith)
 
 pub mark_of-requires : goal.mark_of-requires
 mark_of-requires c = let u = c.loop-k.invariant.upto in omega arith
 
 pub overflow_mul-x : goal.overflow_mul-x
-overflow_mul-x c = let a = c.args in let l = c.loop-k in let es = source_edges a.kind a.a.now a.b.now in let x = byte es a.i a.j l.k l.x l.invariant (omega arith) in omega arith
+overflow_mul-x c = let a = c.args in let l = c.loop-k in let es = edges_of a.batch.now in let x = byte es a.i a.j l.k l.x l.invariant (omega arith) in omega arith
 
 pub overflow_add-x : goal.overflow_add-x
-overflow_add-x c = let a = c.args in let l = c.loop-k in let es = source_edges a.kind a.a.now a.b.now in let x = byte es a.i a.j l.k l.x l.invariant (omega arith) in let m = c.mark_of.ensures.1 in omega arith
+overflow_add-x c = let a = c.args in let l = c.loop-k in let es = edges_of a.batch.now in let x = byte es a.i a.j l.k l.x l.invariant (omega arith) in let m = c.mark_of.ensures.1 in omega arith
 
 pub loop-k-preserved : goal.loop-k-preserved
-loop-k-preserved c = let a = c.args in let l = c.loop-k in let es = source_edges a.kind a.a.now a.b.now in again es a.i a.j l.k l.x l.invariant _ (omega arith) (omega arith) c.mark_of.ensures.0
+loop-k-preserved c = let a = c.args in let l = c.loop-k in let es = edges_of a.batch.now in again es a.i a.j l.k l.x l.invariant _ (omega arith) (omega arith) c.mark_of.ensures.0
 
 pub overflow_cast-result : goal.overflow_cast-result
-overflow_cast-result c = let a = c.args in let l = c.loop-k in let es = source_edges a.kind a.a.now a.b.now in let x = byte es a.i a.j l.k l.x l.invariant (omega arith) in omega arith
+overflow_cast-result c = let a = c.args in let l = c.loop-k in let es = edges_of a.batch.now in let x = byte es a.i a.j l.k l.x l.invariant (omega arith) in omega arith
 
 pub returns : goal.returns
-returns c = let a = c.args in let l = c.loop-k in let es = source_edges a.kind a.a.now a.b.now in done es a.i a.j l.k l.x l.invariant (omega arith)
+returns c = let a = c.args in let l = c.loop-k in let es = edges_of a.batch.now in done es a.i a.j l.k l.x l.invariant (omega arith)

@@ -13,7 +13,7 @@ use Rattle.batch.specs.declared.Edge.{Edge}
 use Rattle.batch_groups.specs.Groups.{none}
 use Rattle.write_image.specs.Image.{log_bytes}
 use Rattle.write_image.specs.Image.Laws.{logs_on, logs_out}
-use Rattle.write_source.specs.Source.{source_edges}
+use Rattle.batch.specs.Batch.{edges_of}
 use Rattle.write_sections.proofs.by_edge.put_logs.Goals as goal
 use Rattle.write_sections.proofs.by_edge.put_logs.Invariants.{Head}
 
@@ -37,16 +37,16 @@ pub loop-k-init : goal.loop-k-init
 loop-k-init c = let a = c.args in record { upto = c.requires.0; left = P.start a.out.now a.at _ }
 
 pub put_le-requires : goal.put_le-requires
-put_le-requires c = let a = c.args in let l = c.loop-k in let es = source_edges a.kind a.a.now a.b.now in room es a.i a.j a.out.now a.at l.out l.k l.to l.invariant (omega arith) (omega arith) _ c.log_of-log.ensures c.requires.2
+put_le-requires c = let a = c.args in let l = c.loop-k in let es = edges_of a.batch.now in room es a.i a.j a.out.now a.at l.out l.k l.to l.invariant (omega arith) (omega arith) _ c.log_of-log.ensures c.requires.2
 
 pub overflow_add-to : goal.overflow_add-to
-overflow_add-to c = let a = c.args in let l = c.loop-k in let es = source_edges a.kind a.a.now a.b.now in let r = room es a.i a.j a.out.now a.at l.out l.k l.to l.invariant (omega arith) (omega arith) _ c.log_of-log.ensures c.requires.2 in omega arith
+overflow_add-to c = let a = c.args in let l = c.loop-k in let es = edges_of a.batch.now in let r = room es a.i a.j a.out.now a.at l.out l.k l.to l.invariant (omega arith) (omega arith) _ c.log_of-log.ensures c.requires.2 in omega arith
 
 pub loop-k-preserved : goal.loop-k-preserved
-loop-k-preserved c = let a = c.args in let l = c.loop-k in let es = source_edges a.kind a.a.now a.b.now in again es a.i a.j a.out.now a.at l.out l.k l.to l.invariant (omega arith) (omega arith) _ c.log_of-log.ensures c.put_le.ensures
+loop-k-preserved c = let a = c.args in let l = c.loop-k in let es = edges_of a.batch.now in again es a.i a.j a.out.now a.at l.out l.k l.to l.invariant (omega arith) (omega arith) _ c.log_of-log.ensures c.put_le.ensures
 
 pub shape_of-out : goal.shape_of-out
 shape_of-out c = c.loop-k.invariant.left.same
 
 pub returns : goal.returns
-returns c = let a = c.args in let l = c.loop-k in let es = source_edges a.kind a.a.now a.b.now in done es a.i a.j a.out.now a.at l.out l.k l.to l.invariant (omega arith)
+returns c = let a = c.args in let l = c.loop-k in let es = edges_of a.batch.now in done es a.i a.j a.out.now a.at l.out l.k l.to l.invariant (omega arith)

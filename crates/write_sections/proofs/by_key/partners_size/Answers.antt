@@ -5,14 +5,13 @@ use native.Mathlib.Omega.{arith}
 use mathlib.Core.List.{List}
 use mathlib.Core.Bool.{Bool, true, false, ◌||◌}
 use lib.ListN.{length, drop, length-append}
-use Rattle.batch.specs.Batch.{partners_in}
+use Rattle.batch.specs.Batch.{partners_in, edges_of}
 use Rattle.base.specs.Over.{part}
 use Rattle.batch.specs.declared.Edge.{Edge}
 use Rattle.batch_groups.specs.Groups.{Group, groups_of, GroupEnd}
 use Rattle.batch_groups.proofs.Laws.Groups.{grouped_step}
 use Rattle.write_image.specs.Image.{is_dense, group_bytes, any_dense, partner_bytes}
 use Rattle.write_image.specs.Image.Laws.{partners_step, partners_end, any_step, any_end}
-use Rattle.write_source.specs.Source.{source_edges}
 use Rattle.write_group.specs.Span.{span_few, span_dense, span_size}
 use Rattle.write_sections.proofs.by_key.partners_size.Goals as goal
 use Rattle.write_sections.proofs.by_key.partners_size.Invariants.{Head}
@@ -69,7 +68,7 @@ pub block_size-z-requires : goal.block_size-z-requires
 block_size-z-requires c =
     let a = c.args in
     let l = c.loop-i in
-    let es = source_edges a.kind a.a.now a.b.now in
+    let es = edges_of a.batch.now in
     let g = c.span_at-g.ensures in (omega (arith, g.ends.within), span_few es l.i _ g a.keys, c.requires.2)
 
 pub overflow_add-bytes : goal.overflow_add-bytes
@@ -82,16 +81,16 @@ pub loop-i-preserved : goal.loop-i-preserved
 loop-i-preserved c =
     let a = c.args in
     let l = c.loop-i in
-    let es = source_edges a.kind a.a.now a.b.now in
+    let es = edges_of a.batch.now in
     let s = c.span_at-g.ensures in
     let g = s.ends in
     let z = c.block_size-z.ensures in
     again es a.n a.keys l.i l.bytes l.dense l.invariant _ g (omega (arith, g.within)) _ _ _
-    (z.0 ∙ span_dense es l.i _ s a.keys) (z.1 ∙ span_size es l.i _ s a.keys) z.2 c.either-dense.ensures
+    (z.0 ∙ span_dense es l.i _ s a.keys) (z.1 ∙ span_size es l.i _ s a.keys) z.2 refl
 
 pub returns : goal.returns
 returns c =
     let a = c.args in
     let l = c.loop-i in
-    let es = source_edges a.kind a.a.now a.b.now in
+    let es = edges_of a.batch.now in
     let u = l.invariant.upto in ended es a.n a.keys l.i l.bytes l.dense l.invariant (omega arith) u

@@ -6,7 +6,7 @@ use lib.ListN.{length, drop}
 use Rattle.batch.specs.declared.Edge.{Edge}
 use Rattle.batch_groups.specs.Groups.{groups_of, Grouped}
 use Rattle.write_image.specs.Image.{any_dense, partner_bytes}
-use Rattle.write_source.specs.Source.{source_edges}
+use Rattle.batch.specs.Batch.{edges_of}
 use Rattle.write_sections.proofs.by_key.partners_size.Given as goal
 
 pub record Head (es : List Edge) (n keys i bytes : ℕ) (dense : Bool) : Type 0 where
@@ -17,7 +17,7 @@ pub record Head (es : List Edge) (n keys i bytes : ℕ) (dense : Bool) : Type 0 
   pub most : bytes ≤ 29 * i
 
 abbrev pub invariant-loop-i : goal.invariant-loop-i
-invariant-loop-i l = Head (source_edges l.kind l.a l.b) l.n l.keys l.i l.bytes l.dense
+invariant-loop-i l = Head (edges_of l.batch) l.n l.keys l.i l.bytes l.dense
 
 abbrev pub decreases-loop-i : goal.decreases-loop-i
 decreases-loop-i l = l.n - l.i

@@ -5,7 +5,7 @@ use mathlib.Core.List.{List}
 use mathlib.Core.Bool.{Bool}
 use lib.ListN.{length}
 use lib.Seq.{sets}
-use Rattle.batch.specs.Batch.{partners_in}
+use Rattle.batch.specs.Batch.{partners_in, edges_of}
 use Rattle.base.specs.Over.{part}
 use Rattle.base.specs.Put.{Put}
 use Rattle.codes.specs.declared.ids.Id.{Id}
@@ -15,7 +15,6 @@ use Rattle.batch.specs.declared.Edge.{Edge}
 use Rattle.group.specs.Written.{written_as}
 use Rattle.write_image.specs.Image.{is_dense, group_bytes}
 use Rattle.write_image.specs.Image.Laws.{group_is}
-use Rattle.write_source.specs.Source.{source_edges}
 use Rattle.write_group.specs.Span.{span_dense}
 use Rattle.write_sections.proofs.by_key.put_group.Goals as goal
 
@@ -30,14 +29,14 @@ pub put_block-requires : goal.put_block-requires
 put_block-requires c =
     let a = c.args in
     let q = c.requires in
-    let es = source_edges a.kind a.a.now a.b.now in
+    let es = edges_of a.batch.now in
     let ps = partners_in (part es a.i a.g.end) in
     let g = q.0.ends in
     let w = ap length (written a.keys ps _ (c.dense_by-dense.ensures ∙ span_dense es a.i a.g q.0 a.keys)) in
     (omega (arith, g.above), g.within, q.3, omega (arith, w, q.6))
 
 pub returns : goal.returns
-returns c = let a = c.args in let es = source_edges a.kind a.a.now a.b.now in
+returns c = let a = c.args in let es = edges_of a.batch.now in
     let ps = partners_in (part es a.i a.g.end) in
     let d = c.dense_by-dense.ensures ∙ span_dense es a.i a.g c.requires.0 a.keys in
     let q = done a.keys ps _ d c.put_block.ensures in

@@ -4,7 +4,7 @@ use native.Mathlib.Omega.{arith}
 use mathlib.Core.List.{List, [], ◌++◌}
 use lib.ListN.{length, get_or, drop}
 use lib.Seq.{sets}
-use Rattle.batch.specs.Batch.{partners_in}
+use Rattle.batch.specs.Batch.{partners_in, edges_of}
 use Rattle.base.specs.Over.{part}
 use Rattle.base.specs.Put.{Put}
 use Rattle.codes.specs.Little.{le_bytes}
@@ -16,7 +16,6 @@ use Rattle.batch_groups.specs.Groups.{none, Group, groups_of, GroupEnd, Grouped}
 use Rattle.batch_groups.proofs.Laws.Groups.{grouped_step}
 use Rattle.write_image.specs.Image.{group_bytes, key_bytes, offset_bytes, partner_bytes}
 use Rattle.write_image.specs.Image.Laws.{keys_step, keys_end, partners_step, partners_end, offsets_step, offsets_end}
-use Rattle.write_source.specs.Source.{source_edges}
 use Rattle.write_sections.specs.Three as T
 use Rattle.write_sections.specs.Three.{Three}
 use Rattle.write_sections.proofs.by_key.put_groups.Given as goal
@@ -86,7 +85,7 @@ module _ (es : List Edge) (n keys w : ℕ) (start : List ℕ) (at base : ℕ) wh
       done f = T.last_of_three ended f
 
 abbrev pub invariant-loop-i : goal.invariant-loop-i
-invariant-loop-i l = Head (source_edges l.kind l.a l.b) l.n l.keys l.w l.initial.out l.at l.base l.out l.i l.k l.o l.p
+invariant-loop-i l = Head (edges_of l.batch) l.n l.keys l.w l.initial.out l.at l.base l.out l.i l.k l.o l.p
 
 abbrev pub decreases-loop-i : goal.decreases-loop-i
 decreases-loop-i l = l.n - l.i

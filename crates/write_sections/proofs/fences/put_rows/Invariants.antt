@@ -57,6 +57,3 @@ module _ (o : List ℕ) (first keys at m : ℕ) where
 
 abbrev pub invariant-loop-i : goal.invariant-loop-i
 invariant-loop-i l = Head l.initial.out l.first l.keys l.at l.count l.out l.i l.to
-
-abbrev pub decreases-loop-i : goal.decreases-loop-i
-decreases-loop-i l = l.count - l.i

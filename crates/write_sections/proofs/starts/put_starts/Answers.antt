@@ -12,7 +12,7 @@ use Rattle.batch.specs.declared.Edge.{Edge}
 use Rattle.batch_groups.specs.Groups.{groups_of, GroupEnd}
 use Rattle.write_image.specs.Image.{numbers, firsts_from, start_bytes}
 use Rattle.write_image.specs.Image.Laws.{firsts_step, firsts_end}
-use Rattle.write_source.specs.Source.{source_edges}
+use Rattle.batch.specs.Batch.{edges_of}
 use Rattle.write_sections.proofs.starts.put_starts.Goals as goal
 use Rattle.write_sections.proofs.starts.put_starts.Invariants.{Head}
 
@@ -62,14 +62,14 @@ pub put_le-requires : goal.put_le-requires
 put_le-requires c =
     let a = c.args in
     let l = c.loop-i in
-    let es = source_edges a.kind a.a.now a.b.now in
+    let es = edges_of a.batch.now in
     room es a.out.now a.at l.out l.i l.to l.invariant _ c.group_end-j.ensures c.requires.1
 
 pub overflow_add-to : goal.overflow_add-to
 overflow_add-to c =
     let a = c.args in
     let l = c.loop-i in
-    let es = source_edges a.kind a.a.now a.b.now in
+    let es = edges_of a.batch.now in
     let r = room es a.out.now a.at l.out l.i l.to l.invariant _ c.group_end-j.ensures c.requires.1 in omega arith
 
 pub loop-i-smaller : goal.loop-i-smaller
@@ -79,33 +79,33 @@ pub loop-i-preserved : goal.loop-i-preserved
 loop-i-preserved c =
     let a = c.args in
     let l = c.loop-i in
-    let es = source_edges a.kind a.a.now a.b.now in
+    let es = edges_of a.batch.now in
     again es a.out.now a.at l.out l.i l.to l.invariant _ c.group_end-j.ensures c.put_le.ensures
 
 pub put_le-requires-2 : goal.put_le-requires-2
 put_le-requires-2 c =
     let a = c.args in
     let l = c.loop-i in
-    let es = source_edges a.kind a.a.now a.b.now in
+    let es = edges_of a.batch.now in
     room_last es a.out.now a.at l.out l.i l.to l.invariant a.n (omega (arith, l.invariant.upto, c.requires.0)) c.requires.0 c.requires.1
 
 pub overflow_add-result : goal.overflow_add-result
 overflow_add-result c =
     let a = c.args in
     let l = c.loop-i in
-    let es = source_edges a.kind a.a.now a.b.now in
+    let es = edges_of a.batch.now in
     let r = room_last es a.out.now a.at l.out l.i l.to l.invariant a.n (omega (arith, l.invariant.upto, c.requires.0)) c.requires.0 c.requires.1 in omega arith
 
 pub shape_of-out : goal.shape_of-out
 shape_of-out c =
     let a = c.args in
     let l = c.loop-i in
-    let es = source_edges a.kind a.a.now a.b.now in
+    let es = edges_of a.batch.now in
     same es a.out.now a.at l.out l.i l.to l.invariant a.n (omega (arith, l.invariant.upto, c.requires.0)) c.requires.0 c.put_le-2.ensures
 
 pub returns : goal.returns
 returns c =
     let a = c.args in
     let l = c.loop-i in
-    let es = source_edges a.kind a.a.now a.b.now in
+    let es = edges_of a.batch.now in
     done es a.out.now a.at l.out l.i l.to l.invariant a.n (omega (arith, l.invariant.upto, c.requires.0)) c.requires.0 c.put_le-2.ensures

@@ -1,4 +1,4 @@
-use Rattle.std.proofs.Common.{◌≡◌, ℕ, suc, ◌+◌, ◌-◌, ◌%◌, sym, refl, ap, ◌∙◌, arith}
+use Rattle.std.proofs.Common.{◌≡◌, ℕ, suc, ◌+◌, ◌-◌, ◌%◌, sym, ap, ◌∙◌, arith}
 use Rattle.xxh3_spec.specs.Xxh3.{run_on, secret}
 use Rattle.xxh3_spec.specs.Xxh3.Laws.{run_none}
 use Rattle.xxh3_above240.proofs.Stripes.{whole, ends}
@@ -15,44 +15,15 @@ loop-end-init c =
       sym (ap (λ (x : ℕ). run_on secret a.a a.s.now a.k x) e ∙ run_none secret a.a a.s.now a.k),
     )
 
-pub first_quarter-x-requires : goal.first_quarter-x-requires
-first_quarter-x-requires c =
-    let l = c.loop-end.invariant.2 in
-    (omega (arith, l, c.requires), refl)
-
-pub second_quarter-y-requires : goal.second_quarter-y-requires
-second_quarter-y-requires c =
-    let l = c.loop-end.invariant.2 in
-    (omega (arith, l, c.requires), refl)
-
-pub third_quarter-z-requires : goal.third_quarter-z-requires
-third_quarter-z-requires c =
-    let l = c.loop-end.invariant.2 in
-    (omega (arith, l, c.requires), refl)
-
-pub last_quarter-w-requires : goal.last_quarter-w-requires
-last_quarter-w-requires c =
-    let l = c.loop-end.invariant.2 in
-    (omega (arith, l, c.requires), refl)
-
 pub returns-then-end-lt16 : goal.returns-then-end-lt16
-unfolding secret
 returns-then-end-lt16 c =
     let a = c.args in
     let l = c.loop-end in
     ends secret a.a a.s.now a.k a.n l.to l.end
     l.invariant.0 l.invariant.1 l.invariant.2 c.if-end-lt16.true l.invariant.3
-    c.first_quarter-x.ensures
-    c.second_quarter-y.ensures
-    c.third_quarter-z.ensures
-    c.last_quarter-w.ensures
-
-pub overflow_add-to : goal.overflow_add-to
-overflow_add-to c =
-    omega (arith, c.loop-end.invariant.2, c.requires)
+    c.block-x.ensures
 
 pub loop-end-preserved : goal.loop-end-preserved
-unfolding secret
 loop-end-preserved c =
     let a = c.args in
     let l = c.loop-end in
@@ -64,10 +35,7 @@ loop-end-preserved c =
       record { bytes = omega (arith, lies); last = omega (arith, lies); first = omega (arith, lies) },
       whole secret a.a a.s.now a.k a.n l.to l.end
           u l.invariant.1 lies (let h = c.if-end-lt16.false in omega (arith, h)) l.invariant.3
-          c.first_quarter-x.ensures
-          c.second_quarter-y.ensures
-          c.third_quarter-z.ensures
-          c.last_quarter-w.ensures
+          c.block-x.ensures
           c.scramble-next.ensures
           ∙ ap (λ (x : ℕ). run_on secret a.a a.s.now a.k x) e,
     )

@@ -1,17 +1,19 @@
+use Rattle.std.proofs.Common.{refl}
+use Rattle.xxh3_spec.specs.Xxh3.{secret}
 use Rattle.xxh3_above240.proofs.State.{merged}
 use Rattle.xxh3_above240.proofs.large.merge.Goals as goal
 
 pub returns : goal.returns
 returns c =
     let a = c.args in
-    merged a.q.now a.a a.n
+    merged secret a.a a.n
     c.low.ensures
     c.twice.ensures
-    c.wrapping_add_u64-h0.ensures.value
+    refl
     c.twice-2.ensures
-    c.wrapping_add_u64-h1.ensures.value
+    refl
     c.twice-3.ensures
-    c.wrapping_add_u64-h2.ensures.value
+    refl
     c.twice-4.ensures
-    c.wrapping_add_u64.ensures.value
+    refl
     c.avalanche.ensures

@@ -1,7 +1,5 @@
 use Rattle.xxh3_above240.proofs.State.{finished}
-use Rattle.xxh3_spec.specs.Xxh3.{secret}
 use Rattle.xxh3_above240.proofs.large.sum_after.Goals as goal
 
 pub returns : goal.returns
-unfolding secret
 returns c = finished _ _ _ _ _ c.accumulate.ensures c.merge.ensures

@@ -1,11 +1,6 @@
-use Prim.Native.Nat.{◌-◌, ◌≤◌}
-use mathlib.Core.Path.{◌≡◌}
-use lib.ListN.{length, take}
+use Rattle.std.proofs.Common.{◌≡◌, length, take}
 use Rattle.xxh3_running.specs.Running.{last_bytes}
 use Rattle.xxh3_running.proofs.lent.last_bytes.Given as goal
 
 abbrev pub invariant-loop-i : goal.invariant-loop-i
-invariant-loop-i l = (l.i ≤ 64) × (length l.last ≡ 64) × (take l.i l.last ≡ take l.i (last_bytes l.total l.buffer))
-
-abbrev pub decreases-loop-i : goal.decreases-loop-i
-decreases-loop-i l = 64 - l.i
+invariant-loop-i l = (length l.last ≡ 64) × (take l.i l.last ≡ take l.i (last_bytes l.total l.buffer))

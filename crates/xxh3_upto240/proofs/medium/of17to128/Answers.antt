@@ -1,15 +1,17 @@
-use Rattle.std.proofs.Common.{arith}
-use Rattle.xxh3_upto240.proofs.Rounds.{in128}
+use Rattle.std.proofs.Common.{◌≡◌, ◌+◌, ◌-◌, ◌/◌, length, refl, arith}
+use Rattle.xxh3_spec.specs.Xxh3.{secret, inward, of17to128}
+use Rattle.xxh3_upto240.proofs.Rounds.{inward_step}
 use Rattle.xxh3_upto240.proofs.medium.of17to128.Goals as goal
 
-pub returns-then-n-le32 : goal.returns-then-n-le32
-returns-then-n-le32 c = in128 c.args.s.now 1 (omega arith) c.low-h.ensures c.one.ensures c.avalanche.ensures
+pub loop-i-init : goal.loop-i-init
+unfolding inward
+loop-i-init c = refl
 
-pub returns-then-n-le64 : goal.returns-then-n-le64
-returns-then-n-le64 c = in128 c.args.s.now 2 (omega arith) c.low-h.ensures c.two.ensures c.avalanche-then-n-le64.ensures
-
-pub returns-then-n-le96 : goal.returns-then-n-le96
-returns-then-n-le96 c = in128 c.args.s.now 3 (omega arith) c.low-h.ensures c.three.ensures c.avalanche-then-n-le96.ensures
+pub loop-i-preserved : goal.loop-i-preserved
+loop-i-preserved c = cc (inward_step secret c.args.s.now c.loop-i.i c.low-h.result)
 
 pub returns : goal.returns
-returns c = in128 c.args.s.now 4 (omega arith) c.low-h.ensures c.four.ensures c.avalanche-2.ensures
+unfolding of17to128
+returns c =
+    let e : c.loop-i.i ≡ (length c.args.s.now - 1) / 32 + 1 = omega arith in
+    cc

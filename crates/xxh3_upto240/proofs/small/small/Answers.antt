@@ -1,5 +1,4 @@
 use Rattle.std.proofs.Common.{le-ltb, lt-ltb}
-use Rattle.xxh3_upto240.proofs.Keys.{key0}
 use Rattle.xxh3_spec.specs.Xxh3.{small}
 use Rattle.xxh3_upto240.proofs.small.small.Goals as goal
 
@@ -17,4 +16,4 @@ returns-then-n-gt0 c = simp (le-ltb _ _ c.if-n-gt8.false, le-ltb _ _ c.if-n-gt3.
 
 pub returns : goal.returns
 unfolding small
-returns c = simp (le-ltb _ _ c.if-n-gt8.false, le-ltb _ _ c.if-n-gt3.false, le-ltb _ _ c.if-n-gt0.false, key0) c.avalanche64.ensures
+returns c = simp (le-ltb _ _ c.if-n-gt8.false, le-ltb _ _ c.if-n-gt3.false, le-ltb _ _ c.if-n-gt0.false) (cc)

@@ -1,8 +1,0 @@
--- `summary::logs::wide_sign` meets its contract.
-use Rattle.std.proofs.Common.{arith}
-use Rattle.summary.proofs.Laws.Logs.{wide_sure}
-use Rattle.summary.proofs.logs.wide_sign.Goals as goal
-
-pub returns : goal.returns
-returns c = let a = c.args in
-    wide_sure a.s a.x c.wrapping_sub_u64.result c.wrapping_sub_u64-2.result (omega arith) (omega arith) (omega arith) c.wrapping_sub_u64.ensures.value c.wrapping_sub_u64-2.ensures.value c.requires (omega arith) (omega arith)

@@ -1,6 +1,0 @@
--- `test_lookup::pattern_marks` meets its contract.
-use Rattle.std.proofs.Common.{arith, length-set}
-use Rattle.test_lookup.proofs.pattern_marks.Goals as goal
-
-pub loop-i-preserved : goal.loop-i-preserved
-loop-i-preserved c = (omega arith, rw length-set (omega arith))
