@@ -38,11 +38,18 @@ pub fn id_at(s: &[u8], at: usize) -> Id
     Id { hi, lo }
 }
 
-// Which of two ids comes first: the upper halves decide, and where they are equal the lower.
+// Which of two ids comes first: the upper halves decide, and where they are equal the lower. This is `cmp`, and stays by hand: `cmp`
+// works out both halves of both, which takes twice as long in a search and in the check of a batch.
 pub fn compare(a: Id, b: Id) -> Ordering
     ensures { result ≡ order (id_number a) (id_number b) }
 {
-    a.cmp(&b)
+    if a.hi < b.hi {
+        return Ordering::Less;
+    }
+    if b.hi < a.hi {
+        return Ordering::Greater;
+    }
+    a.lo.cmp(&b.lo)
 }
 
 // Does the id at i come before the one at j? Their upper halves are a and b; the lower ones are read only where these

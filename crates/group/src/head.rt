@@ -26,7 +26,10 @@ pub enum Head {
 pub fn head_of(g: &[u8]) -> Result<Head, Fault>
     ensures { result ≡ head_of g.now }
 {
-    let (degree, tag) = short_at(g, 0).map_err(|why| Flaw::Number { why }.at(0))?;
+    let (degree, tag) = match short_at(g, 0) {
+        Ok(read) => read,
+        Err(why) => return Err(Flaw::Number { why }.at(0)),
+    };
     if degree == 0 {
         return Err(Flaw::Degree.at(0));
     }

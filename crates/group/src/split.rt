@@ -7,7 +7,7 @@ ghost use Rattle.group.specs.Group.{dense_size, split_step, floor_of, walk_from,
 
 use super::fault::{Fault, Flaw};
 use super::{Group, Partner};
-use codes::ids::{Id, put_be64};
+use codes::ids::{Id, compare, put_be64};
 use codes::little::le;
 use codes::varint::short_at;
 
@@ -15,7 +15,11 @@ use codes::varint::short_at;
 pub fn split_step(g: &[u8], i: usize, hi: u64) -> Result<(Id, usize), Fault>
     ensures { result ≡ split_step g.now i hi }
 {
-    let (difference, next) = short_at(g, i).map_err(|why| Flaw::Number { why }.at(i))?;
+    // No `map_err`: its result would take the number apart into bytes.
+    let (difference, next) = match short_at(g, i) {
+        Ok(read) => read,
+        Err(why) => return Err(Flaw::Number { why }.at(i)),
+    };
     if u64::MAX - hi < difference {
         return Err(Flaw::Upper.at(i));
     }
@@ -28,11 +32,11 @@ pub fn split_step(g: &[u8], i: usize, hi: u64) -> Result<(Id, usize), Fault>
     Ok((Id { hi: upper, lo }, after))
 }
 
-// Is partner k above the last one? Partner 0 has none before it.
+// Is partner k above the last one? Partner 0 has none before it. By `compare`, not `<`: see there.
 fn in_order(k: u64, last: Id, id: Id) -> bool
     ensures { result ≡ leb (floor_of k last) (id_number id) }
 {
-    k == 0 || last < id
+    k == 0 || compare(last, id).is_lt()
 }
 
 // Checks the partners from `at` on.
