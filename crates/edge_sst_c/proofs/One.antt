@@ -33,6 +33,8 @@ use Rattle.edge_sst_c.specs.contracts.look.edge_sst_partners_with as partners_wi
 use Rattle.edge_sst_c.proofs.look.edge_sst_partners_with.Reads as partners_with_reads
 use Rattle.edge_sst_c.specs.contracts.desk.check_told as check_told
 use Rattle.edge_sst_c.proofs.desk.check_told.Reads as check_told_reads
+use Rattle.edge_sst_c.specs.contracts.desk.done_told as done_told
+use Rattle.edge_sst_c.proofs.desk.done_told.Reads as done_told_reads
 use Rattle.edge_sst_c.specs.contracts.running.edge_sst_running_new as running_new
 use Rattle.edge_sst_c.proofs.running.edge_sst_running_new.Reads as running_new_reads
 use Rattle.edge_sst_c.specs.contracts.running.edge_sst_running_feed as running_feed
@@ -85,6 +87,9 @@ edge_sst_sections_determined κs a pre r₁ r₂ w₁ w₂ p q = (p.0 ∙ sym q.
 
 pub check_told_determined : Determined check_told.ended check_told_reads.Pre check_told_reads.Post
 check_told_determined κs a pre r₁ r₂ w₁ w₂ p q = (p ∙ sym q, refl)
+
+pub done_told_determined : Determined done_told.ended done_told_reads.Pre done_told_reads.Post
+done_told_determined κs a pre r₁ r₂ w₁ w₂ p q = (p ∙ sym q, refl)
 
 pub edge_sst_running_new_determined : Determined running_new.ended running_new_reads.Pre running_new_reads.Post
 edge_sst_running_new_determined κs a pre r₁ r₂ w₁ w₂ p q = (p ∙ sym q, refl)

@@ -3,6 +3,8 @@ use mathlib.Core.Path.{refl, sym, ◌∙◌, ap}
 use mathlib.Core.List.{List}
 use Prim.Native.Nat.{ℕ}
 use Rattle.base.proofs.Determined.{Determined}
+use Rattle.group.specs.contracts.fault.Flaw.at as flaw_at
+use Rattle.group.proofs.fault.Flaw.at.Reads as flaw_at_reads
 use Rattle.group.specs.contracts.fault.refusal_of as refusal_of
 use Rattle.group.proofs.fault.refusal_of.Reads as refusal_of_reads
 use Rattle.group.specs.contracts.head.head_of as head_of
@@ -21,6 +23,9 @@ use Rattle.group.specs.contracts.check_group as check_group
 use Rattle.group.proofs.check_group.Reads as check_group_reads
 use Rattle.group.specs.contracts.fill_group as fill_group
 use Rattle.group.proofs.fill_group.Reads as fill_group_reads
+
+pub flaw_at_determined : Determined flaw_at.ended flaw_at_reads.Pre flaw_at_reads.Post
+flaw_at_determined κs a pre r₁ r₂ w₁ w₂ p q = (p ∙ sym q, refl)
 
 pub refusal_of_determined : Determined refusal_of.ended refusal_of_reads.Pre refusal_of_reads.Post
 refusal_of_determined κs a pre r₁ r₂ w₁ w₂ p q = (p ∙ sym q, refl)

@@ -45,7 +45,7 @@ module _ (s : List ℕ) (f : batch_check s ≡ (Ok tt)) where
         needed_done s f (few (heading_of s) (edges_of s) (omega arith) (omega arith) (omega arith)) p.bytes size
 
 module _ (s : List ℕ) (b : Bytes s) (keys : ℕ) (dead : Bool) (c : Clean s keys dead) where
-  in_groups : Grouped 0 (groups_of (edges_of s))
+  pub in_groups : Grouped 0 (groups_of (edges_of s))
   in_groups = grouped (edges_of s) (batch_ordered s b c.check)
 
   pub ready : Tallied (edges_of s) (record_count s) keys dead × Grouped 0 (groups_of (edges_of s))

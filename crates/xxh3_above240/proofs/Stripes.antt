@@ -23,6 +23,17 @@ module _ (q s : List ℕ) (to end : ℕ) where
   unfolding stripe_in
   past j x h = simp (le-leb end j h)
 
+  -- several stripes: the first and then the others, or none as they are not before the end
+
+  pub more : (j m : ℕ) (x : List ℕ) {y r : List ℕ} → y ≡ stripe_in q s to end j x → r ≡ stripes_in q s to end (suc j) m y → r ≡ stripes_in q s to end j (suc m) x
+  unfolding stripes_in
+  more j m x e f = f ∙ ap (λ (v : List ℕ). stripes_in q s to end (suc j) m v) e
+
+  pub none : (j m : ℕ) (x : List ℕ) → end ≤ j → x ≡ stripes_in q s to end j m x
+  unfolding stripes_in
+  none j zero x h = refl
+  none j (suc m) x h = more j m x (past j x h) (none (suc j) m x (omega arith))
+
 -- A run of n stripes, the first of them stripe k of all, and a block of it that ends u stripes after the run's start: at byte `to`. The run ends before
 -- stripe `end` of the block. b counts blocks from the one in which the run starts.
 pub record BlockAt (k n to end u b : ℕ) : Type 0 where

@@ -7,13 +7,23 @@ use Rattle.std.proofs.lemmas.List.Edits.{sets}
 use Rattle.std.proofs.Math.Seq.{length-sets}
 use Rattle.base.specs.Over.{over, sets_append, sets_over}
 use Rattle.refusal.specs.declared.Refusal.{Refusal}
+use Rattle.refusal.specs.Refusal.{number_of, place_of, beside_of}
 use Rattle.frame.specs.declared.Row.{Row}
 use Rattle.listing.specs.List.{listed_of, rows_written, row_is}
 use Rattle.listing.proofs.Laws.List.{plan_fits}
 use Rattle.listing.specs.Table.{rows_to}
-use Rattle.edge_sst_c.specs.SectionList.{numbers_of, numbered, in_numbers}
+use Rattle.edge_sst_c.specs.SectionList.{listed_told, numbers_of, numbered, in_numbers}
 
 -- ---- laws
+
+pub listed_done : (x : Result ℕ Refusal) (n : ℕ) → x ≡ Ok n → record { number = 0; place = 0; beside = 0; rows = n } ≡ listed_told x
+unfolding listed_told
+listed_done x n e = sym (ap listed_told e)
+
+pub listed_refused : (x : Result ℕ Refusal) (r : Refusal) {n p s : ℕ} → x ≡ Err r → n ≡ number_of r → p ≡ place_of r → s ≡ beside_of r
+    → record { number = n; place = p; beside = s; rows = 0 } ≡ listed_told x
+unfolding listed_told
+listed_refused x r e a b c = (λ i. record { number = a i; place = b i; beside = c i; rows = 0 }) ∙ sym (ap listed_told e)
 
 -- seven stores in a row
 pub seven : (o : List ℕ) (i a b c d e g h : ℕ)
