@@ -31,8 +31,8 @@ use Rattle.edge_sst_c.specs.Desk.{check_told}
 use Rattle.edge_sst_c.proofs.Laws.Desk.{check_told_fine, check_told_bad}
 use Rattle.refusal.specs.declared.Refusal.{Refusal}
 use Rattle.edge_sst_c.specs.Look.{record_lent}
-use Rattle.edge_sst_c.specs.Back.{opening_from, header_from, looked_from, check_from, done_from, summarised_from, listed_from, EndsTold}
-use Rattle.edge_sst_c.proofs.Laws.Back.{opening_back, header_back, header_bytes, looked_back, check_back, done_back, summary_back, summary_zeros, summary_ends, listed_back}
+use Rattle.edge_sst_c.specs.Back.{opening_from, header_from, looked_from, check_from, done_from, summarised_from, figures_from, figures_of, listed_from, EndsTold}
+use Rattle.edge_sst_c.proofs.Laws.Back.{opening_back, header_back, header_bytes, looked_back, check_back, done_back, summary_back, figures_back, summary_zeros, summary_ends, listed_back}
 use Rattle.edge_sst_c.specs.Refused.{Tells, Unfound}
 use Rattle.edge_sst_c.proofs.Laws.Refused.{opened_tells, header_tells, looked_tells, check_tells, summary_tells, done_tells, listed_tells, partners_stay, edges_stay, read_stays, write_stays, sections_stay, running_stays}
 use Rattle.base.proofs.Every.{Every}
@@ -105,8 +105,9 @@ pub read_out_says : Every c_read_out.ended c_read_out_reads.Post (λ κs a r e. 
 read_out_says κs a r e p = ap done_from p.0 ∙ done_back _
 
 -- the lent bytes are bytes: the keys are told as theirs
-pub summary_says : Every c_summary.ended c_summary_reads.Post (λ κs a r e. Bytes a.0.now → summarised_from r ≡ summarised_of a.0.now)
-summary_says κs a r e p by = ap summarised_from p ∙ summary_back a.0.now by
+pub summary_says : Every c_summary.ended c_summary_reads.Post
+    (λ κs a r e. Bytes a.0.now → (summarised_from r ≡ summarised_of a.0.now) × (figures_from r ≡ figures_of (summarised_of a.0.now)))
+summary_says κs a r e p by = (ap summarised_from p ∙ summary_back a.0.now by, ap figures_from p ∙ figures_back a.0.now by)
 
 pub needed_says : Every c_needed.ended c_needed_reads.Post (λ κs a r e. done_from r ≡ needed_of a.0.now)
 needed_says κs a r e p = ap done_from p ∙ done_back _

@@ -9,6 +9,7 @@ use Rattle.frame.specs.declared.Opened.{Opened}
 use Rattle.lookup.specs.declared.Looked.{Looked}
 use Rattle.summary.specs.declared.figures.Extremes.{Extremes}
 use Rattle.summary.specs.declared.figures.Summary.{Summary}
+use Rattle.summary.specs.Summary.{nothing}
 use Rattle.edge_sst_c.specs.declared.EdgeSstOpened.{EdgeSstOpened}
 use Rattle.edge_sst_c.specs.declared.header.EdgeSstHeader.{EdgeSstHeader}
 use Rattle.edge_sst_c.specs.declared.look.EdgeSstLooked.{EdgeSstLooked}
@@ -59,15 +60,24 @@ extremes_from x =
     (Some (record { smallestkey = halves_at x.smallestkey 0; largestkey = halves_at x.largestkey 0; smallestlog = x.smallestlog; largestlog = x.largestlog }))
     None
 
-abbrev pub summarised_from : EdgeSstSummary → Result Summary Refusal
-summarised_from r = unless Err r.number r.place r.beside (Ok (record {
+-- the figures, whatever the number is
+abbrev pub figures_from : EdgeSstSummary → Summary
+figures_from r = record {
   keycount = r.keycount;
   edgecount = r.edgecount;
   tombstones = r.tombstones;
   largestdegree = r.largestdegree;
   extremes = extremes_from (record { there = r.extremes; smallestkey = r.smallestkey; largestkey = r.largestkey; smallestlog = r.smallestlog; largestlog = r.largestlog });
   buckets = r.buckets;
-}))
+}
+
+abbrev pub summarised_from : EdgeSstSummary → Result Summary Refusal
+summarised_from r = unless Err r.number r.place r.beside (Ok (figures_from r))
+
+-- the figures of an answer: beside a refusal those of no edges
+abbrev pub figures_of : Result Summary Refusal → Summary
+figures_of (Ok s) = s
+figures_of (Err r) = nothing
 
 -- `extremes` is 1 exactly where there are edges, and without edges all five fields are 0
 pub record EndsTold (t : EdgeSstSummary) : Type 0 where

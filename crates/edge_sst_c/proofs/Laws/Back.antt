@@ -39,7 +39,7 @@ use Rattle.edge_sst_c.proofs.Laws.Look.{byte_small}
 use Rattle.edge_sst_c.specs.Desk.{check_told, done_told}
 use Rattle.edge_sst_c.specs.SectionList.{listed_told}
 use Rattle.edge_sst_c.proofs.Laws.Refused.{opened_zero}
-use Rattle.edge_sst_c.specs.Back.{unless, looked_from, check_from, done_from, listed_from, header_from, extremes_from, summarised_from, EndsTold, fields_of, none, opening_from}
+use Rattle.edge_sst_c.specs.Back.{unless, looked_from, check_from, done_from, listed_from, header_from, extremes_from, summarised_from, figures_from, figures_of, EndsTold, fields_of, none, opening_from}
 use Rattle.frame.specs.Opening.{Opening}
 use Rattle.refusal.specs.Check.{Check}
 use Rattle.frame.specs.declared.ends.Header.{Header}
@@ -145,6 +145,22 @@ summary_back f by = go (summarised_of f) refl
       buckets = s.buckets;
     })
     go (Err r) e = unless_told Err (Ok nothing) r
+
+-- the figures beside a refusal too
+pub figures_back : (f : List ℕ) → Bytes f → figures_from (summary_told (summarised_of f)) ≡ figures_of (summarised_of f)
+unfolding summary_told check_told
+figures_back f by = go (summarised_of f) refl
+  where
+    go : (x : Result Summary Refusal) → summarised_of f ≡ x → figures_from (summary_told x) ≡ figures_of x
+    go (Ok s) e = λ i. record {
+      keycount = s.keycount;
+      edgecount = s.edgecount;
+      tombstones = s.tombstones;
+      largestdegree = s.largestdegree;
+      extremes = extremes_back s.extremes (summary_fits f by s e) i;
+      buckets = s.buckets;
+    }
+    go (Err r) e = refl
 
 -- beside a refusal all is 0
 pub summary_zeros : (f : List ℕ) (r : Refusal) → full_check f ≡ Err r
