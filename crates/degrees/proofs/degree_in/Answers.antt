@@ -7,10 +7,12 @@ use Rattle.std.proofs.Math.Decide.{dec_le}
 use Rattle.std.specs.Prelude.{Result, Ok, Err, Some, None}
 use Rattle.std.specs.Result.{result_ok}
 use Rattle.std.proofs.Common.{inl, inr}
+use Rattle.base.specs.Over.{part}
 use Rattle.degrees.specs.Degrees.{degree_in}
 use Rattle.codes.specs.Varint.{varint_at}
 use Rattle.degrees.specs.Degrees.Laws.{in_falls, in_past, in_zero, in_is, in_unread}
 use native.Mathlib.Omega.{arith}
+use borrow.Author.Rules.{rules}
 use Rattle.degrees.proofs.degree_in.Goals as goal
 
 -- what `ok` leaves of a result
@@ -38,18 +40,21 @@ returns-in_err-group c = let a = c.args in
 pub returns-in_err-degree : goal.returns-in_err-degree
 returns-in_err-degree c = let a = c.args in
     let h = c.in_ok-group.ensures.lookup.0 in
+    let read : c.varint_at.result ≡ varint_at (part a.partners.now a.a a.e) 0 = c.varint_at.ensures ∙ ap (λ (s : List ℕ). varint_at s 0) (search (rules, h.2)) in
     let (why, e) = ok_none _ c.in_err-degree.ensures.value in
     c.from_residual-in_err-degree.ensures
-    ∙ sym (in_unread a.partners.now a.a a.e h.0 h.1 why (ap (λ (s : List ℕ). varint_at s 0) (sym h.2) ∙ sym c.varint_at.ensures ∙ e))
+    ∙ sym (in_unread a.partners.now a.a a.e h.0 h.1 why (sym read ∙ e))
 
 pub returns-then-degree-eq0 : goal.returns-then-degree-eq0
 returns-then-degree-eq0 c = let a = c.args in
     let h = c.in_ok-group.ensures.lookup.0 in
+    let read : c.varint_at.result ≡ varint_at (part a.partners.now a.a a.e) 0 = c.varint_at.ensures ∙ ap (λ (s : List ℕ). varint_at s 0) (search (rules, h.2)) in
     let e = ok_some _ _ c.in_ok-degree.ensures.value in
-    sym (in_zero a.partners.now a.a a.e h.0 h.1 _ _ (ap (λ (s : List ℕ). varint_at s 0) (sym h.2) ∙ sym c.varint_at.ensures ∙ e) c.if-degree-eq0.true)
+    sym (in_zero a.partners.now a.a a.e h.0 h.1 _ _ (sym read ∙ e) c.if-degree-eq0.true)
 
 pub returns : goal.returns
 returns c = let a = c.args in
     let h = c.in_ok-group.ensures.lookup.0 in
+    let read : c.varint_at.result ≡ varint_at (part a.partners.now a.a a.e) 0 = c.varint_at.ensures ∙ ap (λ (s : List ℕ). varint_at s 0) (search (rules, h.2)) in
     let e = ok_some _ _ c.in_ok-degree.ensures.value in
-    sym (in_is a.partners.now a.a a.e h.0 h.1 _ _ (ap (λ (s : List ℕ). varint_at s 0) (sym h.2) ∙ sym c.varint_at.ensures ∙ e) c.if-degree-eq0.false)
+    sym (in_is a.partners.now a.a a.e h.0 h.1 _ _ (sym read ∙ e) c.if-degree-eq0.false)

@@ -1,3 +1,4 @@
+use Rattle.std.proofs.Common.{arith}
 use Rattle.xxh3_spec.specs.Xxh3.{secret}
 use Rattle.xxh3_above240.proofs.Stripes.{joins, skips, past}
 use Rattle.xxh3_above240.proofs.block.stripe.Goals as goal
@@ -9,4 +10,4 @@ pub returns-then-to : goal.returns-then-to
 returns-then-to g c = let a = c.args in skips secret a.s.now a.to a.end g.row.J a.a c.if-end.false c.if-to.true
 
 pub returns : goal.returns
-returns g c = let a = c.args in joins secret a.s.now a.to a.end g.row.J a.a c.if-end.false c.if-to.false c.accumulate.ensures
+returns g c = let a = c.args in joins secret a.s.now a.to a.end g.row.J a.a c.if-end.false c.if-to.false (grind arith)
