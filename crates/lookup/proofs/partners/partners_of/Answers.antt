@@ -31,8 +31,8 @@ returns-then-room-degree c = let a = c.args in
     let i = c.in-At.index in
     let m = c.in-At.compared in
     let at = sym c.locate.ensures ∙ c.in-At.is in
-    let g = sym c.group_of.ensures ∙ c.in_ok-degree-in-At.was in
-    alone_refused _ _ a.out.now (look_at false (alone n) f a.o key i m at ∙ partners_short f a.o i _ g n m (omega arith))
+    let few = sym c.group_of.ensures ∙ c.in_ok-degree-in-At.was in
+    alone_refused _ _ a.out.now (look_at false (alone n) f a.o key i m at ∙ partners_short f a.o i _ few n m (omega arith))
 
 pub give_partners-requires : goal.give_partners-requires
 give_partners-requires c = let a = c.args in
@@ -42,8 +42,8 @@ give_partners-requires c = let a = c.args in
     let i = c.in-At.index in
     let m = c.in-At.compared in
     let at = sym c.locate.ensures ∙ c.in-At.is in
-    let g = sym c.group_of.ensures ∙ c.in_ok-degree-in-At.was in
-    (c.requires, (find_sound (bytes_at f a.o.keys) a.o.keycount key i m at).0, seen_fills (bytes_at f a.o.partners) (begins f a.o i) (ends f a.o i) i _ g n (omega arith))
+    let good = sym c.group_of.ensures ∙ c.in_ok-degree-in-At.was in
+    (c.requires, (find_sound (bytes_at f a.o.keys) a.o.keycount key i m at).0, seen_fills (bytes_at f a.o.partners) (begins f a.o i) (ends f a.o i) i _ good n (omega arith))
 
 pub returns-in-Absent : goal.returns-in-Absent
 returns-in-Absent c = let a = c.args in
