@@ -7,18 +7,23 @@ use super::rising::rising;
 use codes::little::le;
 use refusal::Refusal;
 
-// Offset i, of w bytes. Each width has its own loads.
+// Offset i, of w bytes. Each width has its own loads, and by these tests a loop over offsets becomes four, one for each width, which by
+// a `match` it does not.
 pub fn offset_at(offs: &[u8], w: usize, i: usize) -> u64
     requires { (3 ≤ w) × (w ≤ 6) × (i ≤ kind.most_keys) × (i * w + w ≤ length offs.now) }
     ensures { (result ≡ offset_at offs.now w i) × (result < 2 ^ 48) }
 {
     let at = i * w;
-    match w {
-        3 => le::<3>(offs, at),
-        4 => le::<4>(offs, at),
-        5 => le::<5>(offs, at),
-        _ => le::<6>(offs, at),
+    if w <= 3 {
+        return le::<3>(offs, at);
     }
+    if w <= 4 {
+        return le::<4>(offs, at);
+    }
+    if w <= 5 {
+        return le::<5>(offs, at);
+    }
+    le::<6>(offs, at)
 }
 
 // Rule 14 of n + 1 offsets: the first is 0, each is above the one before, the last is len.
