@@ -39,7 +39,7 @@ pub fn id_at(s: &[u8], at: usize) -> Id
 }
 
 // Which of two ids comes first: the upper halves decide, and where they are equal the lower. This is `cmp`, and stays by hand: `cmp`
-// works out both halves of both, which takes twice as long in a search and in the check of a batch.
+// works out both halves of both, which takes twice the instructions in a search and in the check of a batch.
 pub fn compare(a: Id, b: Id) -> Ordering
     ensures { result ≡ order (id_number a) (id_number b) }
 {
